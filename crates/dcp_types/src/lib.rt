@@ -1,0 +1,24 @@
+//! The words of the protocol: data types, states, codes, addresses and limits, and the bytes of a
+//! value. Every other crate stands on this one.
+//!
+//! What it promises: codes and names are one to one, and the bytes of a value are its little-endian
+//! two's complement, written and read back exactly. No call takes memory.
+#![tactic(auto)]
+
+mod addresses;
+mod data_types;
+mod error_codes;
+mod fault_codes;
+mod limits;
+mod memory;
+mod protocols;
+mod states;
+
+pub use addresses::Address;
+pub use data_types::{DataType, fits};
+pub use error_codes::ErrorCode;
+pub use fault_codes::FaultCode;
+pub use limits::Limits;
+pub use memory::OutOfMemory;
+pub use protocols::Protocol;
+pub use states::State;

@@ -1,0 +1,23 @@
+//! The transports.
+
+ghost use Rattle.std.specs.Prelude.{◌≡◌};
+ghost use Rattle.dcp_types.specs.Codes.{protocol_code};
+
+/// The transport that all ends of a scenario use.
+#[derive(Clone, Copy, Debug, PartialEq, Eq)]
+pub enum Protocol {
+    Udp,
+    Tcp,
+}
+
+impl Protocol {
+    /// The code in a network information message: 0 for UDP over IPv4, 4 for TCP over IPv4.
+    pub fn code(self) -> u8
+        ensures { result ≡ protocol_code self }
+    {
+        match self {
+            Protocol::Udp => 0,
+            Protocol::Tcp => 4,
+        }
+    }
+}
