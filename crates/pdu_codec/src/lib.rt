@@ -9,6 +9,7 @@ mod access;
 mod answers;
 mod configuration;
 mod decoding;
+mod encoding;
 mod faults;
 mod leaves;
 mod notices;
@@ -17,4 +18,5 @@ mod state_requests;
 mod walker;
 
 pub use decoding::decode;
+pub use encoding::encode;
 pub use faults::{DecodeFault, DecodeWhy};
