@@ -11,6 +11,7 @@ mod configuration;
 mod decoding;
 mod encoding;
 mod faults;
+mod laws;
 mod leaves;
 mod notices;
 mod questions;
@@ -20,3 +21,7 @@ mod walker;
 pub use decoding::decode;
 pub use encoding::encode;
 pub use faults::{DecodeFault, DecodeWhy};
+pub use laws::{spellings_are_one_to_one, written_and_read};
+
+#[cfg(test)]
+mod tests;
