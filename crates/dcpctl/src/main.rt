@@ -10,6 +10,8 @@ mod inputs;
 mod outputs;
 mod refusals;
 mod statuses;
+#[cfg(test)]
+mod tests;
 mod top_calls;
 mod word_lists;
 
