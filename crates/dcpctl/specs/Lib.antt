@@ -4,5 +4,7 @@ pub mod Inputs
 pub mod Outputs
 pub mod Refusals
 pub mod Describing
+pub mod Waiting
+pub mod Spools
 pub mod Says
 pub mod Answers

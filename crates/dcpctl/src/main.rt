@@ -9,6 +9,7 @@ mod describing;
 mod inputs;
 mod outputs;
 mod refusals;
+mod spools;
 mod statuses;
 #[cfg(test)]
 mod tests;
