@@ -6,3 +6,4 @@ pub mod Runs
 pub mod PlainWords
 pub mod NumberWords
 pub mod IdentityWords
+pub mod IdentityRange
