@@ -5,10 +5,20 @@
 //! answers. The objects in memory follow the lists that they were made with, call by call.
 #![tactic(auto)]
 
+mod memory_sinks;
+mod memory_sources;
 mod net_plans;
 mod reads;
+mod std_sinks;
+mod std_sources;
+#[cfg(test)]
+mod tests;
 mod writes;
 
+pub use memory_sinks::MemorySink;
+pub use memory_sources::MemorySource;
 pub use net_plans::{Chaos, NetLine, NetLines, NetPlan};
 pub use reads::{Read, Source};
+pub use std_sinks::StdSink;
+pub use std_sources::StdSource;
 pub use writes::{Sink, Written};
