@@ -5,6 +5,7 @@ ghost use Rattle.std.specs.Str.Lines.{lines};
 ghost use Rattle.text_lines.specs.Reasons.{GivesText};
 ghost use Rattle.text_lines.specs.Runs.{run_of};
 ghost use Rattle.scenario.specs.Machine.{start, take_line, finished};
+ghost use Rattle.scenario.specs.Sound.{IsScenario};
 
 use std::alloc::Global;
 
@@ -13,9 +14,8 @@ use text_lines::{LineRefused, TextFault, TextRefused, lines};
 use crate::readers::Reader;
 use crate::scenarios::Scenario;
 
-/// The scenario that a text is, or its first fault.
-pub fn read_scenario(alloc: Global, text: &[u8]) -> Result<Scenario, TextRefused>
-    ensures exact { GivesText result (run_of take_line finished 1 start (lines text.now)) }
+fn read(alloc: Global, text: &[u8]) -> Result<Scenario, TextRefused>
+    ensures { GivesText result (run_of take_line finished 1 start (lines text.now)) }
 {
     let Ok(lines) = lines(alloc, text) else {
         return Err(TextRefused::OutOfMemory);
@@ -36,4 +36,14 @@ pub fn read_scenario(alloc: Global, text: &[u8]) -> Result<Scenario, TextRefused
         Err(LineRefused::Why(why)) => Err(TextRefused::Fault(TextFault { line: number, why })),
         Err(LineRefused::OutOfMemory) => Err(TextRefused::OutOfMemory),
     }
+}
+
+/// The scenario that a text is, or its first fault.
+pub fn read_scenario(alloc: Global, text: &[u8]) -> Result<Scenario, TextRefused>
+    ensures exact { GivesText result (run_of take_line finished 1 start (lines text.now)) }
+
+    // What was read is in range: each slave, port, setting and interval that it names is there.
+    ensures range { IfOk result (λ s. IsScenario s) }
+{
+    read(alloc, text)
 }
