@@ -18,3 +18,6 @@ mod texts;
 pub use lists::{Intervals, Reruns, Settings, Slaves, Wires};
 pub use scenarios::{Every, Rerun, Scenario, Setting, Wire};
 pub use texts::read_scenario;
+
+#[cfg(test)]
+mod tests;

@@ -7,12 +7,10 @@ ghost use Rattle.text_lines.specs.Runs.{run_of};
 ghost use Rattle.scenario.specs.Machine.{start, take_line, finished};
 ghost use Rattle.scenario.specs.Sound.{IsScenario};
 
-use std::alloc::Global;
-
-use text_lines::{LineRefused, TextFault, TextRefused, lines};
-
 use crate::readers::Reader;
 use crate::scenarios::Scenario;
+use std::alloc::Global;
+use text_lines::{LineRefused, TextFault, TextRefused, lines};
 
 fn read(alloc: Global, text: &[u8]) -> Result<Scenario, TextRefused>
     ensures { GivesText result (run_of take_line finished 1 start (lines text.now)) }
