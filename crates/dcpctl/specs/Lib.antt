@@ -6,5 +6,6 @@ pub mod Refusals
 pub mod Describing
 pub mod Waiting
 pub mod Spools
+pub mod Rows
 pub mod Says
 pub mod Answers

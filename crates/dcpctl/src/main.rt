@@ -9,6 +9,7 @@ mod describing;
 mod inputs;
 mod outputs;
 mod refusals;
+mod row_texts;
 mod spools;
 mod statuses;
 #[cfg(test)]
