@@ -1,0 +1,4 @@
+pub mod Pieces
+pub mod Outcomes
+pub mod Spooling
+pub mod Rows

@@ -1,0 +1,11 @@
+pub mod Statuses
+pub mod Commands
+pub mod Inputs
+pub mod Outputs
+pub mod Refusals
+pub mod Describing
+pub mod Waiting
+pub mod Spools
+pub mod Rows
+pub mod Says
+pub mod Answers

@@ -1,0 +1,160 @@
+//! The worked rows of each command, over objects in memory.
+
+use crate::statuses::Status;
+use crate::top_calls::run_words;
+use crate::word_lists::Words;
+use dcp_io::{MemorySink, MemorySource};
+use std::alloc::Global;
+use std::test::Fail;
+
+/// One call of the program: its words, separated by spaces, and its objects.
+#[derive(Clone, Copy)]
+struct Call<'a> {
+    words: &'a str,
+    input: &'a [u8],
+    failing_reads: &'a [u64],
+    failing_writes: &'a [u64],
+    /// How many bytes the sink takes.
+    room: usize,
+}
+
+/// A call whose objects do not fail.
+fn steady<'a>(words: &'a str, input: &'a [u8]) -> Call<'a> {
+    Call {
+        words,
+        input,
+        failing_reads: &[],
+        failing_writes: &[],
+        room: 4_096,
+    }
+}
+
+impl Call<'_> {
+    /// The status, and what was written. Each read gives at most two bytes.
+    fn run(&self, alloc: Global) -> Result<(Status, Vec<u8>), Fail> {
+        let mut words = Words::new(alloc);
+        for word in self.words.split_whitespace() {
+            words.push(alloc, word)?;
+        }
+        let mut pieces = Vec::new(alloc);
+        for _ in 0..1_000 {
+            pieces.push(2)?;
+        }
+        let failing = self.failing_reads.to_vec(alloc)?;
+        let mut source = MemorySource::new(self.input.to_vec(alloc)?, pieces, failing);
+        let mut room = Vec::new(alloc);
+        for _ in 0..self.room {
+            room.push(0)?;
+        }
+        let mut out = MemorySink::new(room, self.failing_writes.to_vec(alloc)?);
+        let status = run_words(alloc, &words, &mut source, &mut out);
+        Ok((status, out.written().to_vec(alloc)?))
+    }
+}
+
+const COUNTER: &[u8] = b"slave count
+uuid 00000000-0000-0000-0000-000000000001
+address 127.0.0.1 9001
+model counter 1000
+output 1 uint32
+";
+
+#[test]
+fn words_that_name_no_command_are_usage(rt: HostRuntime) -> Result<(), Fail> {
+    for words in [
+        "",
+        "run now",
+        "--help",
+        "describe describe",
+        "Describe",
+        "describes",
+        "-",
+    ] {
+        let (status, written) = steady(words, COUNTER).run(rt.alloc())?;
+        assert_eq!(rt; status, Status::Usage, "at {words}");
+        assert!(rt; written.as_slice() == b"usage\n".as_slice());
+    }
+    let (status, written) = Call {
+        room: 3,
+        ..steady("", b"")
+    }
+    .run(rt.alloc())?;
+    assert_eq!(rt; status, Status::Usage);
+    assert!(rt; written.as_slice() == b"usa".as_slice());
+    Ok(())
+}
+
+#[test]
+fn describe_writes_the_canonical_text_or_the_first_refused_line(
+    rt: HostRuntime,
+) -> Result<(), Fail> {
+    let rows = [
+        (
+            COUNTER,
+            Status::Done,
+            b"slave count
+uuid 00000000-0000-0000-0000-000000000001
+address 127.0.0.1 9001
+model counter 1000
+busy 0
+heartbeat 0
+resolution 1 1000
+output 1 uint32
+"
+                .as_slice(),
+        ),
+        (
+            b"".as_slice(),
+            Status::BadInput,
+            b"input: line 1 MISSING\n".as_slice(),
+        ),
+        (
+            b"slave 7\n".as_slice(),
+            Status::BadInput,
+            b"input: line 1 BAD_NAME\n".as_slice(),
+        ),
+    ];
+    for (input, status, out) in rows {
+        let (got, written) = steady("describe", input).run(rt.alloc())?;
+        assert_eq!(rt; got, status);
+        assert!(rt; written.as_slice() == out, "{written:?}");
+    }
+    Ok(())
+}
+
+#[test]
+fn faults_of_the_objects_decide_the_status(rt: HostRuntime) -> Result<(), Fail> {
+    let second_read = Call {
+        failing_reads: &[2],
+        ..steady("describe", COUNTER)
+    };
+    let second_write = Call {
+        failing_writes: &[1],
+        ..steady("describe", COUNTER)
+    };
+    let little_room = Call {
+        room: 5,
+        ..steady("describe", COUNTER)
+    };
+    let no_room = Call {
+        room: 0,
+        ..steady("describe", COUNTER)
+    };
+    let refused = Call {
+        room: 5,
+        ..steady("describe", b"")
+    };
+    let rows = [
+        (second_read, Status::ReadFault, b"".as_slice()),
+        (second_write, Status::WriteFault, b"".as_slice()),
+        (little_room, Status::WriteFault, b"slave".as_slice()),
+        (no_room, Status::WriteFault, b"".as_slice()),
+        (refused, Status::BadInput, b"input".as_slice()),
+    ];
+    for (call, status, out) in rows {
+        let (got, written) = call.run(rt.alloc())?;
+        assert_eq!(rt; got, status);
+        assert!(rt; written.as_slice() == out, "{written:?}");
+    }
+    Ok(())
+}

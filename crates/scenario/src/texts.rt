@@ -1,0 +1,47 @@
+//! Reads a scenario.
+
+ghost use Rattle.std.specs.Prelude.{IfOk};
+ghost use Rattle.std.specs.Str.Lines.{lines};
+ghost use Rattle.text_lines.specs.Reasons.{GivesText};
+ghost use Rattle.text_lines.specs.Runs.{run_of};
+ghost use Rattle.scenario.specs.Machine.{start, take_line, finished};
+ghost use Rattle.scenario.specs.Sound.{IsScenario};
+
+use crate::readers::Reader;
+use crate::scenarios::Scenario;
+use std::alloc::Global;
+use text_lines::{LineRefused, TextFault, TextRefused, lines};
+
+fn read(alloc: Global, text: &[u8]) -> Result<Scenario, TextRefused>
+    ensures { GivesText result (run_of take_line finished 1 start (lines text.now)) }
+{
+    let Ok(lines) = lines(alloc, text) else {
+        return Err(TextRefused::OutOfMemory);
+    };
+    let mut reader = Reader::new(alloc);
+    let mut number: u32 = 1;
+    for line in &lines {
+        match reader.take_line(alloc, line) {
+            Ok(()) => number = number.saturating_add(1),
+            Err(LineRefused::Why(why)) => {
+                return Err(TextRefused::Fault(TextFault { line: number, why }));
+            }
+            Err(LineRefused::OutOfMemory) => return Err(TextRefused::OutOfMemory),
+        }
+    }
+    match reader.finish(alloc) {
+        Ok(scenario) => Ok(scenario),
+        Err(LineRefused::Why(why)) => Err(TextRefused::Fault(TextFault { line: number, why })),
+        Err(LineRefused::OutOfMemory) => Err(TextRefused::OutOfMemory),
+    }
+}
+
+/// The scenario that a text is, or its first fault.
+pub fn read_scenario(alloc: Global, text: &[u8]) -> Result<Scenario, TextRefused>
+    ensures exact { GivesText result (run_of take_line finished 1 start (lines text.now)) }
+
+    // What was read is in range: each slave, port, setting and interval that it names is there.
+    ensures range { IfOk result (λ s. IsScenario s) }
+{
+    read(alloc, text)
+}
