@@ -5,3 +5,4 @@ pub mod Checks
 pub mod Limits
 pub mod Machine
 pub mod Sound
+pub mod Judging

@@ -1,10 +1,11 @@
 //! Reads a scenario.
 
-ghost use Rattle.std.specs.Prelude.{IfOk};
+ghost use Rattle.std.specs.Prelude.{IfErr, IfOk};
 ghost use Rattle.std.specs.Str.Lines.{lines};
 ghost use Rattle.text_lines.specs.Reasons.{GivesText};
 ghost use Rattle.text_lines.specs.Runs.{run_of};
 ghost use Rattle.scenario.specs.Machine.{start, take_line, finished};
+ghost use Rattle.scenario.specs.Judging.{IsFirstBad};
 ghost use Rattle.scenario.specs.Sound.{IsScenario};
 
 use crate::readers::Reader;
@@ -39,6 +40,9 @@ fn read(alloc: Global, text: &[u8]) -> Result<Scenario, TextRefused>
 /// The scenario that a text is, or its first fault.
 pub fn read_scenario(alloc: Global, text: &[u8]) -> Result<Scenario, TextRefused>
     ensures exact { GivesText result (run_of take_line finished 1 start (lines text.now)) }
+
+    // The fault is the first line that is refused.
+    ensures fault { IfErr result (λ e. IsFirstBad text.now e) }
 
     // What was read is in range: each slave, port, setting and interval that it names is there.
     ensures range { IfOk result (λ s. IsScenario s) }
