@@ -21,12 +21,12 @@ use Rattle.scenario.specs.declared.readers.Reader.{Reader}
 use Rattle.scenario.specs.declared.scenarios.Scenario.{Scenario}
 
 -- what the judging says after the lines that are done
-at_next : (done : List (List ℕ)) (line : List ℕ) (rest : List (List ℕ)) → why_at (done ++ line ∷ rest) (length done + 1) ≡ why_line done line
+pub at_next : (done : List (List ℕ)) (line : List ℕ) (rest : List (List ℕ)) → why_at (done ++ line ∷ rest) (length done + 1) ≡ why_line done line
 at_next done line rest =
     let before : length done + 1 - 1 ≡ length done = omega arith in
     rw (before, slice_get-at done line rest, take_at done (line ∷ rest) (length done) refl) refl
 
-at_end : (done : List (List ℕ)) → why_at done (length done + 1) ≡ why_end_of done
+pub at_end : (done : List (List ℕ)) → why_at done (length done + 1) ≡ why_end_of done
 at_end done =
     let before : length done + 1 - 1 ≡ length done = omega arith in
     rw (before, slice_get_past done (length done) (omega arith), take-length done) refl

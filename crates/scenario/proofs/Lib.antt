@@ -7,3 +7,4 @@ pub mod Groups
 pub mod Stands
 pub mod Moves
 pub mod Judged
+pub mod Answered

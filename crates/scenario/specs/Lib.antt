@@ -6,3 +6,4 @@ pub mod Limits
 pub mod Machine
 pub mod Sound
 pub mod Judging
+pub mod Reads
