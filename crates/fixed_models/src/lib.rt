@@ -1,0 +1,11 @@
+//! The built-in models of a slave: fourteen kinds, each with its parameters, its state, and a step
+//! that takes the inputs to the next outputs.
+//!
+//! What it promises: a step is that of the kind's row in the table of models, repeated for each
+//! micro step, and a fault leaves the model as it was before the call. Only `Model::new` takes
+//! memory.
+#![tactic(auto)]
+
+mod kinds;
+
+pub use kinds::{Kind, has_ports, takes};
