@@ -9,6 +9,7 @@ mod answers;
 mod configuration;
 mod field_names;
 mod fields;
+mod listed_rows;
 mod messages;
 mod notices;
 mod questions;
@@ -21,6 +22,7 @@ pub use configuration::{
     CFG_TIME_RES, CFG_TUNABLE_PARAMETER,
 };
 pub use fields::{Field, FieldKind, Layout};
+pub use listed_rows::{ListedRow, listed_row};
 pub use messages::{Cfg, Inf, NetInfo, Pdu, Rsp, Stc};
 pub use notices::{DAT_INPUT_OUTPUT, DAT_PARAMETER, NTF_LOG, NTF_STATE_CHANGED};
 pub use questions::{INF_ERROR, INF_LOG, INF_STATE};
