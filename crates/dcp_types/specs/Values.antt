@@ -1,5 +1,5 @@
 -- The range of a type, and the bytes of a value.
-use Rattle.std.specs.Prelude.{ℕ, zero, suc, ◌-◌, ◌+◌, ◌/◌, ◌%◌, ◌^◌, Bool, ◌&&◌, List, [], ◌∷◌, ℤ, pos, negsuc, int_le}
+use Rattle.std.specs.Prelude.{◌≡◌, ℕ, zero, suc, ◌-◌, ◌+◌, ◌/◌, ◌%◌, ◌^◌, Bool, true, false, IsTrue, ◌&&◌, List, [], ◌∷◌, ℤ, pos, negsuc, int_le}
 use Rattle.dcp_types.specs.declared.data_types.DataType.{DataType}
 use Rattle.dcp_types.specs.declared.data_types.DataType.TheVariants.{U8, U16, U32, U64, I8, I16, I32, I64}
 
@@ -34,6 +34,16 @@ greatest I16 = pos (2 ^ 15 - 1)
 greatest I32 = pos (2 ^ 31 - 1)
 greatest I64 = pos (2 ^ 63 - 1)
 
+abbrev pub is_signed : DataType → Bool
+is_signed U8 = false
+is_signed U16 = false
+is_signed U32 = false
+is_signed U64 = false
+is_signed I8 = true
+is_signed I16 = true
+is_signed I32 = true
+is_signed I64 = true
+
 -- the value lies in the type's range
 abbrev pub fits : DataType → ℤ → Bool
 fits kind z = int_le (least kind) z && int_le z (greatest kind)
@@ -51,3 +61,7 @@ residue w (negsuc n) = 256 ^ w - (n + 1)
 -- the bytes of a value: two's complement, the lowest byte first
 abbrev pub value_bytes : DataType → ℤ → List ℕ
 value_bytes kind z = digits (width kind) (residue (width kind) z)
+
+-- no two values of a type have the same bytes
+abbrev pub OneToOne : Type 0
+OneToOne = (kind : DataType) (a b : ℤ) → IsTrue (fits kind a) → IsTrue (fits kind b) → value_bytes kind a ≡ value_bytes kind b → a ≡ b

@@ -13,6 +13,7 @@ mod limits;
 mod memory;
 mod protocols;
 mod states;
+mod values;
 
 pub use addresses::Address;
 pub use data_types::{DataType, fits};
@@ -22,3 +23,7 @@ pub use limits::Limits;
 pub use memory::OutOfMemory;
 pub use protocols::Protocol;
 pub use states::State;
+pub use values::{get_value, put_value, value_bytes_are_one_to_one};
+
+#[cfg(test)]
+mod tests;

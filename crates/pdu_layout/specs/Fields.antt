@@ -1,5 +1,5 @@
 -- What a field of each kind holds, and the bytes of its value.
-use Rattle.std.specs.Prelude.{◌≡◌, ℕ, zero, suc, ◌-◌, ◌^◌, ◌<◌, ℤ, Bool, true, List, [], ◌∷◌, ◌++◌, length, reverse, slice_index, Option, Some, None, nat_lt, if◌then◌else◌}
+use Rattle.std.specs.Prelude.{ℕ, zero, suc, ◌-◌, ◌^◌, ◌<◌, ℤ, IsTrue, List, [], ◌∷◌, ◌++◌, length, reverse, slice_index, Option, Some, None, nat_lt, if◌then◌else◌}
 use Rattle.dcp_types.specs.declared.data_types.DataType.{DataType}
 use Rattle.dcp_types.specs.declared.data_types.DataType.TheVariants as types
 use Rattle.dcp_types.specs.Values as values
@@ -55,8 +55,8 @@ limit Rest = 0
 -- the value fits the field, after a type field of code t
 abbrev pub Fits : FieldKind → ℕ → FieldValue → Type 0
 Fits kind t (Number n) = n < limit kind
-Fits I64 t (Signed z) = fits types.I64 z ≡ true
-Fits Value t (Signed z) = fits (type_from t) z ≡ true
+Fits I64 t (Signed z) = IsTrue (fits types.I64 z)
+Fits Value t (Signed z) = IsTrue (fits (type_from t) z)
 Fits Rest t (Bytes bytes) = (i : ℕ) → slice_index bytes i < 256
 Fits _ t _ = ⊥
 
