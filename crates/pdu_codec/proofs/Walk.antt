@@ -27,7 +27,7 @@ rest_is_last (Rest ∷ []) = true
 rest_is_last (Rest ∷ k ∷ ks) = false
 rest_is_last (k ∷ ks) = rest_is_last ks
 
-abbrev is_row : List FieldKind → Bool
+abbrev pub is_row : List FieldKind → Bool
 is_row ks = rest_is_last ks && ltb (length ks) 60
 
 abbrev kinds_in_row : Row → List FieldKind
@@ -54,7 +54,7 @@ row_passes c ks e = rows_pass table c ks refl e
 
 -- ---- fields
 
-sized_or_rest : (k : FieldKind) → IsSized k ⊎ (k ≡ Rest)
+pub sized_or_rest : (k : FieldKind) → IsSized k ⊎ (k ≡ Rest)
 sized_or_rest Rest = inr refl
 sized_or_rest k = inl tt
 

@@ -9,7 +9,9 @@ mod access;
 mod answers;
 mod configuration;
 mod decoding;
+mod encoding;
 mod faults;
+mod laws;
 mod leaves;
 mod notices;
 mod questions;
@@ -17,4 +19,9 @@ mod state_requests;
 mod walker;
 
 pub use decoding::decode;
+pub use encoding::encode;
 pub use faults::{DecodeFault, DecodeWhy};
+pub use laws::{spellings_are_one_to_one, written_and_read};
+
+#[cfg(test)]
+mod tests;

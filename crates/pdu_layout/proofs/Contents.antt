@@ -80,7 +80,7 @@ module _ (kinds : List FieldKind) (values : List FieldValue) (t at i : ℕ) (k :
   pub fit_here : FitEach kinds 0 values → Fits k t v × FitEach (drop (i + 1) kinds) next (drop (i + 1) values)
   fit_here f = subst (λ l. FitEach (k ∷ drop (i + 1) kinds) t l) vs (subst (λ l. FitEach l t (drop i values)) ks (j.back f))
 
-  size_here : length (spelled (drop i kinds) t (drop i values)) ≡ length (bytes_of k t v) + length (spelled (drop (i + 1) kinds) next (drop (i + 1) values))
+  pub size_here : length (spelled (drop i kinds) t (drop i values)) ≡ length (bytes_of k t v) + length (spelled (drop (i + 1) kinds) next (drop (i + 1) values))
   size_here = ap (λ l. length (spelled l t (drop i values))) ks ∙ ap (λ l. length (spelled (k ∷ drop (i + 1) kinds) t l)) vs ∙ length-append (bytes_of k t v) (spelled (drop (i + 1) kinds) next (drop (i + 1) values))
 
   pub judged_more : (t' : ℕ) → Fits k t v → t' ≡ next → at + length (bytes_of k t v) ≤ 1024 → Judged kinds values t' (at + length (bytes_of k t v)) (i + 1)
