@@ -1,3 +1,6 @@
 pub mod Kinds
 pub mod Rows
 pub mod Steps
+pub mod Answers
+pub mod Processes
+pub mod Delays

@@ -6,6 +6,12 @@
 //! memory.
 #![tactic(auto)]
 
+mod arithmetic;
+mod delays;
+mod filters;
 mod kinds;
+mod parameters;
+mod processes;
+mod sources;
 
 pub use kinds::{Kind, has_ports, takes};
