@@ -1,6 +1,11 @@
 -- A line that gives up its first values as new ones come.
-use Rattle.std.proofs.Common.{◌≡◌, ◌∙◌, ap, sym, refl, ◌≤◌, ◌<◌, ◌+◌, ◌-◌, ℕ, zero, suc, min, ℤ, pos, true, false, List, [], ◌∷◌, ◌++◌, drop, take, replicate, length, get_or, arith, append_assoc, Ok, Err, Result}
+use Rattle.std.proofs.Common.{◌≡◌, ◌∙◌, ap, sym, refl, ◌≤◌, ◌<◌, ◌+◌, ℕ, zero, suc, min, ℤ, pos, true, false, List, [], ◌∷◌, ◌++◌, drop, replicate, length, get_or, arith, append_assoc, add-one, Ok, Err, Result, ◌⊎◌, inl, inr}
+use Rattle.std.proofs.Math.Nat.{min-eq_left, min-eq_right, min-zero}
+use Rattle.std.proofs.Math.ListN.{drop_of_length-le}
+use Rattle.std.proofs.Math.Seq.{drop-cons}
+use Rattle.std.proofs.lemmas.Bool.{cases_lt}
 use Rattle.std.proofs.lemmas.Grind.{common_steps}
+use Rattle.std.proofs.lemmas.List.{drop-append-le, replicate-append-replicate, length-append, length-drop, length-replicate, get_or-replicate}
 use Rattle.circular_buffer.specs.Buffer.{keep_last}
 use Rattle.dcp_types.specs.declared.data_types.DataType.TheVariants.{I64}
 use Rattle.dcp_types.specs.declared.fault_codes.FaultCode.{FaultCode}
@@ -17,22 +22,59 @@ shifted-none line u = grind (arith, common_steps)
 
 pub shifted-length : (k : ℕ) (line : List ℤ) (u : ℤ) → k ≤ length line → length (shifted k line u) ≡ length line
 unfolding shifted
-shifted-length k line u h = grind (arith, common_steps)
+shifted-length k line u h = rw (length-append (drop k line) (replicate k u), length-drop k line, length-replicate k u) (omega arith)
 
+-- as many new values as the line has, or more
+shifted-full : (k : ℕ) (line : List ℤ) (u : ℤ) → length line ≤ k → shifted k line u ≡ replicate k u
+unfolding shifted
+shifted-full k line u h = rw (drop_of_length-le line h) refl
+
+-- so many values, and then one more
 pub shifted-more : (k : ℕ) (line : List ℤ) (u : ℤ) → k < length line → drop 1 (shifted k line u) ++ u ∷ [] ≡ shifted (k + 1) line u
 unfolding shifted
-shifted-more k line u h = ?
+shifted-more k line u h =
+    rw (drop-cons line k (pos 0) h, append_assoc (drop (suc k) line) (replicate k u) (u ∷ []))
+        (rw (add-one k) (ap (λ (r : List ℤ). drop (suc k) line ++ r) (replicate-append-replicate k 1 u ∙ ap (λ (n : ℕ). replicate n u) (add-one k))))
 
 -- one value first, and then so many
-pub shifted-first : (k : ℕ) (line : List ℤ) (u : ℤ) → k < length line → shifted k (drop 1 line ++ u ∷ []) u ≡ shifted (suc k) line u
+shifted-first : (k : ℕ) (line : List ℤ) (u : ℤ) → k < length line → shifted k (drop 1 line ++ u ∷ []) u ≡ shifted (suc k) line u
 unfolding shifted
-shifted-first k line u h = ?
+shifted-first k [] u h = absurd (omega arith)
+shifted-first k (x ∷ xs) u h = rw (drop-append-le k xs (u ∷ []) (omega arith)) (append_assoc (drop k xs) (u ∷ []) (replicate k u))
 
-pub shifted-all : (line : List ℤ) (u : ℤ) → 1 ≤ length line → shifted (length line) (drop 1 line ++ u ∷ []) u ≡ shifted (length line) line u
-unfolding shifted
-shifted-all line u h = ?
+renewed-length : (line : List ℤ) (u : ℤ) → 1 ≤ length line → length (drop 1 line ++ u ∷ []) ≡ length line
+renewed-length [] u h = absurd (omega arith)
+renewed-length (x ∷ xs) u h = rw (length-append xs (u ∷ [])) (omega arith)
+
+shifted-all : (line : List ℤ) (u : ℤ) → 1 ≤ length line → shifted (length line) (drop 1 line ++ u ∷ []) u ≡ shifted (length line) line u
+shifted-all line u h =
+    shifted-full (length line) (drop 1 line ++ u ∷ []) u (omega (arith, renewed-length line u h)) ∙ sym (shifted-full (length line) line u (omega arith))
+
+by_order : (k : ℕ) (line : List ℤ) (u : ℤ) → 1 ≤ length line → (k < length line) ⊎ (length line ≤ k) → shifted (min (length line) k) (drop 1 line ++ u ∷ []) u ≡ shifted (min (length line) (suc k)) line u
+by_order k line u h (inl below) =
+    let short : k ≤ length line = omega arith in
+    let next : suc k ≤ length line = omega arith in
+    rw (min-eq_right short, min-eq_right next) (shifted-first k line u below)
+by_order k line u h (inr above) =
+    let next : length line ≤ suc k = omega arith in
+    rw (min-eq_left above, min-eq_left next) (shifted-all line u h)
+
+one_step : (k : ℕ) (line : List ℤ) (u : ℤ) → 1 ≤ length line → shifted (min (length line) k) (drop 1 line ++ u ∷ []) u ≡ shifted (min (length line) (suc k)) line u
+one_step k line u h = by_order k line u h (cases_lt k (length line))
+
+-- the micro steps of a delay whose input fits
+pub line_steps : (k : ℕ) (ps line us : List ℤ) → fits I64 (nth us 0) ≡ true → 1 ≤ length line → micro_steps k kinds.Delay ps line us ≡ Ok (shifted (min (length line) k) line (nth us 0))
+unfolding micro_steps step_once
+line_steps zero ps line us fit h = rw (min-zero (length line)) (ap Ok (sym (shifted-none line (nth us 0))))
+line_steps (suc k) ps line us fit h =
+    let same = renewed-length line (nth us 0) h in
+    let later = line_steps k ps (drop 1 line ++ nth us 0 ∷ []) us fit (omega (arith, same)) in
+    rw fit (later ∙ rw same (ap Ok (one_step k line (nth us 0) h)))
+
+-- an input that does not fit overflows in the first of them
+pub line_overflows : (k : ℕ) (ps line us : List ℤ) → fits I64 (nth us 0) ≡ false → micro_steps (suc k) kinds.Delay ps line us ≡ Err ModelOverflow
+unfolding micro_steps step_once
+line_overflows k ps line us unfit = rw unfit refl
 
 pub kept : (line : List ℤ) (u : ℤ) → length line < 64 → keep_last 64 (line ++ u ∷ []) ≡ line ++ u ∷ []
 kept line u h = grind (arith, common_steps)
-
-pub ruleset lines = (shifted-none, shifted-length, shifted-more, kept)
