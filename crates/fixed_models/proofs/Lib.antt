@@ -1,3 +1,4 @@
 pub mod Casts
 pub mod Lists
-pub mod Lines
+pub mod Fitting
+pub mod Micro

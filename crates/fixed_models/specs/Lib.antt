@@ -3,4 +3,4 @@ pub mod Rows
 pub mod Steps
 pub mod Answers
 pub mod Processes
-pub mod Delays
+pub mod Ports

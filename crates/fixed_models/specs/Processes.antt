@@ -1,11 +1,12 @@
 -- What the data of a process stand for: its kind, its parameters and its state.
-use Rattle.std.specs.Prelude.{◌≡◌, ℤ, pos, ◌≤ℤ◌, ◌<ℤ◌, true, List, [], ◌∷◌, Result, Ok, Err}
+use Rattle.std.specs.Prelude.{◌≡◌, ℕ, ℤ, pos, ◌≤ℤ◌, ◌<ℤ◌, true, List, [], ◌∷◌, Result, Ok, Err}
+use Rattle.dcp_types.specs.declared.data_types.DataType.{DataType}
 use Rattle.fixed_models.specs.declared.kinds.Kind.{Kind}
 use Rattle.fixed_models.specs.declared.kinds.Kind.TheVariants as kinds
 use Rattle.fixed_models.specs.declared.processes.Process.{Process}
 use Rattle.fixed_models.specs.declared.processes.Process.TheVariants as processes
 use Rattle.fixed_models.specs.Kinds.{takes}
-use Rattle.fixed_models.specs.Steps.{start, step_once}
+use Rattle.fixed_models.specs.Steps.{start, step_once, model_step}
 
 abbrev pub kind_of : Process → Kind
 kind_of (processes.Const m) = kinds.Const
@@ -69,6 +70,13 @@ pub record Starts (kind : Kind) (ps : List ℤ) (p : Process) : Type 0 where
 
 pub record IsNext (p : Process) (us : List ℤ) (next : Process) : Type 0 where
   pub step : step_once (kind_of p) (parameters_of p) (state_of p) us ≡ Ok (state_of next)
+  pub kind_is : kind_of next ≡ kind_of p
+  pub parameters_are : parameters_of next ≡ parameters_of p
+  pub sound : IsSound next
+
+-- the process after its micro steps
+pub record Ran (types : List DataType) (us : List ℤ) (micro : ℕ) (p next : Process) : Type 0 where
+  pub step : model_step (kind_of p) (parameters_of p) types (state_of p) us micro ≡ Ok (state_of next)
   pub kind_is : kind_of next ≡ kind_of p
   pub parameters_are : parameters_of next ≡ parameters_of p
   pub sound : IsSound next

@@ -7,11 +7,12 @@
 #![tactic(auto)]
 
 mod arithmetic;
-mod delays;
 mod filters;
 mod kinds;
 mod parameters;
+mod ports;
 mod processes;
+mod runs;
 mod sources;
 
 pub use kinds::{Kind, has_ports, takes};
