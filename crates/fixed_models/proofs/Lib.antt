@@ -2,3 +2,4 @@ pub mod Casts
 pub mod Lists
 pub mod Fitting
 pub mod Micro
+pub mod Lines

@@ -4,3 +4,4 @@ pub mod Steps
 pub mod Answers
 pub mod Processes
 pub mod Ports
+pub mod Delays

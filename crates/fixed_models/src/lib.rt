@@ -7,6 +7,7 @@
 #![tactic(auto)]
 
 mod arithmetic;
+mod delays;
 mod filters;
 mod kinds;
 mod parameters;
