@@ -38,7 +38,7 @@ pub shifted-more : (k : ℕ) (line : List ℤ) (u : ℤ) → k < length line →
 unfolding shifted
 shifted-more k line u h =
     rw (drop-cons line k (pos 0) h, append_assoc (drop (suc k) line) (replicate k u) (u ∷ []))
-        (rw (add-one k) (ap (λ (r : List ℤ). drop (suc k) line ++ r) (replicate-append-replicate k 1 u ∙ ap (λ (n : ℕ). replicate n u) (add-one k))))
+    (rw (add-one k) (ap (λ (r : List ℤ). drop (suc k) line ++ r) (replicate-append-replicate k 1 u ∙ ap (λ (n : ℕ). replicate n u) (add-one k))))
 
 -- one value first, and then so many
 shifted-first : (k : ℕ) (line : List ℤ) (u : ℤ) → k < length line → shifted k (drop 1 line ++ u ∷ []) u ≡ shifted (suc k) line u

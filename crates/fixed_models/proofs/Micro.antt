@@ -29,21 +29,21 @@ micro_fault n i kind ps s us e h f =
 
 pub midway_start : (us : List ℤ) (micro : ℕ) (p : Process) → IsSound p → Midway us micro 0 p p
 midway_start us micro p h = record {
-    kind_is = refl;
-    parameters_are = refl;
-    sound = h;
-    rest = ap (λ (n : ℕ). micro_steps n (kind_of p) (parameters_of p) (state_of p) us) (omega arith)
-  }
+  kind_is = refl;
+  parameters_are = refl;
+  sound = h;
+  rest = ap (λ (n : ℕ). micro_steps n (kind_of p) (parameters_of p) (state_of p) us) (omega arith);
+}
 
 pub midway_more : (us : List ℤ) (micro done : ℕ) (p now next : Process) → Midway us micro done p now → done < micro → IsNext now us next → Midway us micro (done + 1) p next
 midway_more us micro done p now next m h n = record {
-    kind_is = n.kind_is ∙ m.kind_is;
-    parameters_are = n.parameters_are ∙ m.parameters_are;
-    sound = n.sound;
-    rest =
+  kind_is = n.kind_is ∙ m.kind_is;
+  parameters_are = n.parameters_are ∙ m.parameters_are;
+  sound = n.sound;
+  rest =
       let step : step_once (kind_of p) (parameters_of p) (state_of now) us ≡ Ok (state_of next) = rw (← m.kind_is, ← m.parameters_are) n.step in
-      sym (micro_more micro done (kind_of p) (parameters_of p) (state_of now) (state_of next) us h step) ∙ m.rest
-  }
+      sym (micro_more micro done (kind_of p) (parameters_of p) (state_of now) (state_of next) us h step) ∙ m.rest;
+}
 
 pub midway_fault : (us : List ℤ) (micro done : ℕ) (p now : Process) (e : FaultCode) → Midway us micro done p now → done < micro → step_once (kind_of now) (parameters_of now) (state_of now) us ≡ Err e → micro_steps micro (kind_of p) (parameters_of p) (state_of p) us ≡ Err e
 midway_fault us micro done p now e m h f =
@@ -61,13 +61,13 @@ model_fault types us micro done p now e m h f = rw (midway_fault us micro done p
 
 pub model_done : (types : List DataType) (us : List ℤ) (micro done : ℕ) (p now : Process) → Midway us micro done p now → micro ≤ done → all_fit types (outputs (kind_of now) (parameters_of now) (state_of now)) ≡ true → Ran types us micro p now
 model_done types us micro done p now m h f = record {
-    step =
+  step =
       let fit : all_fit types (outputs (kind_of p) (parameters_of p) (state_of now)) ≡ true = rw (← m.kind_is, ← m.parameters_are) f in
       rw (midway_end us micro done p now m h) (rw fit refl);
-    kind_is = m.kind_is;
-    parameters_are = m.parameters_are;
-    sound = m.sound
-  }
+  kind_is = m.kind_is;
+  parameters_are = m.parameters_are;
+  sound = m.sound;
+}
 
 pub model_unfit : (types : List DataType) (us : List ℤ) (micro done : ℕ) (p now : Process) → Midway us micro done p now → micro ≤ done → all_fit types (outputs (kind_of now) (parameters_of now) (state_of now)) ≡ false → model_step (kind_of p) (parameters_of p) types (state_of p) us micro ≡ Err OutOfRange
 model_unfit types us micro done p now m h f =

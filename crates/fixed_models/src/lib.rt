@@ -10,6 +10,8 @@ mod arithmetic;
 mod delays;
 mod filters;
 mod kinds;
+mod machines;
+mod models;
 mod parameters;
 mod ports;
 mod processes;
@@ -17,3 +19,4 @@ mod runs;
 mod sources;
 
 pub use kinds::{Kind, has_ports, takes};
+pub use models::{BadParameters, Model, ModelRefused};

@@ -8,7 +8,7 @@ use Rattle.fixed_models.proofs.processes.Process.run.Goals as goal
 pub returns-in_err-process : goal.returns-in_err-process
 returns-in_err-process c =
     let f : model_step (kind_of c.args.self) (parameters_of c.args.self) (types_of c.args.ports) (state_of c.args.self) c.args.inputs.now c.args.micro ≡ Err c.in_err-process.field-0.0 =
-      model_fault _ _ _ _ _ _ _ c.loop-done.invariant c.loop-done-test.true c.in_err-process.ensures in
+    model_fault _ _ _ _ _ _ _ c.loop-done.invariant c.loop-done-test.true c.in_err-process.ensures in
     search rules
 
 pub loop-done-preserved : goal.loop-done-preserved
