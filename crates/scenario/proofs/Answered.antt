@@ -1,8 +1,8 @@
 -- What the reader answers, and the laws of the grammar.
-use Rattle.std.proofs.Common.{◌≡◌, ℕ, ◌+◌, ◌-◌, ◌<◌, ◌≤◌, true, false, ◌⊎◌, inl, inr, ⊎_elim, List, [], ◌∷◌, ◌++◌, length, Option, Some, None, Result, Ok, Err, refl, sym, ap, ◌∙◌, subst, arith, append-nil, append_assoc, length-append, below_more}
+use Rattle.std.proofs.Common.{◌≡◌, ℕ, ◌+◌, ◌<◌, true, ◌⊎◌, inl, inr, List, [], ◌∷◌, ◌++◌, length, None, Result, Ok, Err, refl, sym, ap, ◌∙◌, subst, arith, append-nil, append_assoc, length-append, below_more}
 use Rattle.std.specs.Prelude.{IfOk}
 use Rattle.std.specs.Str.Lines.{lines}
-use Rattle.text_lines.specs.Reasons.{◌>>=◌, GivesText}
+use Rattle.text_lines.specs.Reasons.{GivesText}
 use Rattle.text_lines.specs.Runs.{at_line, run_of}
 use Rattle.text_lines.proofs.Results.{bind_ok, at_ok, and_ok}
 use Rattle.text_lines.proofs.Runs.{one_first}
@@ -12,7 +12,7 @@ use Rattle.text_lines.specs.declared.reasons.TextRefused.{TextRefused}
 use Rattle.text_lines.specs.declared.reasons.TextRefused.TheVariants as refusals
 use Rattle.slave_desc.specs.declared.descriptions.SlaveDesc.{SlaveDesc}
 use Rattle.scenario.specs.Machine.{closes, start, take_line, finished, scenario_of}
-use Rattle.scenario.specs.Judging.{bad, blocks, head_said, slaves_said, links_said, why_at, why_end_of, FirstBad}
+use Rattle.scenario.specs.Judging.{bad, blocks, head_said, slaves_said, why_at, why_end_of, FirstBad}
 use Rattle.scenario.specs.Reads.{scenario_said, Reads, ReadsOrRefused, NeverBoth, OneValue, OneFault}
 use Rattle.scenario.proofs.Results.{given_same}
 use Rattle.scenario.proofs.Groups.{all_said}
@@ -31,12 +31,13 @@ IsRead ls s = ((n : ℕ) → n < length ls + 1 + 1 → 0 < n → why_at ls n ≡
 end_said : (ls : List (List ℕ)) (r : Reader) (s : Scenario) → Stands ls r → finished r ≡ Ok s → (why_end_of ls ≡ None) × (s ≡ scenario_said ls)
 end_said ls r s h e =
     let c = bind_ok (closes r true 2) (λ q. Ok (scenario_of q.head q.slaves q.links)) s e in
-    let after = closes_after ls r h true 2 c.0 c.1 in
-    (closes_bad ls r h true 2 (λ _. refl) ∙ ap bad c.1,
-     sym (given_same (scenario_of c.0.head c.0.slaves c.0.links) s c.2)
-     ∙ ap (λ (l : List HeadItem). scenario_of l c.0.slaves c.0.links) (after.head ∙ h.head)
-     ∙ ap (λ (l : List SlaveDesc). scenario_of (head_said ls) l c.0.links) (sym (all_said (blocks ls) c.0.slaves (after.shut refl).0))
-     ∙ ap (λ (l : Links). scenario_of (head_said ls) (slaves_said ls) l) (after.links ∙ h.links))
+    let after = closes_after ls r h true 2 c.0 c.1 in (
+      closes_bad ls r h true 2 (λ _. refl) ∙ ap bad c.1,
+      sym (given_same (scenario_of c.0.head c.0.slaves c.0.links) s c.2)
+          ∙ ap (λ (l : List HeadItem). scenario_of l c.0.slaves c.0.links) (after.head ∙ h.head)
+          ∙ ap (λ (l : List SlaveDesc). scenario_of (head_said ls) l c.0.links) (sym (all_said (blocks ls) c.0.slaves (after.shut refl).0))
+          ∙ ap (λ (l : Links). scenario_of (head_said ls) (slaves_said ls) l) (after.links ∙ h.links),
+    )
 
 run_said : (done rest : List (List ℕ)) (r : Reader) (s : Scenario) → Stands done r → ((n : ℕ) → n < length done + 1 → 0 < n → why_at (done ++ rest) n ≡ None) → run_of take_line finished (length done + 1) r rest ≡ Ok s → IsRead (done ++ rest) s
 run_said done [] r s h earlier e =
@@ -52,8 +53,8 @@ run_said done (line ∷ rest) r s h earlier e =
     let more : (n : ℕ) → n < length done + 1 + 1 → 0 < n → why_at (done ++ line ∷ rest) n ≡ None = below_more (λ n. 0 < n → why_at (done ++ line ∷ rest) n ≡ None) (length done + 1) earlier (λ _. here) in
     subst (λ (l : List (List ℕ)). IsRead l s) same
     (run_said (done ++ line ∷ []) rest t.0 s (line_moves done r t.0 line h took)
-        (subst (λ (l : List (List ℕ)). (n : ℕ) → n < length (done ++ line ∷ []) + 1 → 0 < n → why_at l n ≡ None) (sym same) (subst (λ (k : ℕ). (n : ℕ) → n < k + 1 → 0 < n → why_at (done ++ line ∷ rest) n ≡ None) longer more))
-        (subst (λ (n : ℕ). run_of take_line finished (n + 1) t.0 rest ≡ Ok s) longer t.2))
+    (subst (λ (l : List (List ℕ)). (n : ℕ) → n < length (done ++ line ∷ []) + 1 → 0 < n → why_at l n ≡ None) (sym same) (subst (λ (k : ℕ). (n : ℕ) → n < k + 1 → 0 < n → why_at (done ++ line ∷ rest) n ≡ None) longer more))
+    (subst (λ (n : ℕ). run_of take_line finished (n + 1) t.0 rest ≡ Ok s) longer t.2))
 
 reads : (text : List ℕ) (s : Scenario) → run_of take_line finished 1 start (lines text) ≡ Ok s → Reads text s
 reads text s e =

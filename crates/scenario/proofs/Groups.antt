@@ -1,10 +1,9 @@
 -- Blocks, as lines come, and the slaves that they describe.
-use Rattle.std.proofs.Common.{◌≡◌, ℕ, ℤ, Bool, true, false, cond, List, [], ◌∷◌, ◌++◌, map, Option, Some, None, refl, sym, ap, ◌∙◌, subst}
+use Rattle.std.proofs.Common.{◌≡◌, ℕ, ℤ, Bool, true, false, cond, List, [], ◌∷◌, ◌++◌, refl, sym, ap, ◌∙◌}
 use Rattle.std.specs.List.{filter_map}
 use Rattle.fixed_models.specs.declared.kinds.Kind.{Kind}
 use Rattle.fixed_models.specs.declared.kinds.Kind.TheVariants.{Const}
-use Rattle.dcp_types.specs.declared.addresses.Address.{Address}
-use Rattle.slave_desc.specs.Judging.{name_in, uuid_in, address_in, model_in, busy_in, heartbeat_in, resolution_in, input_in, output_in, items_in}
+use Rattle.slave_desc.specs.Judging.{busy_in, heartbeat_in, resolution_in, items_in}
 use Rattle.slave_desc.specs.Reads.{Describes, IsOr}
 use Rattle.slave_desc.specs.declared.items.Item.{Item}
 use Rattle.slave_desc.specs.declared.descriptions.SlaveDesc.{SlaveDesc}

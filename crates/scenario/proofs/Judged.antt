@@ -1,6 +1,6 @@
 -- The fault of the reader is the first line that the judging refuses.
-use Rattle.std.proofs.Common.{◌≡◌, ℕ, ◌+◌, ◌-◌, ◌<◌, ◌≤◌, true, List, [], ◌∷◌, ◌++◌, length, take, Option, Some, None, Result, Ok, Err, refl, sym, ap, ◌∙◌, arith}
-use Rattle.std.specs.Prelude.{slice_get, IfErr}
+use Rattle.std.proofs.Common.{◌≡◌, ℕ, ◌+◌, ◌-◌, true, List, [], ◌∷◌, ◌++◌, length, Some, Result, Ok, Err, refl, ap, ◌∙◌, arith}
+use Rattle.std.specs.Prelude.{IfErr}
 use Rattle.std.specs.Str.Lines.{lines}
 use Rattle.std.proofs.Math.Seq.{take-length}
 use Rattle.std.proofs.lemmas.List.{take_at}
@@ -14,10 +14,9 @@ use Rattle.text_lines.specs.declared.reasons.TextRefused.{TextRefused}
 use Rattle.text_lines.specs.declared.reasons.TextRefused.TheVariants as refusals
 use Rattle.slave_desc.proofs.Judged.{slice_get-at}
 use Rattle.scenario.specs.Machine.{closes, start, take_line, finished}
-use Rattle.scenario.specs.Judging.{bad, why_line, why_closes, why_end_of, why_at, why_entry, FirstBad, IsFirstBad}
+use Rattle.scenario.specs.Judging.{bad, why_line, why_end_of, why_at, FirstBad, IsFirstBad}
 use Rattle.scenario.proofs.Stands.{Stands, lined, closes_bad}
 use Rattle.scenario.proofs.Moves.{line_moves, starts}
-use Rattle.scenario.specs.declared.readers.Reader.{Reader}
 use Rattle.scenario.specs.declared.scenarios.Scenario.{Scenario}
 
 -- what the judging says after the lines that are done

@@ -1,8 +1,8 @@
 -- Each line that is taken keeps what is known of the reader, so what a text gives is in range.
-use Rattle.std.proofs.Common.{◌≡◌, ◌≢◌, ℕ, ℤ, suc, ◌+◌, ◌-◌, ◌<◌, ◌≤◌, Bool, true, false, not, ◌&&◌, cond, eqb, ltb, leb, get_or, ◌⊎◌, inl, inr, ⊎_elim, List, [], ◌∷◌, ◌++◌, length, Option, Some, None, Result, Ok, Err, is_some, refl, sym, ap, ◌∙◌, subst, arith, length-append}
+use Rattle.std.proofs.Common.{◌≡◌, ◌≢◌, ℕ, ◌+◌, ◌-◌, ◌<◌, ◌≤◌, Bool, true, false, not, ◌&&◌, cond, eqb, ltb, leb, get_or, ◌⊎◌, ⊎_elim, List, [], ◌∷◌, ◌++◌, length, Option, Some, None, Ok, Err, is_some, refl, sym, ap, ◌∙◌, subst, arith, length-append}
 use Rattle.std.specs.Prelude.{All, slice_get}
-use Rattle.std.specs.List.{AllByRecursion, filter_map, cons_option}
-use Rattle.std.specs.Option.{option_map, unwrap_or}
+use Rattle.std.specs.List.{AllByRecursion, cons_option}
+use Rattle.std.specs.Option.{option_map}
 use Rattle.std.specs.Result.{result_ok}
 use Rattle.std.specs.Str.{is_utf8}
 use Rattle.std.proofs.str.Laws.{order}
@@ -11,7 +11,7 @@ use Rattle.std.proofs.lemmas.Bool.Decides.{nat_tests}
 use Rattle.std.proofs.lemmas.List.Elements.{All-push}
 use Rattle.std.proofs.lemmas.Option.{slice_get-get_or}
 use Rattle.text_lines.specs.Texts.{words, is_skipped}
-use Rattle.text_lines.specs.Reasons.{◌>>=◌, or_why}
+use Rattle.text_lines.specs.Reasons.{◌>>=◌}
 use Rattle.text_lines.specs.Runs.{at_line, run_of}
 use Rattle.text_lines.proofs.Results.{bind_ok, at_ok, and_ok}
 use Rattle.text_lines.specs.declared.reasons.TextWhy.{TextWhy}
@@ -21,15 +21,15 @@ use Rattle.slave_desc.specs.Canonical.{IsDesc}
 use Rattle.slave_desc.specs.Judging.{begins, why_key, refused_if, item_keyed, item_of_words, item_in, items_in}
 use Rattle.slave_desc.specs.Machine.{has, put, why_held, unless, nothing}
 use Rattle.slave_desc.specs.Machine as block
-use Rattle.slave_desc.proofs.Held.{Holds, holds_nothing, key_in, holds_more, may_come, not_refused}
+use Rattle.slave_desc.proofs.Held.{Holds, holds_nothing, holds_more, may_come, not_refused}
 use Rattle.slave_desc.proofs.Judged.{item_key, unless_ok, end_ok, items_push}
 use Rattle.slave_desc.proofs.Ranges.{items_desc}
 use Rattle.slave_desc.specs.declared.keys.Key.{Key}
 use Rattle.slave_desc.specs.declared.items.Item.{Item}
 use Rattle.slave_desc.specs.declared.descriptions.SlaveDesc.{SlaveDesc}
 use Rattle.scenario.specs.Keys.{or_some, head_key, link_key, any_key, section_of, closes_block}
-use Rattle.scenario.specs.Heads.{head_item, is_said, master_in, first_said}
-use Rattle.scenario.specs.Links.{slave_at, parameters_at, parameters_in, link_of}
+use Rattle.scenario.specs.Heads.{head_item, is_said}
+use Rattle.scenario.specs.Links.{parameters_at, parameters_in, link_of}
 use Rattle.scenario.specs.Checks.{takes_at, taken_by, why_link, put_link, no_links}
 use Rattle.scenario.specs.Limits.{is_too_much}
 use Rattle.scenario.specs.Machine.{steps_said, runs_said, start, why_head, why_slaves, close_head, close_block, close_slaves, closes, why_among, is_chaos, take_head, take_block, take_link, act, take_keyed, take_words, take_line, scenario_of, finished}
@@ -43,7 +43,6 @@ use Rattle.scenario.specs.declared.keys.HeadKey.TheVariants as heads
 use Rattle.scenario.specs.declared.keys.LinkKey.{LinkKey}
 use Rattle.scenario.specs.declared.keys.AnyKey.{AnyKey}
 use Rattle.scenario.specs.declared.keys.AnyKey.TheVariants as any
-use Rattle.scenario.specs.declared.heads.HeadItem.{HeadItem}
 use Rattle.scenario.specs.declared.collected.Links.{Links}
 use Rattle.scenario.specs.declared.readers.Reader.{Reader}
 use Rattle.scenario.specs.declared.scenarios.Scenario.{Scenario}

@@ -1,19 +1,17 @@
 -- What a line of the links names is there.
-use Rattle.std.proofs.Common.{◌≡◌, ℕ, ℤ, ◌+◌, ◌-◌, ◌<◌, ◌≤◌, Bool, true, false, ◌&&◌, cond, ltb, List, [], ◌∷◌, length, Option, Some, None, Result, Ok, Err, refl, sym, subst, arith}
-use Rattle.std.specs.List.{position, position_or_len}
+use Rattle.std.proofs.Common.{◌≡◌, ℕ, ◌+◌, ◌<◌, ◌≤◌, ◌&&◌, cond, ltb, List, length, Some, None, Ok, Err, subst, arith}
+use Rattle.std.specs.List.{position_or_len}
 use Rattle.std.specs.Str.{bytes_eq}
 use Rattle.std.proofs.lemmas.Bool.Decides.{nat_tests}
-use Rattle.text_lines.specs.Reasons.{◌>>=◌, or_why}
+use Rattle.text_lines.specs.Reasons.{or_why}
 use Rattle.text_lines.specs.Numbers.{number, number_from, int64}
 use Rattle.text_lines.specs.Names.{name}
 use Rattle.text_lines.specs.Counts.{three_words, four_words}
 use Rattle.text_lines.proofs.PlainWords.{and_both}
 use Rattle.text_lines.proofs.Results.{bind_ok, some_ok}
-use Rattle.text_lines.specs.declared.reasons.TextWhy.{TextWhy}
 use Rattle.text_lines.specs.declared.reasons.TextWhy.TheVariants as why
 use Rattle.slave_desc.specs.declared.descriptions.SlaveDesc.{SlaveDesc}
 use Rattle.scenario.specs.Links.{place_of, slave_of, index_of, outputs_at, inputs_at, parameters_at, wire_of, setting_of, rerun_of, every_of, drop_of, copy_of, hold_of, chaos_of, link_of}
-use Rattle.scenario.specs.Checks.{setting_in}
 use Rattle.scenario.specs.Sound.{IsSlave, IsSetting, IsRerun}
 use Rattle.scenario.proofs.Results.{moved, chosen_ok, number_fits}
 use Rattle.scenario.specs.declared.scenarios.Wire.{Wire}

@@ -1,6 +1,6 @@
 -- A line that is taken leaves the reader where the lines with it stand.
-use Rattle.std.proofs.Common.{◌≡◌, ◌≢◌, ℕ, ℤ, suc, ◌+◌, ◌-◌, ◌<◌, ◌≤◌, Bool, true, false, not, ◌&&◌, cond, eqb, ltb, leb, ◌⊎◌, inl, inr, ⊎_elim, List, [], ◌∷◌, ◌++◌, length, map, Option, Some, None, Result, Ok, Err, is_some, refl, sym, ap, ◌∙◌, subst, arith, append-nil, append_assoc, length-append}
-use Rattle.std.specs.Prelude.{filter, slice_get}
+use Rattle.std.proofs.Common.{◌≡◌, ℕ, ◌<◌, ◌≤◌, Bool, true, false, not, ◌&&◌, cond, eqb, ltb, leb, inl, inr, ⊎_elim, List, [], ◌∷◌, ◌++◌, length, Option, Some, None, Result, Ok, Err, is_some, refl, sym, ap, ◌∙◌, subst, arith, append-nil}
+use Rattle.std.specs.Prelude.{slice_get}
 use Rattle.std.specs.List.{filter_map, cons_option}
 use Rattle.std.specs.Option.{option_to_list}
 use Rattle.std.specs.Result.{result_ok}
@@ -9,13 +9,12 @@ use Rattle.std.proofs.lemmas.Bool.{false≢true}
 use Rattle.std.proofs.lemmas.Bool.Decides.{nat_tests}
 use Rattle.std.proofs.lemmas.List.Elements.{filter-append, filter_map-append}
 use Rattle.text_lines.specs.Texts.{words, is_skipped}
-use Rattle.text_lines.specs.Reasons.{◌>>=◌}
 use Rattle.text_lines.proofs.Results.{bind_ok}
 use Rattle.text_lines.specs.declared.reasons.TextWhy.{TextWhy}
 use Rattle.text_lines.specs.declared.reasons.TextWhy.TheVariants as why
 use Rattle.slave_desc.specs.Items.{key_of, item_of}
 use Rattle.slave_desc.specs.Judging.{came, begins, why_key, refused_if, item_in, items_in}
-use Rattle.slave_desc.specs.Machine.{newer, longer, has, put, why_held, unless, nothing}
+use Rattle.slave_desc.specs.Machine.{newer, longer, has, put, why_held, nothing}
 use Rattle.slave_desc.proofs.Held.{Holds, holds_nothing, key_in, holds_more, may_come, not_refused}
 use Rattle.slave_desc.proofs.Judged.{item_key, unless_ok, items_push}
 use Rattle.slave_desc.specs.declared.keys.Key.{Key}
@@ -26,10 +25,10 @@ use Rattle.slave_desc.specs.declared.partials.Partial.{Partial}
 use Rattle.slave_desc.specs.declared.descriptions.SlaveDesc.{SlaveDesc}
 use Rattle.scenario.specs.Keys.{head_key, link_key, any_key, section_of, closes_block}
 use Rattle.scenario.specs.Heads.{head_item, is_said}
-use Rattle.scenario.specs.Links.{link_of, wire_of, setting_of, rerun_of, every_of, drop_of, copy_of, hold_of, chaos_of}
-use Rattle.scenario.specs.Checks.{why_link, put_link, no_links, wire_in, set_in, rerun_in, every_in, line_in, chaos_in}
-use Rattle.scenario.specs.Machine.{runs_said, why_name, why_among, closes, is_chaos, take_head, take_block, take_link, act, take_keyed, take_words, take_line, start}
-use Rattle.scenario.specs.Judging.{key_of_words, key_at, args_of, is_of, lines_in, section_now, head_by, head_said, is_slave_key, begins_block, group, blocks, slaves_of, link_by, links_of, links_said}
+use Rattle.scenario.specs.Links.{link_of, wire_of, setting_of, rerun_of, every_of, drop_of, copy_of, hold_of}
+use Rattle.scenario.specs.Checks.{why_link, put_link, wire_in, set_in, rerun_in, every_in, line_in, chaos_in}
+use Rattle.scenario.specs.Machine.{runs_said, why_among, closes, is_chaos, take_head, take_block, take_link, act, take_keyed, take_words, take_line, start}
+use Rattle.scenario.specs.Judging.{key_of_words, key_at, args_of, is_of, lines_in, head_by, head_said, is_slave_key, begins_block, group, slaves_of, link_by, links_of}
 use Rattle.scenario.proofs.Results.{moved}
 use Rattle.scenario.proofs.Groups.{at_last, group_new, group_more, at_last_is, AreSlaves, all_said}
 use Rattle.scenario.proofs.Kept.{block_key, line_item}
@@ -230,9 +229,9 @@ module _ (ls : List (List ℕ)) (r q : Reader) (h : Stands ls r) where
         early = λ lt. absurd (omega (arith, after.arrived));
         first = λ z. absurd (omega (arith, after.arrived));
         links =
-          ap (λ (k : Links). put_link k l) links_are
-          ∙ sym (links_push (filter_map (link_at L1 (head_said ls)) L2) l before)
-          ∙ ap links_of (sym (filter_map-append (link_at L1 (head_said ls)) L2 (line ∷ []) ∙ ap (λ (o : Option Link). filter_map (link_at L1 (head_said ls)) L2 ++ cons_option o []) said));
+            ap (λ (k : Links). put_link k l) links_are
+            ∙ sym (links_push (filter_map (link_at L1 (head_said ls)) L2) l before)
+            ∙ ap links_of (sym (filter_map-append (link_at L1 (head_said ls)) L2 (line ∷ []) ∙ ap (λ (o : Option Link). filter_map (link_at L1 (head_said ls)) L2 ++ cons_option o []) said));
       }
 
   move_slave : (line : List ℕ) (i : Item) → After ls r q true 1 → r.section ≤ 1 → begins_block line ≡ true → item_in line ≡ Some i → key_in i ≡ keys.Slave → why_held q.block i ≡ None → why_among q.head q.slaves i ≡ None
@@ -308,11 +307,11 @@ module _ (ls : List (List ℕ)) (r q t : Reader) (h : Stands ls r) (line w : Lis
       ∙ ap (λ (x : Result HeadItem TextWhy). head_said ls ++ cons_option (result_ok x) []) i.1 in
       moved (Stands (ls ++ line ∷ [])) (record q { head = q.head ++ i.0 ∷ [] }) t i.2
       (stands_of (ls ++ line ∷ []) (record q { head = q.head ++ i.0 ∷ [] })
-          (reframe _ _ _ _ _ _ (record q { head = q.head ++ i.0 ∷ [] })
-              (sym (lines_push 1 ls line (Some (any.Head key)) at ∙ append-nil (lines_in 1 ls)))
-              (sym (lines_push 2 ls line (Some (any.Head key)) at ∙ append-nil (lines_in 2 ls)))
-              (sym more)
-              (move_head ls r q h key i.0 after up)))
+      (reframe _ _ _ _ _ _ (record q { head = q.head ++ i.0 ∷ [] })
+      (sym (lines_push 1 ls line (Some (any.Head key)) at ∙ append-nil (lines_in 1 ls)))
+      (sym (lines_push 2 ls line (Some (any.Head key)) at ∙ append-nil (lines_in 2 ls)))
+      (sym more)
+      (move_head ls r q h key i.0 after up)))
 
   act_link : (key : LinkKey) → any_key w ≡ Some (any.Link key) → After ls r q true 2 → take_link q key args ≡ Ok t → Stands (ls ++ line ∷ []) t
   act_link key k after e =
@@ -322,11 +321,11 @@ module _ (ls : List (List ℕ)) (r q t : Reader) (h : Stands ls r) (line w : Lis
       let at = key_said line w args (any.Link key) said skip k in
       moved (Stands (ls ++ line ∷ [])) (record q { links = put_link q.links l.0 }) t v.1
       (stands_of (ls ++ line ∷ []) (record q { links = put_link q.links l.0 })
-          (reframe _ _ _ _ _ _ (record q { links = put_link q.links l.0 })
-              (sym (lines_push 1 ls line (Some (any.Link key)) at ∙ append-nil (lines_in 1 ls)))
-              (sym (lines_push 2 ls line (Some (any.Link key)) at))
-              (sym (head_push ls line (Some (any.Link key)) at ∙ append-nil (head_said ls)))
-              (move_link ls r q h key args line l.0 after at (ap args_of said) l.1 u.0)))
+      (reframe _ _ _ _ _ _ (record q { links = put_link q.links l.0 })
+      (sym (lines_push 1 ls line (Some (any.Link key)) at ∙ append-nil (lines_in 1 ls)))
+      (sym (lines_push 2 ls line (Some (any.Link key)) at))
+      (sym (head_push ls line (Some (any.Link key)) at ∙ append-nil (head_said ls)))
+      (move_link ls r q h key args line l.0 after at (ap args_of said) l.1 u.0)))
 
   act_block : (key : Key) (ends : Bool) → begins key ≡ ends → any_key w ≡ Some (any.Block key) → After ls r q ends 1 → r.section ≤ 1 → take_block q key args ≡ Ok t → Stands (ls ++ line ∷ []) t
   act_block key ends begun k after up e =
@@ -341,11 +340,11 @@ module _ (ls : List (List ℕ)) (r q t : Reader) (h : Stands ls r) (line w : Lis
       let begins_line : begins_block line ≡ ends = ap is_slave_key at ∙ slave_key_is key ∙ begun in
       moved (Stands (ls ++ line ∷ [])) (record q { block = put q.block i.0 }) t x.1
       (stands_of (ls ++ line ∷ []) (record q { block = put q.block i.0 })
-          (reframe _ _ _ _ _ _ (record q { block = put q.block i.0 })
-              (sym (lines_push 1 ls line (Some (any.Block key)) at))
-              (sym (lines_push 2 ls line (Some (any.Block key)) at ∙ append-nil (lines_in 2 ls)))
-              (sym (head_push ls line (Some (any.Block key)) at ∙ append-nil (head_said ls)))
-              (moves ends begun after begins_line item key_is u.0 v.0 x.0 i.0)))
+      (reframe _ _ _ _ _ _ (record q { block = put q.block i.0 })
+      (sym (lines_push 1 ls line (Some (any.Block key)) at))
+      (sym (lines_push 2 ls line (Some (any.Block key)) at ∙ append-nil (lines_in 2 ls)))
+      (sym (head_push ls line (Some (any.Block key)) at ∙ append-nil (head_said ls)))
+      (moves ends begun after begins_line item key_is u.0 v.0 x.0 i.0)))
     where
       slave_only : (key : Key) → begins key ≡ true → key ≡ keys.Slave
       slave_only keys.Slave e = refl
@@ -397,10 +396,10 @@ skipped ls r h line skip =
     let at : key_at line ≡ None = ap (λ (b : Bool). cond b None (key_of_words (words line))) skip in
     stands_of (ls ++ line ∷ []) r
     (reframe _ _ _ _ _ _ r
-        (sym (lines_push 1 ls line None at ∙ append-nil (lines_in 1 ls)))
-        (sym (lines_push 2 ls line None at ∙ append-nil (lines_in 2 ls)))
-        (sym (head_push ls line None at ∙ append-nil (head_said ls)))
-        (frame_of ls r h))
+    (sym (lines_push 1 ls line None at ∙ append-nil (lines_in 1 ls)))
+    (sym (lines_push 2 ls line None at ∙ append-nil (lines_in 2 ls)))
+    (sym (head_push ls line None at ∙ append-nil (head_said ls)))
+    (frame_of ls r h))
 
 line_by : (u s : Bool) (ls : List (List ℕ)) (r t : Reader) (h : Stands ls r) (line : List ℕ) → is_skipped (words line) ≡ s → cond (not u) (Err why.NotUtf8) (cond s (Ok r) (take_words r (words line))) ≡ Ok t → Stands (ls ++ line ∷ []) t
 line_by false s ls r t h line skip e = cc

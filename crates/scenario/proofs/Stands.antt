@@ -1,49 +1,42 @@
 -- The reader stands where the lines before it say: what it takes and refuses is what the judging says.
-use Rattle.std.proofs.Common.{◌≡◌, ◌≢◌, ℕ, ℤ, suc, ◌+◌, ◌-◌, ◌<◌, ◌≤◌, Bool, true, false, not, ◌&&◌, cond, eqb, ltb, leb, ◌⊎◌, inl, inr, List, [], ◌∷◌, ◌++◌, length, map, Option, Some, None, Result, Ok, Err, is_some, refl, sym, ap, ◌∙◌, subst, arith, append-nil, append_assoc, length-append}
-use Rattle.std.specs.Prelude.{filter, slice_get}
-use Rattle.std.specs.List.{filter_map, cons_option}
-use Rattle.std.specs.Option.{option_map, option_to_list}
-use Rattle.std.specs.Result.{result_ok}
+use Rattle.std.proofs.Common.{◌≡◌, ◌≢◌, ℕ, ◌<◌, ◌≤◌, Bool, true, false, not, ◌&&◌, cond, eqb, ltb, leb, List, [], ◌∷◌, ◌++◌, length, Option, Some, None, Result, Ok, Err, is_some, refl, sym, ap, ◌∙◌, subst, arith, append-nil}
+use Rattle.std.specs.List.{filter_map}
+use Rattle.std.specs.Option.{option_to_list}
 use Rattle.std.specs.Str.{is_utf8}
 use Rattle.std.proofs.lemmas.Bool.{false≢true}
 use Rattle.std.proofs.lemmas.Bool.Decides.{nat_tests}
-use Rattle.std.proofs.lemmas.List.Elements.{filter-append, filter_map-append}
 use Rattle.text_lines.specs.Texts.{words, is_skipped}
-use Rattle.text_lines.specs.Reasons.{◌>>=◌, or_why}
+use Rattle.text_lines.specs.Reasons.{◌>>=◌}
 use Rattle.text_lines.proofs.Results.{bind_ok}
 use Rattle.text_lines.specs.declared.reasons.TextWhy.{TextWhy}
 use Rattle.text_lines.specs.declared.reasons.TextWhy.TheVariants as why
-use Rattle.slave_desc.specs.Items.{key_of, item_of}
-use Rattle.slave_desc.specs.Judging.{name_in, came, came_before, begins, why_key, why_item, why_end, or_else, refused_if, item_in, items_in}
+use Rattle.slave_desc.specs.Items.{item_of}
+use Rattle.slave_desc.specs.Judging.{name_in, came, came_before, why_key, why_end, or_else, refused_if, items_in}
 use Rattle.slave_desc.specs.Machine.{newer, longer, has, put, why_held, unless, nothing}
 use Rattle.slave_desc.specs.Machine as block
-use Rattle.slave_desc.specs.Reads.{Describes}
-use Rattle.slave_desc.proofs.Held.{Holds, holds_nothing, key_in, holds_more, may_come, same_has, same_named, same_why, not_refused}
-use Rattle.slave_desc.proofs.Judged.{item_key, unless_ok, end_ok, end_err, items_push}
+use Rattle.slave_desc.proofs.Held.{Holds, holds_nothing, same_has, same_named, same_why}
+use Rattle.slave_desc.proofs.Judged.{unless_ok, end_ok, end_err}
 use Rattle.slave_desc.proofs.Apart.{end_none}
 use Rattle.slave_desc.specs.declared.keys.Key.{Key}
 use Rattle.slave_desc.specs.declared.keys.Key.TheVariants as keys
 use Rattle.slave_desc.specs.declared.items.Item.{Item}
-use Rattle.slave_desc.specs.declared.items.Item.TheVariants as items
 use Rattle.slave_desc.specs.declared.partials.Partial.{Partial}
 use Rattle.slave_desc.specs.declared.descriptions.SlaveDesc.{SlaveDesc}
-use Rattle.scenario.specs.Keys.{head_key, link_key, any_key, section_of, closes_block}
+use Rattle.scenario.specs.Keys.{any_key, section_of, closes_block}
 use Rattle.scenario.specs.Heads.{head_item, is_said}
-use Rattle.scenario.specs.Links.{link_of, wire_of, setting_of, rerun_of, every_of, drop_of, copy_of, hold_of, chaos_of}
-use Rattle.scenario.specs.Checks.{why_link, put_link, wire_in, set_in, rerun_in, every_in, line_in, chaos_in}
-use Rattle.scenario.specs.Machine.{runs_said, why_name, why_head, why_slaves, close_head, close_block, close_slaves, closes, why_among, is_chaos, take_head, take_block, take_link, act, take_keyed, take_words, take_line}
-use Rattle.scenario.specs.Judging.{key_of_words, key_at, args_of, is_of, lines_in, section_now, head_by, head_said, is_slave_key, begins_block, group, blocks, last_of, front_of, slaves_of, slaves_said, link_by, links_of, links_said, when, why_block, why_closes, why_order, block_for, slaves_for, bad, why_item_read, why_link_read, why_acts, why_keyed, why_words, why_line}
+use Rattle.scenario.specs.Links.{link_of}
+use Rattle.scenario.specs.Checks.{why_link, put_link}
+use Rattle.scenario.specs.Machine.{runs_said, why_head, why_slaves, close_head, close_block, close_slaves, closes, why_among, is_chaos, take_head, take_block, take_link, act, take_keyed, take_words, take_line}
+use Rattle.scenario.specs.Judging.{lines_in, section_now, head_said, group, blocks, last_of, front_of, slaves_of, slaves_said, links_said, when, why_block, why_closes, bad, why_item_read, why_link_read, why_acts, why_keyed, why_words, why_line}
 use Rattle.scenario.proofs.Results.{given_same, moved}
-use Rattle.scenario.proofs.Groups.{at_last, group_new, group_more, at_last_is, last_is, front_is, AreSlaves, slaves_more, all_said}
-use Rattle.scenario.proofs.Kept.{block_key, head_same, few_sections, last_closes, line_item}
+use Rattle.scenario.proofs.Groups.{last_is, front_is, AreSlaves, slaves_more, all_said}
+use Rattle.scenario.proofs.Kept.{head_same, last_closes}
 use Rattle.scenario.specs.declared.keys.HeadKey.{HeadKey}
 use Rattle.scenario.specs.declared.keys.LinkKey.{LinkKey}
-use Rattle.scenario.specs.declared.keys.LinkKey.TheVariants as linkkeys
 use Rattle.scenario.specs.declared.keys.AnyKey.{AnyKey}
 use Rattle.scenario.specs.declared.keys.AnyKey.TheVariants as any
 use Rattle.scenario.specs.declared.heads.HeadItem.{HeadItem}
 use Rattle.scenario.specs.declared.link_words.Link.{Link}
-use Rattle.scenario.specs.declared.link_words.Link.TheVariants as link
 use Rattle.scenario.specs.declared.collected.Links.{Links}
 use Rattle.scenario.specs.declared.readers.Reader.{Reader}
 
@@ -205,14 +198,14 @@ module _ (ls : List (List ℕ)) (r : Reader) (h : Stands ls r) where
   pub closes_bad : (ends : Bool) (section : ℕ) → (section ≡ 2 → ends ≡ true) → why_closes ls ends section ≡ bad (closes r ends section)
   closes_bad ends section last =
       sym (seq_bad (cond (eqb r.section 0 && ltb 0 section) (close_head r) (Ok r)) (λ a. (cond ends (close_block a) (Ok a)) >>= tail section) (or_else (when ends (why_block ls)) (when (ltb (section_now ls) 2 && eqb section 2) (why_slaves (head_said ls) (slaves_said ls))))
-          (λ a e. ap (λ (a : Reader). bad ((cond ends (close_block a) (Ok a)) >>= tail section)) (sym (head_same (eqb r.section 0 && ltb 0 section) r a e))
-              ∙ seq_bad (cond ends (close_block r) (Ok r)) (tail section) (when (ltb (section_now ls) 2 && eqb section 2) (why_slaves (head_said ls) (slaves_said ls)))
-                  (λ b f. tail_bad (ltb b.section 2 && eqb section 2) b section ∙ tail_same ends section b (eqb section 2) refl last f)
-              ∙ ap (λ (o : Option TextWhy). or_else o (when (ltb (section_now ls) 2 && eqb section 2) (why_slaves (head_said ls) (slaves_said ls)))) (ends_bad ends))
-          ∙ ap (λ (o : Option TextWhy). or_else o (or_else (when ends (why_block ls)) (when (ltb (section_now ls) 2 && eqb section 2) (why_slaves (head_said ls) (slaves_said ls)))))
-              (head_bad (eqb r.section 0 && ltb 0 section) r
-               ∙ ap (λ (n : ℕ). when (eqb n 0 && ltb 0 section) (why_head r.head)) h.section
-               ∙ ap (λ (l : List HeadItem). when (eqb (section_now ls) 0 && ltb 0 section) (why_head l)) h.head))
+      (λ a e. ap (λ (a : Reader). bad ((cond ends (close_block a) (Ok a)) >>= tail section)) (sym (head_same (eqb r.section 0 && ltb 0 section) r a e))
+      ∙ seq_bad (cond ends (close_block r) (Ok r)) (tail section) (when (ltb (section_now ls) 2 && eqb section 2) (why_slaves (head_said ls) (slaves_said ls)))
+      (λ b f. tail_bad (ltb b.section 2 && eqb section 2) b section ∙ tail_same ends section b (eqb section 2) refl last f)
+      ∙ ap (λ (o : Option TextWhy). or_else o (when (ltb (section_now ls) 2 && eqb section 2) (why_slaves (head_said ls) (slaves_said ls)))) (ends_bad ends))
+      ∙ ap (λ (o : Option TextWhy). or_else o (or_else (when ends (why_block ls)) (when (ltb (section_now ls) 2 && eqb section 2) (why_slaves (head_said ls) (slaves_said ls)))))
+      (head_bad (eqb r.section 0 && ltb 0 section) r
+      ∙ ap (λ (n : ℕ). when (eqb n 0 && ltb 0 section) (why_head r.head)) h.section
+      ∙ ap (λ (l : List HeadItem). when (eqb (section_now ls) 0 && ltb 0 section) (why_head l)) h.head))
 
   after_by : (ends : Bool) (b : Reader) (section : ℕ) → cond ends (close_block r) (Ok r) ≡ Ok b → After ls r (record b { section = section }) ends section
   after_by true b section e =
@@ -245,11 +238,11 @@ block_acts : (q : Reader) (key : Key) (args : List (List ℕ)) (all : List Item)
     → or_else (why_key (came_before all key) (came (filter_map name_in all)) key) (why_item_read all head slaves (item_of key args)) ≡ bad (take_block q key args)
 block_acts q key args all head slaves h same_head same_slaves =
     sym (bad_unless (why_key (has q.block key) (is_some q.block.name) key) _
-        ∙ ap (or_else (why_key (has q.block key) (is_some q.block.name) key)) (item_bad q.block q.head q.slaves (item_of key args) (λ i. record q { block = put q.block i }) all h)
-        ∙ ap (λ (b : Bool). or_else (why_key b (is_some q.block.name) key) (why_item_read all q.head q.slaves (item_of key args))) (sym (same_has all q.block h key))
-        ∙ ap (λ (b : Bool). or_else (why_key (came_before all key) b key) (why_item_read all q.head q.slaves (item_of key args))) (sym (same_named all q.block h))
-        ∙ ap (λ (l : List HeadItem). or_else (why_key (came_before all key) (came (filter_map name_in all)) key) (why_item_read all l q.slaves (item_of key args))) same_head
-        ∙ ap (λ (l : List SlaveDesc). or_else (why_key (came_before all key) (came (filter_map name_in all)) key) (why_item_read all head l (item_of key args))) same_slaves)
+    ∙ ap (or_else (why_key (has q.block key) (is_some q.block.name) key)) (item_bad q.block q.head q.slaves (item_of key args) (λ i. record q { block = put q.block i }) all h)
+    ∙ ap (λ (b : Bool). or_else (why_key b (is_some q.block.name) key) (why_item_read all q.head q.slaves (item_of key args))) (sym (same_has all q.block h key))
+    ∙ ap (λ (b : Bool). or_else (why_key (came_before all key) b key) (why_item_read all q.head q.slaves (item_of key args))) (sym (same_named all q.block h))
+    ∙ ap (λ (l : List HeadItem). or_else (why_key (came_before all key) (came (filter_map name_in all)) key) (why_item_read all l q.slaves (item_of key args))) same_head
+    ∙ ap (λ (l : List SlaveDesc). or_else (why_key (came_before all key) (came (filter_map name_in all)) key) (why_item_read all head l (item_of key args))) same_slaves)
 
 link_bad : (slaves : List SlaveDesc) (links : Links) (x : Result Link TextWhy) (next : Link → Reader) → bad (x >>= λ l. unless (why_link slaves links l) (Ok (next l))) ≡ why_link_read slaves links x
 link_bad slaves links (Err w) next = refl
@@ -261,16 +254,16 @@ why_linking slaves links head key args = or_else (refused_if (is_chaos key && is
 link_acts : (q : Reader) (key : LinkKey) (args : List (List ℕ)) (slaves : List SlaveDesc) (links : Links) (head : List HeadItem) → q.slaves ≡ slaves → q.links ≡ links → q.head ≡ head → why_linking slaves links head key args ≡ bad (take_link q key args)
 link_acts q key args slaves links head same_slaves same_links same_head =
     sym (bad_unless (refused_if (is_chaos key && is_some q.links.net.chaos) why.Repeated) _
-        ∙ ap (or_else (refused_if (is_chaos key && is_some q.links.net.chaos) why.Repeated)) (link_bad q.slaves q.links (link_of q.slaves (runs_said q.head) key args) (λ l. record q { links = put_link q.links l }))
-        ∙ ap (λ (s : List SlaveDesc). why_linking s q.links q.head key args) same_slaves
-        ∙ ap (λ (l : Links). why_linking slaves l q.head key args) same_links
-        ∙ ap (λ (l : List HeadItem). why_linking slaves links l key args) same_head)
+    ∙ ap (or_else (refused_if (is_chaos key && is_some q.links.net.chaos) why.Repeated)) (link_bad q.slaves q.links (link_of q.slaves (runs_said q.head) key args) (λ l. record q { links = put_link q.links l }))
+    ∙ ap (λ (s : List SlaveDesc). why_linking s q.links q.head key args) same_slaves
+    ∙ ap (λ (l : Links). why_linking slaves l q.head key args) same_links
+    ∙ ap (λ (l : List HeadItem). why_linking slaves links l key args) same_head)
 
 head_acts : (q : Reader) (key : HeadKey) (args : List (List ℕ)) (head : List HeadItem) → q.head ≡ head → or_else (refused_if (is_said key head) why.Repeated) (bad (head_item key args)) ≡ bad (take_head q key args)
 head_acts q key args head same =
     sym (bad_unless (refused_if (is_said key q.head) why.Repeated) _
-        ∙ ap (or_else (refused_if (is_said key q.head) why.Repeated)) (bad_then (head_item key args) (λ i. record q { head = q.head ++ i ∷ [] }))
-        ∙ ap (λ (l : List HeadItem). or_else (refused_if (is_said key l) why.Repeated) (bad (head_item key args))) same)
+    ∙ ap (or_else (refused_if (is_said key q.head) why.Repeated)) (bad_then (head_item key args) (λ i. record q { head = q.head ++ i ∷ [] }))
+    ∙ ap (λ (l : List HeadItem). or_else (refused_if (is_said key l) why.Repeated) (bad (head_item key args))) same)
 
 module _ (ls : List (List ℕ)) (r : Reader) (h : Stands ls r) where
   -- the open block, as a line that is no slave line finds it

@@ -1,5 +1,5 @@
 -- The judging of a line of a scenario, after the lines before it: all that counts of these is found by their keys.
-use Rattle.std.specs.Prelude.{◌≡◌, ℕ, ℤ, ◌-◌, Bool, true, false, not, ◌&&◌, ◌==◌, nat_lt, List, [], ◌∷◌, ◌++◌, map, take, filter, is_some, if◌then◌else◌, Option, Some, None, Result, Ok, Err, slice_get}
+use Rattle.std.specs.Prelude.{ℕ, ◌-◌, Bool, true, false, not, ◌&&◌, ◌==◌, nat_lt, List, [], ◌∷◌, map, take, filter, is_some, if◌then◌else◌, Option, Some, None, Result, Ok, Err, slice_get}
 use Rattle.std.specs.List.{filter_map}
 use Rattle.std.specs.Result.{result_ok}
 use Rattle.std.specs.Str.{is_utf8}
@@ -10,8 +10,6 @@ use Rattle.text_lines.specs.declared.reasons.TextWhy.{TextWhy}
 use Rattle.text_lines.specs.declared.reasons.TextWhy.TheVariants as why
 use Rattle.text_lines.specs.declared.reasons.TextRefused.{TextRefused}
 use Rattle.text_lines.specs.declared.reasons.TextRefused.TheVariants as refusals
-use Rattle.dcp_types.specs.declared.addresses.Address.{Address}
-use Rattle.fixed_models.specs.declared.kinds.Kind.{Kind}
 use Rattle.fixed_models.specs.declared.kinds.Kind.TheVariants.{Const}
 use Rattle.slave_desc.specs.Items.{item_of}
 use Rattle.slave_desc.specs.Judging.{name_in, uuid_in, address_in, model_in, busy_in, heartbeat_in, resolution_in, input_in, output_in, came, came_before, why_key, why_item, why_end, or_else, refused_if, items_in}
