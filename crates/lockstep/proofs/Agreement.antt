@@ -1,5 +1,5 @@
 -- What a moment shows depends on the rows before it alone.
-use Rattle.std.proofs.Common.{◌≡◌, ℕ, zero, suc, ◌+◌, ◌-◌, ◌*◌, ◌/◌, ◌<◌, ◌≤◌, Some, None, Option, Ok, Err, Result, List, [], ◌∷◌, ◌++◌, map, length, refl, sym, ◌∙◌, ap, arith, ℤ, pos, get_or}
+use Rattle.std.proofs.Common.{◌≡◌, ℕ, zero, suc, ◌+◌, ◌*◌, ◌/◌, ◌<◌, ◌≤◌, Some, None, Option, Ok, Err, Result, List, [], ◌∷◌, map, length, refl, ◌∙◌, ap, arith, ℤ, pos, get_or}
 use Rattle.std.specs.List.{range_with_len}
 use Rattle.dcp_types.specs.declared.fault_codes.FaultCode.{FaultCode}
 use Rattle.fixed_models.specs.Steps.{model_step}
@@ -22,7 +22,7 @@ renewed_before q k = grind arith
 pub read-agree : (sc : Scenario) (rows others : List (List ℤ)) (r k : ℕ) (w : Option Wire) →
     Agree (place sc.steps r k + 1) rows others → read sc rows r k w ≡ read sc others r k w
 read-agree sc rows others r k None h = refl
-read-agree sc rows others r k (Some w) h = 
+read-agree sc rows others r k (Some w) h =
     let q = interval sc.every w.from w.to in
     let at = place sc.steps r (q * (k / q)) in
     let le : q * (k / q) ≤ k = renewed_before q k in
@@ -52,7 +52,6 @@ after-agree sc rows others s d r k (Err code) h = refl
 -- a state depends on the rows before its place
 pub state-agree : (sc : Scenario) (rows others : List (List ℤ)) (s : ℕ) (d : SlaveDesc) (r k : ℕ) →
     Agree (place sc.steps r k) rows others → state sc rows s d r k ≡ state sc others s d r k
-
 state-agree sc rows others s d r zero h = refl
 state-agree sc rows others s d r (suc k) h =
     let at = below sc rows others r k h in

@@ -1,5 +1,5 @@
 -- Each scenario has a reference, and no other.
-use Rattle.std.proofs.Common.{◌≡◌, ℕ, zero, suc, ◌+◌, ◌-◌, ◌*◌, ◌/◌, ◌%◌, ◌<◌, ◌≤◌, ◌⊎◌, inl, inr, Some, None, Option, Ok, Err, Result, List, [], ◌∷◌, ◌++◌, length, refl, sym, ◌∙◌, ap, subst, arith, ℤ, get_or, length-append, below_more}
+use Rattle.std.proofs.Common.{◌≡◌, ℕ, zero, suc, ◌+◌, ◌-◌, ◌*◌, ◌/◌, ◌%◌, ◌<◌, ◌≤◌, Some, None, Option, Ok, Err, Result, List, [], ◌∷◌, ◌++◌, length, refl, sym, ◌∙◌, ap, subst, arith, ℤ, get_or, below_more}
 use Rattle.std.proofs.lemmas.Nat.{div-mul-add, mod-mul-add}
 use Rattle.std.proofs.lemmas.List.{get_or_append_left, get_or_push, length_push, ext_get_or}
 use Rattle.dcp_types.specs.declared.fault_codes.FaultCode.{FaultCode}
@@ -53,9 +53,9 @@ same_moment sc r k r' k' m m' e =
     let lt : k < w = omega arith in
     let lt' : k' < w = omega arith in
     let runs : r - 1 ≡ r' - 1 =
-        sym (div-mul-add (r - 1) w k lt) ∙ ap (λ (x : ℕ). x / w) e ∙ div-mul-add (r' - 1) w k' lt' in
+    sym (div-mul-add (r - 1) w k lt) ∙ ap (λ (x : ℕ). x / w) e ∙ div-mul-add (r' - 1) w k' lt' in
     let steps : k ≡ k' =
-        sym (mod-mul-add (r - 1) w k lt) ∙ ap (λ (x : ℕ). x % w) e ∙ mod-mul-add (r' - 1) w k' lt' in
+    sym (mod-mul-add (r - 1) w k lt) ∙ ap (λ (x : ℕ). x % w) e ∙ mod-mul-add (r' - 1) w k' lt' in
     (omega arith, steps)
 
 not_above : (m n : ℕ) → (m < n → ⊥) → n ≤ m
@@ -67,7 +67,6 @@ ends_within sc rows None h = omega (arith, h)
 ends_within sc rows (Some fault) h = let lt = within_all sc fault.run fault.step h.moment in omega (arith, h.behind, lt)
 
 module _ (sc : Scenario) (rows others : List (List ℤ)) (fault fault' : Option RefFault) (one : IsReference sc rows fault) (two : IsReference sc others fault') where
-
   row_same : (n : ℕ) → n < length rows → n < length others → Agree n rows others → get_or rows n [] ≡ get_or others n []
   row_same n lt lt' before =
       let r = run_at sc n in
@@ -91,7 +90,7 @@ module _ (sc : Scenario) (rows others : List (List ℤ)) (fault fault' : Option 
   ends_first None h lt = let total = ends_within sc others fault' two.ends in omega (arith, h, total)
   ends_first (Some f) h lt =
       let same : row sc rows f.run f.step ≡ row sc others f.run f.step =
-          row-agree sc rows others f.run f.step (λ i l. agree_to (length rows) (omega arith) (omega arith) i (omega (arith, h.behind))) in
+      row-agree sc rows others f.run f.step (λ i l. agree_to (length rows) (omega arith) (omega arith) i (omega (arith, h.behind))) in
       let there = two.each f.run f.step h.moment (omega (arith, h.behind)) in
       let here = h.faults in
       cc
@@ -139,19 +138,19 @@ pub EachRow-push : (sc : Scenario) (rows : List (List ℤ)) (vs : List ℤ) (r k
 EachRow-push sc rows vs r k m at now each r' k' m' lt =
     let P : ℕ → Type 0 = λ i. place sc.steps r' k' ≡ i → row sc (rows ++ vs ∷ []) r' k' ≡ Ok (get_or (rows ++ vs ∷ []) i []) in
     let last : P (length rows) = λ e.
-        let same = same_moment sc r' k' r k m' m (e ∙ at) in
-        let run = same.0 in
-        let step = same.1 in
-        let new : get_or (rows ++ vs ∷ []) (length rows) [] ≡ vs = get_or_push rows vs [] (length rows) refl in
-        let alike = row-agree sc (rows ++ vs ∷ []) rows r k (agree_push rows vs (place sc.steps r k) (omega arith)) in
-        let moved : row sc (rows ++ vs ∷ []) r' k' ≡ row sc (rows ++ vs ∷ []) r k = cc in
-        moved ∙ alike ∙ now ∙ ap (λ (x : List ℤ). Ok x) (sym new) in
+    let same = same_moment sc r' k' r k m' m (e ∙ at) in
+    let run = same.0 in
+    let step = same.1 in
+    let new : get_or (rows ++ vs ∷ []) (length rows) [] ≡ vs = get_or_push rows vs [] (length rows) refl in
+    let alike = row-agree sc (rows ++ vs ∷ []) rows r k (agree_push rows vs (place sc.steps r k) (omega arith)) in
+    let moved : row sc (rows ++ vs ∷ []) r' k' ≡ row sc (rows ++ vs ∷ []) r k = cc in
+    moved ∙ alike ∙ now ∙ ap (λ (x : List ℤ). Ok x) (sym new) in
     let earlier : (i : ℕ) → i < length rows → P i = λ i below e.
-        let old = each r' k' m' (omega (arith, e)) in
-        let kept : get_or (rows ++ vs ∷ []) i [] ≡ get_or rows i [] = agree_push rows vs (length rows) (omega arith) i below in
-        let alike = row-agree sc (rows ++ vs ∷ []) rows r' k' (agree_push rows vs (place sc.steps r' k') (omega (arith, e))) in
-        let here : get_or rows (place sc.steps r' k') [] ≡ get_or rows i [] = ap (λ (x : ℕ). get_or rows x []) e in
-        alike ∙ old ∙ ap (λ (x : List ℤ). Ok x) (here ∙ sym kept) in
+    let old = each r' k' m' (omega (arith, e)) in
+    let kept : get_or (rows ++ vs ∷ []) i [] ≡ get_or rows i [] = agree_push rows vs (length rows) (omega arith) i below in
+    let alike = row-agree sc (rows ++ vs ∷ []) rows r' k' (agree_push rows vs (place sc.steps r' k') (omega (arith, e))) in
+    let here : get_or rows (place sc.steps r' k') [] ≡ get_or rows i [] = ap (λ (x : ℕ). get_or rows x []) e in
+    alike ∙ old ∙ ap (λ (x : List ℤ). Ok x) (here ∙ sym kept) in
     let length_is = length_push rows vs in
     below_more P (length rows) earlier last (place sc.steps r' k') (omega (arith, length_is)) refl
 
@@ -181,7 +180,7 @@ grown_row sc n lt rows each at (Err fault) now =
     let m : IsMoment sc fault.run fault.step = rw (run, step) (moment_at sc n lt) in
     let place_is : place sc.steps fault.run fault.step ≡ n = rw (run, step) (place_at sc n) in
     let faults : row sc rows fault.run fault.step ≡ Err fault =
-        ap (λ (x : ℕ). row sc rows x fault.step) run ∙ ap (λ (x : ℕ). row sc rows (run_at sc n) x) step ∙ now in
+    ap (λ (x : ℕ). row sc rows x fault.step) run ∙ ap (λ (x : ℕ). row sc rows (run_at sc n) x) step ∙ now in
     record { rows = rows; fault = Some fault; each = each; to = record { moment = m; behind = at ∙ sym place_is; faults = faults } }
 
 grown_more : (sc : Scenario) (n : ℕ) → n < sc.runs * (sc.steps + 1) → (rows : List (List ℤ)) (fault : Option RefFault) → EachRow sc rows → GrownTo sc n rows fault → Grown sc (suc n)

@@ -1,5 +1,3 @@
 pub mod Agreement
-pub mod Cuts
-
 pub mod Existence
-pub mod Reading
+mod Example

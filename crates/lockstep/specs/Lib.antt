@@ -1,5 +1,3 @@
-pub mod Cut
-pub mod Feeds
 pub mod Parameters
 pub mod Wiring
 pub mod Lockstep

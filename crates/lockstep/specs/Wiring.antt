@@ -1,7 +1,8 @@
 -- Where an input takes its values from, and where an output stands in a row.
-use Rattle.std.specs.Prelude.{ℕ, ◌+◌, ◌-◌, ◌==◌, ◌&&◌, Option, Some, None, List, length, take, find, sum_by}
+use Rattle.std.specs.Prelude.{ℕ, ◌+◌, ◌-◌, ◌==◌, ◌&&◌, Option, Some, None, List, take, find}
 use Rattle.scenario.specs.declared.scenarios.Wire.{Wire}
 use Rattle.scenario.specs.declared.scenarios.Every.{Every}
+use Rattle.scenario.specs.Limits.{total_outputs}
 use Rattle.slave_desc.specs.declared.descriptions.SlaveDesc.{SlaveDesc}
 
 -- the wire into input i of slave s
@@ -20,10 +21,6 @@ q_of (Some e) = e.q
 abbrev pub interval : List Every → (a b : ℕ) → ℕ
 interval every a b = q_of (every_between every a b)
 
--- how many outputs slaves have together
-abbrev pub width : List SlaveDesc → ℕ
-width slaves = sum_by (λ d. length d.outputs) slaves
-
 -- output o of slave s stands in a row behind all outputs of the slaves before
 abbrev pub column : List SlaveDesc → (s o : ℕ) → ℕ
-column slaves s o = width (take (s - 1) slaves) + o
+column slaves s o = total_outputs (take (s - 1) slaves) + o

@@ -10,5 +10,4 @@ use scenario::Scenario;
 pub fn one_reference(_scenario: &Scenario)
     ensures exists { (rows : List (List ℤ)) × (fault : Option RefFault) × IsReference _scenario.now rows fault }
     ensures unique { (rows others : List (List ℤ)) → (fault fault' : Option RefFault) → IsReference _scenario.now rows fault → IsReference _scenario.now others fault' → (rows ≡ others) × (fault ≡ fault') }
-{
-}
+{}
