@@ -6,6 +6,17 @@
 //! memory.
 #![tactic(auto)]
 
+mod arithmetic;
+mod delays;
+mod filters;
 mod kinds;
+mod machines;
+mod models;
+mod parameters;
+mod ports;
+mod processes;
+mod runs;
+mod sources;
 
 pub use kinds::{Kind, has_ports, takes};
+pub use models::{BadParameters, Model, ModelRefused};
