@@ -3,7 +3,6 @@ use Rattle.std.specs.Prelude.{ℕ, Bool, true, false, List, if◌then◌else◌,
 use Rattle.std.specs.Option.{option_map}
 use Rattle.std.specs.Str.{bytes_eq}
 use Rattle.slave_desc.specs.Items.{key_of}
-use Rattle.slave_desc.specs.declared.keys.Key.{Key}
 use Rattle.slave_desc.specs.declared.keys.Key.TheVariants as keys
 use Rattle.scenario.specs.declared.keys.HeadKey.{HeadKey}
 use Rattle.scenario.specs.declared.keys.HeadKey.TheVariants as heads

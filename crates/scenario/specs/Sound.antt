@@ -1,5 +1,5 @@
 -- What is known of a scenario that a text gave.
-use Rattle.std.specs.Prelude.{◌≡◌, ℕ, ◌+◌, ◌≤◌, ◌<◌, ◌==◌, ◌&&◌, true, false, List, ◌++◌, length, map, take, All, AllPairs}
+use Rattle.std.specs.Prelude.{◌≡◌, ℕ, ◌≤◌, ◌<◌, ◌==◌, ◌&&◌, true, false, List, ◌++◌, length, map, take, All, AllPairs}
 use Rattle.std.specs.List.{list_any}
 use Rattle.dcp_types.specs.declared.limits.Limits.{Limits}
 use Rattle.slave_desc.specs.Canonical.{IsDesc}

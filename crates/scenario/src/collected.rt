@@ -4,17 +4,15 @@ ghost use Rattle.std.specs.Prelude.{◌≡◌, ◌==◌, ◌&&◌, [], None, OnO
 ghost use Rattle.std.specs.List.{list_any};
 ghost use Rattle.scenario.specs.Checks.{type_at, same_input, why_wire, changed_by, changed, setting_in, takes_at, parameters_now, why_change, why_setting, why_rerun, why_every, why_net, why_link};
 
-use std::alloc::Global;
-
+use crate::link_words::{Link, inputs_at, outputs_at, parameters_at, slave_at};
+use crate::lists::{Intervals, Reruns, Settings, Wires};
+use crate::scenarios::{Every, Rerun, Setting, Wire};
 use dcp_io::{Chaos, NetLines, NetPlan};
 use dcp_types::OutOfMemory;
 use fixed_models::takes;
 use slave_desc::{Port, SlaveDesc};
+use std::alloc::Global;
 use text_lines::TextWhy;
-
-use crate::link_words::{Link, inputs_at, outputs_at, parameters_at, slave_at};
-use crate::lists::{Intervals, Reruns, Settings, Wires};
-use crate::scenarios::{Every, Rerun, Setting, Wire};
 
 /// What the lines of the links so far say.
 #[derive(Debug, Drop)]
@@ -228,7 +226,12 @@ impl Links {
     }
 
     /// What is wrong with the whole line that says this, after the lines of the links before it.
-    pub fn check(&self, alloc: Global, slaves: &[SlaveDesc], link: Link) -> Result<Option<TextWhy>, OutOfMemory>
+    pub fn check(
+        &self,
+        alloc: Global,
+        slaves: &[SlaveDesc],
+        link: Link,
+    ) -> Result<Option<TextWhy>, OutOfMemory>
         ensures { IfOk result (λ o. o ≡ why_link slaves.now self.now link) }
     {
         match link {

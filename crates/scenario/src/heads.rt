@@ -6,12 +6,10 @@ ghost use Rattle.text_lines.specs.Reasons.{Gives};
 ghost use Rattle.scenario.specs.Keys.{head_code};
 ghost use Rattle.scenario.specs.Heads.{least, greatest, number_item, protocol_of, head_item, item_key, is_said, number_in, master_in, protocol_in, first_said};
 
-use std::alloc::Global;
-
-use dcp_types::{Address, Protocol};
-use text_lines::{LineRefused, TextWhy, address, number_from, one_word};
-
 use crate::keys::HeadKey;
+use dcp_types::{Address, Protocol};
+use std::alloc::Global;
+use text_lines::{LineRefused, TextWhy, address, number_from, one_word};
 
 /// What a line of the head says.
 #[derive(Clone, Copy, Debug, PartialEq, Eq)]

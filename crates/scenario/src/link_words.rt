@@ -5,16 +5,12 @@ ghost use Rattle.std.specs.Str.{bytes_eq};
 ghost use Rattle.text_lines.specs.Reasons.{Gives};
 ghost use Rattle.scenario.specs.Links.{place_of, slave_of, index_of, end_of, hex_value, type_of, slave_at, outputs_at, inputs_at, parameters_at, wire_of, setting_of, rerun_of, every_of, message_of, drop_of, copy_of, hold_of, chaos_of, link_of};
 
-use std::alloc::Global;
-
-use dcp_io::{Chaos, NetLine};
-use slave_desc::{Port, SlaveDesc};
-use text_lines::{
-    LineRefused, TextWhy, four_words, int64, name, number, number_from, three_words,
-};
-
 use crate::keys::LinkKey;
 use crate::scenarios::{Every, Rerun, Setting, Wire};
+use dcp_io::{Chaos, NetLine};
+use slave_desc::{Port, SlaveDesc};
+use std::alloc::Global;
+use text_lines::{LineRefused, TextWhy, four_words, int64, name, number, number_from, three_words};
 
 /// What a line of the links says.
 #[derive(Clone, Copy, Debug, PartialEq, Eq)]
@@ -180,7 +176,12 @@ fn setting_of(alloc: Global, slaves: &[SlaveDesc], args: &[&[u8]]) -> Result<Set
     })
 }
 
-fn rerun_of(alloc: Global, slaves: &[SlaveDesc], runs: u32, args: &[&[u8]]) -> Result<Rerun, LineRefused>
+fn rerun_of(
+    alloc: Global,
+    slaves: &[SlaveDesc],
+    runs: u32,
+    args: &[&[u8]],
+) -> Result<Rerun, LineRefused>
     requires { length slaves.now ≤ 16 }
     ensures { Gives (λ w. w) result (rerun_of slaves.now runs (map (λ w. w.now) args.now)) }
 {
@@ -213,7 +214,12 @@ fn every_of(alloc: Global, slaves: &[SlaveDesc], args: &[&[u8]]) -> Result<Every
 }
 
 /// The messages that a net line is about: an end, a type code, and which of them.
-fn message_of(count: usize, end: &[u8], type_id: &[u8], nth: &[u8]) -> Result<(u8, u8, u32), TextWhy>
+fn message_of(
+    count: usize,
+    end: &[u8],
+    type_id: &[u8],
+    nth: &[u8],
+) -> Result<(u8, u8, u32), TextWhy>
     requires { count ≤ 16 }
     ensures { result ≡ message_of count end.now type_id.now nth.now }
 {
@@ -229,11 +235,7 @@ fn drop_of(count: usize, args: &[&[u8]]) -> Result<NetLine, TextWhy>
 {
     let (end, type_id, nth) = three_words(args)?;
     let (end, type_id, nth) = message_of(count, end, type_id, nth)?;
-    Ok(NetLine::Drop {
-        end,
-        type_id,
-        nth,
-    })
+    Ok(NetLine::Drop { end, type_id, nth })
 }
 
 fn copy_of(count: usize, args: &[&[u8]]) -> Result<NetLine, TextWhy>

@@ -2,14 +2,12 @@
 
 ghost use Rattle.std.specs.Prelude.{◌≡◌, ◌++◌, ◌∷◌, [], OnOk, IfErr, length, ◌≤◌, ◌<◌, nat_le};
 
-use std::alloc::Global;
-use std::marker::Model;
-
-use dcp_types::OutOfMemory;
-use slave_desc::SlaveDesc;
-
 use crate::heads::HeadItem;
 use crate::scenarios::{Every, Rerun, Setting, Wire};
+use dcp_types::OutOfMemory;
+use slave_desc::SlaveDesc;
+use std::alloc::Global;
+use std::marker::Model;
 
 /// Slaves in order, at most 16.
 #[derive(Debug, Drop)]

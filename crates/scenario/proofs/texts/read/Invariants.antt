@@ -1,7 +1,7 @@
 use Rattle.std.proofs.Common.{◌≡◌, ◌+◌, map, drop}
 use Rattle.text_lines.specs.Runs.{run_of, line_number}
 use Rattle.scenario.specs.Machine.{take_line, finished, start}
-use Rattle.scenario.proofs.texts.read_scenario.Given as goal
+use Rattle.scenario.proofs.texts.read.Given as goal
 
 abbrev pub invariant-loop-line : goal.invariant-loop-line
 invariant-loop-line l = record {
