@@ -1,0 +1,5 @@
+pub mod Agreement
+pub mod Cuts
+
+pub mod Existence
+pub mod Reading

@@ -1,0 +1,5 @@
+pub mod Cut
+pub mod Feeds
+pub mod Parameters
+pub mod Wiring
+pub mod Lockstep
