@@ -99,7 +99,7 @@ takes_own (d ∷ ds) all s is =
 
 -- ---- what a line closes
 
-head_same : (b : Bool) (r a : Reader) → cond b (close_head r) (Ok r) ≡ Ok a → r ≡ a
+pub head_same : (b : Bool) (r a : Reader) → cond b (close_head r) (Ok r) ≡ Ok a → r ≡ a
 head_same true r a e = given_same r a (unless_ok (why_head r.head) (Ok r) a e).1
 head_same false r a e = given_same r a e
 
@@ -195,7 +195,7 @@ head_keeps r q key args h at e =
       bounded = h.bounded;
     })
 
-line_item : (line w : List ℕ) (args : List (List ℕ)) (key : Key) (i : Item) → words line ≡ w ∷ args → is_skipped (w ∷ args) ≡ false → key_of w ≡ Some key → item_of key args ≡ Ok i → item_in line ≡ Some i
+pub line_item : (line w : List ℕ) (args : List (List ℕ)) (key : Key) (i : Item) → words line ≡ w ∷ args → is_skipped (w ∷ args) ≡ false → key_of w ≡ Some key → item_of key args ≡ Ok i → item_in line ≡ Some i
 line_item line w args key i e skip k read =
     ap (λ (ws : List (List ℕ)). cond (is_skipped ws) None (item_of_words ws)) e
     ∙ ap (λ (b : Bool). cond b None (item_of_words (w ∷ args))) skip
@@ -243,7 +243,7 @@ link_keeps r q key args h at e =
       bounded = h.bounded;
     })
 
-block_key : (h : Option HeadKey) (b : Option Key) (l : Option LinkKey) (k : Key) → or_some (option_map (λ k. any.Head k) h) (or_some (option_map (λ k. any.Block k) b) (option_map (λ k. any.Link k) l)) ≡ Some (any.Block k) → b ≡ Some k
+pub block_key : (h : Option HeadKey) (b : Option Key) (l : Option LinkKey) (k : Key) → or_some (option_map (λ k. any.Head k) h) (or_some (option_map (λ k. any.Block k) b) (option_map (λ k. any.Link k) l)) ≡ Some (any.Block k) → b ≡ Some k
 block_key (Some h) b l k e = cc
 block_key None (Some b) l k e = cc
 block_key None None (Some l) k e = cc
@@ -254,12 +254,12 @@ act_keeps r q (any.Head key) line w args h at said skip k e = head_keeps r q key
 act_keeps r q (any.Block key) line w args h at said skip k e = block_takes r q key line w args h at said skip (block_key (head_key w) (key_of w) (link_key w) key k) e
 act_keeps r q (any.Link key) line w args h at said skip k e = link_keeps r q key args h at e
 
-few_sections : (key : AnyKey) → section_of key ≤ 2
+pub few_sections : (key : AnyKey) → section_of key ≤ 2
 few_sections (any.Head k) = omega arith
 few_sections (any.Block k) = omega arith
 few_sections (any.Link k) = omega arith
 
-last_closes : (key : AnyKey) → section_of key ≡ 2 → closes_block key ≡ true
+pub last_closes : (key : AnyKey) → section_of key ≡ 2 → closes_block key ≡ true
 last_closes (any.Head k) e = absurd (omega arith)
 last_closes (any.Block k) e = absurd (omega arith)
 last_closes (any.Link k) e = refl
@@ -290,11 +290,10 @@ end_gives : (r : Reader) (s : Scenario) → Sound r → finished r ≡ Ok s → 
 end_gives r s h e =
     let c = bind_ok (closes r true 2) _ s e in
     let t = closes_keeps r c.0 true 2 h h.bounded (omega arith) (λ _. refl) c.1 in
-    let m = bind_ok (or_why (first_said master_in c.0.head) why.Missing) _ s c.2 in
     let k = t.0 in
     let ready = k.ready t.1 in
     let runs = first_fits heads.Runs c.0.head 1 k.head (omega arith, omega arith) in
-    moved IsScenario (scenario_of c.0.head m.0 c.0.slaves c.0.links) s m.2 (record {
+    moved IsScenario (scenario_of c.0.head c.0.slaves c.0.links) s c.2 (record {
       steps = (first_fits heads.Steps c.0.head 0 k.head (omega arith, omega arith)).1;
       micro = first_fits heads.Micro c.0.head 1 k.head (omega arith, omega arith);
       runs = runs;

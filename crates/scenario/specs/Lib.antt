@@ -5,3 +5,5 @@ pub mod Checks
 pub mod Limits
 pub mod Machine
 pub mod Sound
+pub mod Judging
+pub mod Reads

@@ -145,13 +145,13 @@ take_line r line =
     else (if is_skipped (words line) then Ok r else take_words r (words line))
 
 -- the scenario that a head, slaves and links say
-abbrev pub scenario_of : List HeadItem → Address → List SlaveDesc → Links → Scenario
-scenario_of head master slaves links = record {
+abbrev pub scenario_of : List HeadItem → List SlaveDesc → Links → Scenario
+scenario_of head slaves links = record {
   steps = steps_said head;
   micro = unwrap_or (first_said (number_in heads.Micro) head) 1;
   runs = runs_said head;
   protocol = unwrap_or (first_said protocol_in head) Udp;
-  master = master;
+  master = unwrap_or (first_said master_in head) (record { ip = 0; port = 0 });
   limits = limits_said head;
   slaves = slaves;
   wires = links.wires;
@@ -165,5 +165,4 @@ scenario_of head master slaves links = record {
 abbrev pub finished : Reader → Result Scenario TextWhy
 finished r = do
   q ← closes r true 2
-  master ← or_why (first_said master_in q.head) why.Missing
-  Ok (scenario_of q.head master q.slaves q.links)
+  Ok (scenario_of q.head q.slaves q.links)

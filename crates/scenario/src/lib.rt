@@ -17,7 +17,7 @@ mod texts;
 
 pub use lists::{Intervals, Reruns, Settings, Slaves, Wires};
 pub use scenarios::{Every, Rerun, Scenario, Setting, Wire};
-pub use texts::read_scenario;
+pub use texts::{read_scenario, reads_or_refused};
 
 #[cfg(test)]
 mod tests;

@@ -304,7 +304,8 @@ impl Reader {
             links,
         } = self;
         let said = head.as_slice();
-        let master = master_said(said).ok_or(LineRefused::Why(TextWhy::Missing))?;
+        // A head that closed has the line.
+        let master = master_said(said).unwrap_or(Address { ip: 0, port: 0 });
         let steps = steps_said(said);
         let micro = number_said(HeadKey::Micro, said).unwrap_or(1);
         let runs = runs_said(said);

@@ -1,11 +1,14 @@
 //! Reads a scenario.
 
-ghost use Rattle.std.specs.Prelude.{IfOk};
+ghost use Rattle.std.specs.Prelude.{Ok, IfErr, IfOk};
 ghost use Rattle.std.specs.Str.Lines.{lines};
 ghost use Rattle.text_lines.specs.Reasons.{GivesText};
 ghost use Rattle.text_lines.specs.Runs.{run_of};
 ghost use Rattle.scenario.specs.Machine.{start, take_line, finished};
+ghost use Rattle.scenario.specs.Judging.{IsFirstBad};
+ghost use Rattle.scenario.specs.Reads.{Reads, ReadsOrRefused, NeverBoth, OneValue, OneFault};
 ghost use Rattle.scenario.specs.Sound.{IsScenario};
+ghost use Rattle.scenario.specs.declared.scenarios.Scenario.{Scenario};
 
 use crate::readers::Reader;
 use crate::scenarios::Scenario;
@@ -38,10 +41,24 @@ fn read(alloc: Global, text: &[u8]) -> Result<Scenario, TextRefused>
 
 /// The scenario that a text is, or its first fault.
 pub fn read_scenario(alloc: Global, text: &[u8]) -> Result<Scenario, TextRefused>
-    ensures exact { GivesText result (run_of take_line finished 1 start (lines text.now)) }
+    ensures ok { IfOk result (λ s. Reads text.now s) }
 
     // What was read is in range: each slave, port, setting and interval that it names is there.
     ensures range { IfOk result (λ s. IsScenario s) }
+
+    // What reads is read, unless memory runs out.
+    ensures only { (s : Scenario) → Reads text.now s → GivesText result (Ok s) }
+
+    // Else the fault is the first line that is refused.
+    ensures fault { IfErr result (λ e. IsFirstBad text.now e) }
 {
     read(alloc, text)
 }
+
+/// The law of the grammar: each text is one scenario, or has one first line that is refused.
+pub fn reads_or_refused()
+    ensures either { ReadsOrRefused }
+    ensures never_both { NeverBoth }
+    ensures one_value { OneValue }
+    ensures one_fault { OneFault }
+{}
