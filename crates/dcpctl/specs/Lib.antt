@@ -3,6 +3,7 @@ pub mod Commands
 pub mod Inputs
 pub mod Outputs
 pub mod Refusals
+pub mod Decoding
 pub mod Describing
 pub mod Waiting
 pub mod Spools

@@ -6,6 +6,10 @@ use Rattle.dcpctl.specs.Inputs.{limit}
 abbrev pub line_refusal : ℕ → List ℕ → List ℕ
 line_refusal line word = codes "input: line " ++ (decimal line ++ (codes " " ++ (word ++ codes "\n")))
 
+-- the place in bytes that are refused, and the word that says why
+abbrev pub byte_refusal : ℕ → List ℕ → List ℕ
+byte_refusal at word = codes "input: byte " ++ (decimal at ++ (codes " " ++ (word ++ codes "\n")))
+
 -- the line of a text that is longer than an input may be
 abbrev pub past_limit : List ℕ
 past_limit = codes "input: line 0 LIMIT\n"

@@ -6,6 +6,8 @@ ghost use Rattle.dcpctl.specs.Commands.{command_word, IsWord};
 /// What the program can be asked for.
 #[derive(Clone, Copy, Debug, PartialEq, Eq)]
 pub enum Command {
+    /// Prints the message whose bytes are the input.
+    Decode,
     /// Prints the canonical text of a description.
     Describe,
 }
@@ -15,6 +17,9 @@ impl Command {
     pub fn from_word(word: &str) -> Option<Command>
         ensures { MatchOption result (IsWord word.now → ⊥) (λ command. word.now ≡ command_word command) }
     {
+        if word == "decode" {
+            return Some(Command::Decode);
+        }
         if word == "describe" {
             return Some(Command::Describe);
         }

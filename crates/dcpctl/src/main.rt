@@ -5,6 +5,7 @@
 #![tactic(auto)]
 
 mod commands;
+mod decoding;
 mod describing;
 mod inputs;
 mod outputs;

@@ -2,7 +2,7 @@
 
 ghost use Rattle.std.specs.Prelude.{◌≡◌, ℕ, List, Some, false, IfOk, string_bytes};
 ghost use Rattle.dcpctl.specs.Answers.{ComesBeforeWriting, Judged, JudgedCause, Only};
-ghost use Rattle.dcpctl.specs.Refusals.{line_refusal, past_limit};
+ghost use Rattle.dcpctl.specs.Refusals.{byte_refusal, line_refusal, past_limit};
 
 use crate::outputs::answer;
 use crate::statuses::Status;
@@ -24,6 +24,26 @@ pub fn refuse_line<K: Sink>(alloc: Global, line: u32, word: &str, out: &mut K) -
     ensures unwritten { ComesBeforeWriting result → out.new ≡ out.old }
 {
     match line_text(alloc, line, word) {
+        Ok(text) => answer(out, false, text.as_bytes()),
+        Err(_) => Status::OutOfMemory,
+    }
+}
+
+/// The line for bytes that are refused at this place, from 0, for the reason that the word names.
+fn byte_text(alloc: Global, at: usize, word: &str) -> Result<String, AllocError>
+    ensures { IfOk result (λ text. string_bytes text ≡ byte_refusal at word.now) }
+{
+    format!(in alloc; "input: byte {at} {word}\n")
+}
+
+/// Refuses bytes at this place of them, from 0, for the reason that the word names.
+pub fn refuse_byte<K: Sink>(alloc: Global, at: usize, word: &str, out: &mut K) -> Status
+    ensures outcome { (old : List ℕ) → K.written out.old ≡ Some old
+        → Judged (Only false (byte_refusal at word.now)) old (K.written out.new) (K.faults out.old) (K.faults out.new) result }
+    ensures cause { JudgedCause (K.faults out.old) (K.faults out.new) result }
+    ensures unwritten { ComesBeforeWriting result → out.new ≡ out.old }
+{
+    match byte_text(alloc, at, word) {
         Ok(text) => answer(out, false, text.as_bytes()),
         Err(_) => Status::OutOfMemory,
     }

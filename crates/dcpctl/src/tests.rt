@@ -65,9 +65,9 @@ fn words_that_name_no_command_are_usage(rt: HostRuntime) -> Result<(), Fail> {
         "",
         "run now",
         "--help",
-        "describe describe",
-        "Describe",
-        "describes",
+        "decode decode",
+        "Decode",
+        "decodes",
         "-",
     ] {
         let (status, written) = steady(words, COUNTER).run(rt.alloc())?;
@@ -81,6 +81,55 @@ fn words_that_name_no_command_are_usage(rt: HostRuntime) -> Result<(), Fail> {
     .run(rt.alloc())?;
     assert_eq!(rt; status, Status::Usage);
     assert!(rt; written.as_slice() == b"usa".as_slice());
+    Ok(())
+}
+
+const ACKNOWLEDGEMENT: &[u8] = b"\xb0\x02\x00\x01";
+
+#[test]
+fn decode_writes_the_line_or_where_the_bytes_are_refused(rt: HostRuntime) -> Result<(), Fail> {
+    let rows = [
+        (ACKNOWLEDGEMENT, Status::Done, "RSP_ack resp_seq_id=2 sender=1\n"),
+        (
+            b"\x03\x02\x00\x01\x01".as_slice(),
+            Status::Done,
+            "STC_prepare pdu_seq_id=2 receiver=1 state_id=CONFIGURATION\n",
+        ),
+        (b"\x80\x11\x00\x02".as_slice(), Status::Done, "INF_state pdu_seq_id=17 receiver=2\n"),
+        (b"".as_slice(), Status::BadInput, "input: byte 0 EMPTY\n"),
+        (b"\x03\x02\x00\x01\x01\x00".as_slice(), Status::BadInput, "input: byte 5 LONG\n"),
+        (b"\x03\x02\x00\x01\x13".as_slice(), Status::BadInput, "input: byte 4 BAD_STATE\n"),
+        (
+            b"\x07\x34\x12\x02\x0b\x01\x00\x00".as_slice(),
+            Status::BadInput,
+            "input: byte 8 SHORT\n",
+        ),
+        (b"\x00".as_slice(), Status::BadInput, "input: byte 0 UNKNOWN_TYPE\n"),
+    ];
+    for (input, status, out) in rows {
+        let (got, written) = steady("decode", input).run(rt.alloc())?;
+        assert_eq!(rt; got, status);
+        assert!(rt; written.as_slice() == out.as_bytes(), "{out}");
+    }
+    Ok(())
+}
+
+#[test]
+fn each_cut_of_a_message_is_short(rt: HostRuntime) -> Result<(), Fail> {
+    let alloc = rt.alloc();
+    let messages = [
+        ACKNOWLEDGEMENT,
+        b"\x80\x11\x00\x02".as_slice(),
+        b"\x03\x02\x00\x01\x01".as_slice(),
+    ];
+    for message in messages {
+        for len in 1..message.len() {
+            let (got, written) = steady("decode", &message[..len]).run(alloc)?;
+            let out = format!(in alloc; "input: byte {len} SHORT\n")?;
+            assert_eq!(rt; got, Status::BadInput);
+            assert!(rt; written.as_slice() == out.as_bytes(), "{out}");
+        }
+    }
     Ok(())
 }
 
@@ -144,12 +193,22 @@ fn faults_of_the_objects_decide_the_status(rt: HostRuntime) -> Result<(), Fail> 
         room: 5,
         ..steady("describe", b"")
     };
+    let second_read_of_bytes = Call {
+        failing_reads: &[2],
+        ..steady("decode", ACKNOWLEDGEMENT)
+    };
+    let no_room_for_a_message = Call {
+        room: 0,
+        ..steady("decode", ACKNOWLEDGEMENT)
+    };
     let rows = [
         (second_read, Status::ReadFault, b"".as_slice()),
         (second_write, Status::WriteFault, b"".as_slice()),
         (little_room, Status::WriteFault, b"slave".as_slice()),
         (no_room, Status::WriteFault, b"".as_slice()),
         (refused, Status::BadInput, b"input".as_slice()),
+        (second_read_of_bytes, Status::ReadFault, b"".as_slice()),
+        (no_room_for_a_message, Status::WriteFault, b"".as_slice()),
     ];
     for (call, status, out) in rows {
         let (got, written) = call.run(rt.alloc())?;

@@ -7,6 +7,7 @@ ghost use Rattle.dcpctl.specs.Commands.{IsCommand};
 ghost use Rattle.dcpctl.specs.Says.{Says};
 
 use crate::commands::Command;
+use crate::decoding::decode_input;
 use crate::describing::describe_input;
 use crate::inputs::{Gathered, read_input};
 use crate::outputs::write_line;
@@ -49,6 +50,7 @@ fn judge<K: Sink>(alloc: Global, command: Command, input: &[u8], out: &mut K) ->
     ensures unwritten { ComesBeforeWriting result → out.new ≡ out.old }
 {
     match command {
+        Command::Decode => decode_input(alloc, input, out),
         Command::Describe => describe_input(alloc, input, out),
     }
 }
