@@ -1,7 +1,6 @@
 -- The reading word by word gives exactly the messages as which a text reads, and else the rule that it breaks first.
 use Rattle.std.proofs.Common.{◌≡◌, ◌⊎◌, inl, inr, ℕ, ◌-◌, Bool, true, false, MatchBool, cond, List, [], ◌∷◌, Option, Some, None, Result, Ok, Err, refl, sym, ap, ◌∙◌, subst}
 use Rattle.std.specs.Str.{is_utf8}
-use Rattle.std.specs.Str.Lines.{lines}
 use Rattle.pdu_layout.specs.Fields.{FieldValue}
 use Rattle.pdu_layout.specs.Table.{FieldRow, Row, row_of}
 use Rattle.pdu_layout.specs.Message.{Message}
@@ -10,7 +9,7 @@ use Rattle.pdu_text.specs.Words.{field_said, size_of, type_said}
 use Rattle.pdu_text.specs.Lines.{first_words, goes_on, code_named}
 use Rattle.pdu_text.specs.Reading.{SayEach, Reads}
 use Rattle.pdu_text.specs.Refusals.{Breaks, BreaksRow, BreaksCode, BreaksLine, Refused}
-use Rattle.pdu_text.specs.Machine.{fields_said, row_said, code_said, line_said, lines_said, text_said}
+use Rattle.pdu_text.specs.Machine.{fields_said, row_said, code_said, line_said, text_said}
 use Rattle.pdu_text.specs.declared.reasons.PduTextWhy.{PduTextWhy}
 use Rattle.pdu_text.specs.declared.reasons.PduTextWhy.TheVariants.{NotUtf8, UnknownKey, Words}
 

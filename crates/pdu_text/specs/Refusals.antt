@@ -1,5 +1,5 @@
 -- Which rule a text breaks first, word by word from the left.
-use Rattle.std.specs.Prelude.{◌≡◌, ◌⊎◌, ℕ, ◌-◌, Bool, true, MatchBool, List, [], ◌∷◌, Option, Some, None, Result, Ok, Err}
+use Rattle.std.specs.Prelude.{◌≡◌, ◌⊎◌, ℕ, ◌-◌, Bool, true, MatchBool, List, [], ◌∷◌, Option, Some, None, Ok, Err}
 use Rattle.std.specs.Str.{is_utf8}
 use Rattle.pdu_layout.specs.Fields.{FieldValue}
 use Rattle.pdu_layout.specs.Table.{FieldRow, Row, row_of}

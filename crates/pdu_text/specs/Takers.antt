@@ -1,5 +1,5 @@
 -- What a taker was handed.
-use Rattle.std.specs.Prelude.{◌≡◌, ℕ, List, [], ◌∷◌, ◌++◌, Option, Some, None, Result}
+use Rattle.std.specs.Prelude.{◌≡◌, ℕ, List, [], ◌∷◌, ◌++◌, Option, Some, None}
 use Rattle.pdu_layout.specs.Message.{Message, Spells}
 use Rattle.pdu_text.specs.Reading.{Reads}
 use Rattle.pdu_text.specs.Refusals.{Refused}

@@ -1,7 +1,7 @@
 -- What a word of a line says of a field.
-use Rattle.std.specs.Prelude.{ℕ, ℤ, ◌+◌, ◌-◌, Bool, ◌==◌, nat_lt, nat_le, List, [], ◌∷◌, length, take, drop, if◌then◌else◌, Option, Some, None, Result, Ok, Err}
+use Rattle.std.specs.Prelude.{ℕ, ◌+◌, Bool, ◌==◌, nat_lt, nat_le, List, [], ◌∷◌, length, take, drop, if◌then◌else◌, Option, Some, None, Result, Ok}
 use Rattle.std.specs.List.{position}
-use Rattle.std.specs.Option.{option_and_then, option_map}
+use Rattle.std.specs.Option.{option_and_then}
 use Rattle.std.specs.Result.{result_ok}
 use Rattle.std.specs.Str.{bytes_eq}
 use Rattle.hex.specs.Hex.{decode_of}
@@ -16,7 +16,7 @@ use Rattle.text_lines.specs.Numbers.{number, signed_number}
 use Rattle.text_lines.specs.Addresses.{ip}
 use Rattle.text_lines.specs.Identities.{identity}
 use Rattle.pdu_layout.specs.declared.fields.FieldKind.{FieldKind}
-use Rattle.pdu_layout.specs.declared.fields.FieldKind.TheVariants.{U8, U16, U32, U64, I64, StateCode, TypeCode, Value, Uuid, Ip, Rest}
+use Rattle.pdu_layout.specs.declared.fields.FieldKind.TheVariants.{I64, StateCode, TypeCode, Value, Uuid, Ip, Rest}
 use Rattle.pdu_layout.specs.Fields.{FieldValue, type_from, width, limit}
 use Rattle.pdu_layout.specs.Fields.FieldValue.{Number, Signed, Bytes}
 use Rattle.pdu_layout.specs.Table.{FieldRow}

@@ -1,10 +1,9 @@
-//! The printed form of a message, one line, in both directions.
+//! The printed form of a message, one line.
 //!
-//! What it promises: `print_pdu` writes exactly the line that the definition gives, and
-//! `with_pdu_text` hands over a message exactly where a text reads as one, and else answers the first
-//! rule that the text breaks. `specs/Printed.antt` says what a line is, `specs/Reading.antt` which
-//! texts read as which message, and `specs/Refusals.antt` which rule a text breaks first. Only want of
-//! memory has no cause in a contract.
+//! What it promises: `print_pdu` writes exactly the line that `specs/Printed.antt` gives. Which texts
+//! read as which message (`specs/Reading.antt`), and which rule another text breaks first
+//! (`specs/Refusals.antt`), is defined here with the types that a reader answers with; the words of a
+//! row are read exactly as these definitions say. Only want of memory has no cause in a contract.
 #![tactic(auto)]
 
 mod contents;
@@ -19,3 +18,6 @@ pub use contents::{Said, SaidMessage};
 pub use print::print_pdu;
 pub use reasons::{PduTextWhy, TextRefused};
 pub use takers::PduTaker;
+
+#[cfg(test)]
+mod tests;
