@@ -21,7 +21,7 @@ mod walker;
 pub use decoding::decode;
 pub use encoding::encode;
 pub use faults::{DecodeFault, DecodeWhy};
-pub use laws::{spellings_are_one_to_one, written_and_read};
+pub use laws::{refusals_are_unique, spellings_are_one_to_one, written_and_read};
 
 #[cfg(test)]
 mod tests;
