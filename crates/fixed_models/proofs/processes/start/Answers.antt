@@ -1,4 +1,4 @@
-use Rattle.std.proofs.Common.{rules, arith, ◌≡◌, length, true}
+use Rattle.std.proofs.Common.{rules, arith}
 use Rattle.fixed_models.specs.Steps.{start}
 use Rattle.fixed_models.proofs.Lists.{whole_3}
 use Rattle.fixed_models.proofs.processes.start.Goals as goal
