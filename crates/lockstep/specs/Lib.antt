@@ -1,0 +1,3 @@
+pub mod Parameters
+pub mod Wiring
+pub mod Lockstep

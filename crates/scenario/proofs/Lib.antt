@@ -1,0 +1,10 @@
+pub mod Results
+pub mod HeadRanges
+pub mod LinkRanges
+pub mod LinkSets
+pub mod Kept
+pub mod Groups
+pub mod Stands
+pub mod Moves
+pub mod Judged
+pub mod Answered

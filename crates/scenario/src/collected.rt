@@ -1,0 +1,267 @@
+//! What the lines of the links so far say, and what is wrong with the next one among them.
+
+ghost use Rattle.std.specs.Prelude.{◌≡◌, ◌==◌, ◌&&◌, [], None, OnOk, IfOk, map, nat_lt};
+ghost use Rattle.std.specs.List.{list_any};
+ghost use Rattle.scenario.specs.Checks.{type_at, same_input, why_wire, changed_by, changed, setting_in, takes_at, parameters_now, why_change, why_setting, why_rerun, why_every, why_net, why_link};
+
+use crate::link_words::{Link, inputs_at, outputs_at, parameters_at, slave_at};
+use crate::lists::{Intervals, Reruns, Settings, Wires};
+use crate::scenarios::{Every, Rerun, Setting, Wire};
+use dcp_io::{Chaos, NetLines, NetPlan};
+use dcp_types::OutOfMemory;
+use fixed_models::takes;
+use slave_desc::{Port, SlaveDesc};
+use std::alloc::Global;
+use text_lines::TextWhy;
+
+/// What the lines of the links so far say.
+#[derive(Debug, Drop)]
+pub struct Links {
+    pub wires: Wires,
+    pub settings: Settings,
+    pub every: Intervals,
+    pub reruns: Reruns,
+    pub net: NetPlan,
+}
+
+/// The code of a port's type; 0 where there is no such port.
+fn type_at(ports: &[Port], port: u8) -> u8
+    ensures { result ≡ type_at ports.now port }
+{
+    match ports.get(port as usize) {
+        Some(port) => port.kind.code(),
+        None => 0,
+    }
+}
+
+fn same_input(a: Wire, b: Wire) -> bool
+    ensures { result ≡ same_input a b }
+{
+    a.to == b.to && a.into == b.into
+}
+
+fn has_wire_into(wires: &[Wire], wire: Wire) -> bool
+    ensures { result ≡ list_any (λ v. same_input v wire) wires.now }
+{
+    wires.iter().any(|v| same_input(*v, wire))
+}
+
+fn goes(wire: Wire, from: u8, to: u8) -> bool
+    ensures { result ≡ ((wire.from == from) && (wire.to == to)) }
+{
+    wire.from == from && wire.to == to
+}
+
+fn has_wire_between(wires: &[Wire], from: u8, to: u8) -> bool
+    ensures { result ≡ list_any (λ w. (w.from == from) && (w.to == to)) wires.now }
+{
+    wires.iter().any(|w| goes(*w, from, to))
+}
+
+fn is_of_pair(every: Every, from: u8, to: u8) -> bool
+    ensures { result ≡ ((every.from == from) && (every.to == to)) }
+{
+    every.from == from && every.to == to
+}
+
+fn has_interval(intervals: &[Every], from: u8, to: u8) -> bool
+    ensures { result ≡ list_any (λ e. (e.from == from) && (e.to == to)) intervals.now }
+{
+    intervals.iter().any(|e| is_of_pair(*e, from, to))
+}
+
+fn has_later_run(reruns: &[Rerun], run: u32) -> bool
+    ensures { result ≡ list_any (λ r. nat_lt run r.run) reruns.now }
+{
+    reruns.iter().any(|r| run < r.run)
+}
+
+fn check_wire(slaves: &[SlaveDesc], wires: &[Wire], wire: Wire) -> Option<TextWhy>
+    ensures { result ≡ why_wire slaves.now wires.now wire }
+{
+    let out = type_at(outputs_at(slaves, wire.from), wire.out);
+    let into = type_at(inputs_at(slaves, wire.to), wire.into);
+    if out != into {
+        Some(TextWhy::TypeMismatch)
+    } else if has_wire_into(wires, wire) {
+        Some(TextWhy::TwoWires)
+    } else {
+        None
+    }
+}
+
+fn set_one(parameters: &mut [i64], slave: u8, setting: Setting)
+    ensures { parameters.new ≡ changed_by parameters.old slave setting }
+{
+    if setting.slave == slave && (setting.index as usize) < parameters.len() {
+        parameters[setting.index as usize] = setting.value;
+    }
+}
+
+/// Sets the parameters of one slave, in order.
+fn set_all(parameters: &mut [i64], slave: u8, settings: &[Setting])
+    ensures { parameters.new ≡ changed parameters.old slave settings.now }
+{
+    for setting in settings {
+        set_one(parameters, slave, *setting);
+    }
+}
+
+fn setting_in(rerun: Rerun) -> Setting
+    ensures { result ≡ setting_in rerun }
+{
+    Setting {
+        slave: rerun.slave,
+        index: rerun.index,
+        value: rerun.value,
+    }
+}
+
+/// Sets the parameters of one slave as they are set before later runs, in order.
+fn set_again(parameters: &mut [i64], slave: u8, reruns: &[Rerun])
+    ensures { parameters.new ≡ changed parameters.old slave (map setting_in reruns.now) }
+{
+    for rerun in reruns {
+        set_one(parameters, slave, setting_in(*rerun));
+    }
+}
+
+fn takes_at(slaves: &[SlaveDesc], slave: u8, parameters: &[i64]) -> bool
+    ensures { result ≡ takes_at slaves.now slave parameters.now }
+{
+    match slave_at(slaves, slave) {
+        Some(slave) => takes(slave.kind, parameters),
+        None => false,
+    }
+}
+
+/// What is wrong with a setting after all settings before it.
+fn check_change(
+    alloc: Global,
+    slaves: &[SlaveDesc],
+    links: &Links,
+    setting: Setting,
+) -> Result<Option<TextWhy>, OutOfMemory>
+    ensures { IfOk result (λ o. o ≡ why_change slaves.now links.now setting) }
+{
+    let slave = setting.slave;
+    let mut parameters = Vec::from_slice(alloc, parameters_at(slaves, slave))?;
+    set_all(&mut parameters, slave, links.settings.as_slice());
+    set_again(&mut parameters, slave, links.reruns.as_slice());
+    set_one(&mut parameters, slave, setting);
+    if takes_at(slaves, slave, parameters.as_slice()) {
+        Ok(None)
+    } else {
+        Ok(Some(TextWhy::Parameters))
+    }
+}
+
+fn check_setting(
+    alloc: Global,
+    slaves: &[SlaveDesc],
+    links: &Links,
+    setting: Setting,
+) -> Result<Option<TextWhy>, OutOfMemory>
+    ensures { IfOk result (λ o. o ≡ why_setting slaves.now links.now setting) }
+{
+    if !links.reruns.as_slice().is_empty() {
+        return Ok(Some(TextWhy::Order));
+    }
+    check_change(alloc, slaves, links, setting)
+}
+
+fn check_rerun(
+    alloc: Global,
+    slaves: &[SlaveDesc],
+    links: &Links,
+    rerun: Rerun,
+) -> Result<Option<TextWhy>, OutOfMemory>
+    ensures { IfOk result (λ o. o ≡ why_rerun slaves.now links.now rerun) }
+{
+    if has_later_run(links.reruns.as_slice(), rerun.run) {
+        return Ok(Some(TextWhy::Order));
+    }
+    check_change(alloc, slaves, links, setting_in(rerun))
+}
+
+fn check_every(links: &Links, every: Every) -> Option<TextWhy>
+    ensures { result ≡ why_every links.now every }
+{
+    if has_interval(links.every.as_slice(), every.from, every.to) {
+        Some(TextWhy::Repeated)
+    } else if has_wire_between(links.wires.as_slice(), every.from, every.to) {
+        None
+    } else {
+        Some(TextWhy::NoWire)
+    }
+}
+
+fn check_net(links: &Links) -> Option<TextWhy>
+    ensures { result ≡ why_net links.now }
+{
+    if links.net.lines.len() >= 64 {
+        Some(TextWhy::Limit)
+    } else {
+        None
+    }
+}
+
+impl Links {
+    ghost use Rattle.scenario.specs.Checks.{no_links, put_link};
+
+    /// No links. It takes no memory.
+    pub fn new(alloc: Global) -> Links
+        ensures { result ≡ no_links }
+    {
+        Links {
+            wires: Wires::new(alloc),
+            settings: Settings::new(alloc),
+            every: Intervals::new(alloc),
+            reruns: Reruns::new(alloc),
+            net: NetPlan {
+                lines: NetLines::new(alloc),
+                chaos: None,
+            },
+        }
+    }
+
+    /// What is wrong with the whole line that says this, after the lines of the links before it.
+    pub fn check(
+        &self,
+        alloc: Global,
+        slaves: &[SlaveDesc],
+        link: Link,
+    ) -> Result<Option<TextWhy>, OutOfMemory>
+        ensures { IfOk result (λ o. o ≡ why_link slaves.now self.now link) }
+    {
+        match link {
+            Link::Wire(wire) => Ok(check_wire(slaves, self.wires.as_slice(), wire)),
+            Link::Set(setting) => check_setting(alloc, slaves, self, setting),
+            Link::RerunSet(rerun) => check_rerun(alloc, slaves, self, rerun),
+            Link::Every(every) => Ok(check_every(self, every)),
+            Link::Net(_) => Ok(check_net(self)),
+            Link::Chaos(_) => Ok(None),
+        }
+    }
+
+    /// Adds what a line says. After want of memory the value is of no use.
+    pub fn put(&mut self, link: Link) -> Result<(), OutOfMemory>
+        ensures { OnOk result (self.new ≡ put_link self.old link) }
+    {
+        match link {
+            Link::Wire(wire) => self.wires.push(wire)?,
+            Link::Set(setting) => self.settings.push(setting)?,
+            Link::RerunSet(rerun) => self.reruns.push(rerun)?,
+            Link::Every(every) => self.every.push(every)?,
+            Link::Net(line) => self.net.lines.push(line)?,
+            Link::Chaos(chaos) => self.put_chaos(chaos),
+        }
+        Ok(())
+    }
+
+    fn put_chaos(&mut self, chaos: Chaos)
+        ensures { self.new ≡ put_link self.old (Link.Chaos chaos) }
+    {
+        self.net.chaos = Some(chaos);
+    }
+}

@@ -1,0 +1,68 @@
+//! A scenario: slaves, the wires between them, and how they are run.
+
+use crate::lists::{Intervals, Reruns, Settings, Slaves, Wires};
+use dcp_io::NetPlan;
+use dcp_types::{Address, Limits, Protocol};
+
+/// A wire from an output port to an input port. Slaves count from 1 in the text's order, ports from 0.
+#[derive(Clone, Copy, Debug, PartialEq, Eq)]
+pub struct Wire {
+    /// The slave that sends.
+    pub from: u8,
+    /// Its output port.
+    pub out: u8,
+    /// The slave that receives.
+    pub to: u8,
+    /// Its input port.
+    pub into: u8,
+}
+
+/// A parameter of a model that is set before the first run. Slaves count from 1, parameters from 0.
+#[derive(Clone, Copy, Debug, PartialEq, Eq)]
+pub struct Setting {
+    pub slave: u8,
+    pub index: u8,
+    pub value: i64,
+}
+
+/// The data that goes from one slave to another is sent at each `q`-th step, 1 to 1,000. A pair of
+/// slaves with wires and without such an interval has the interval 1.
+#[derive(Clone, Copy, Debug, PartialEq, Eq)]
+pub struct Every {
+    pub from: u8,
+    pub to: u8,
+    pub q: u32,
+}
+
+/// A parameter of a model that is set before a later run, from 2, and stays set for those after it.
+#[derive(Clone, Copy, Debug, PartialEq, Eq)]
+pub struct Rerun {
+    pub run: u32,
+    pub slave: u8,
+    pub index: u8,
+    pub value: i64,
+}
+
+/// A scenario. `read_scenario` gives those that a text can have, and their condition is `IsScenario`.
+#[derive(Debug, Drop)]
+pub struct Scenario {
+    /// The steps of each run, 0 to 100,000.
+    pub steps: u32,
+    /// The micro steps of a step, 1 to 1,000.
+    pub micro: u32,
+    /// The runs of one registration, 1 to 100.
+    pub runs: u32,
+    pub protocol: Protocol,
+    /// The master's address.
+    pub master: Address,
+    pub limits: Limits,
+    /// 1 to 16 slaves. The first is slave 1.
+    pub slaves: Slaves,
+    pub wires: Wires,
+    pub settings: Settings,
+    pub every: Intervals,
+    /// In the order of their runs.
+    pub reruns: Reruns,
+    /// What the network in memory does to messages.
+    pub net: NetPlan,
+}

@@ -1,0 +1,33 @@
+-- Results one after another.
+use Rattle.std.proofs.Common.{◌≡◌, ◌⊎◌, inl, inr, Option, Some, None, Result, Ok, Err, refl, ap, sym, ℕ}
+use Rattle.text_lines.specs.Reasons.{◌>>=◌, or_why}
+use Rattle.text_lines.specs.Runs.{at_line, and_then, line_number}
+use Rattle.text_lines.specs.declared.reasons.TextWhy.{TextWhy}
+use Rattle.text_lines.specs.declared.reasons.TextFault.{TextFault}
+
+pub bind_ok : {A B : Type 0} (r : Result A TextWhy) (f : A → Result B TextWhy) (y : B) → (r >>= f) ≡ Ok y → (x : A) × (r ≡ Ok x) × (f x ≡ Ok y)
+bind_ok (Ok x) f y e = (x, refl, e)
+bind_ok (Err w) f y e = cc
+
+pub some_ok : {A : Type 0} (o : Option A) (w : TextWhy) (x : A) → or_why o w ≡ Ok x → o ≡ Some x
+some_ok None w x e = cc
+some_ok (Some y) w x e = cc
+
+pub ok_same : {A : Type 0} (x y : A) (r : Result A TextWhy) → r ≡ Ok x → r ≡ Ok y → x ≡ y
+ok_same x y r e f = cc
+
+pub at_ok : {X : Type 0} (n : ℕ) (r : Result X TextWhy) (x : X) → at_line n r ≡ Ok x → r ≡ Ok x
+at_ok n (Ok y) x e = cc
+at_ok n (Err w) x e = cc
+
+pub at_err : {X : Type 0} (n : ℕ) (r : Result X TextWhy) (f : TextFault) → at_line n r ≡ Err f → (f.line ≡ line_number n) × (r ≡ Err f.why)
+at_err n (Ok y) f e = cc
+at_err n (Err w) f e = let same : f ≡ record { line = line_number n; why = w } = cc in (ap (λ (g : TextFault). g.line) same, ap (λ (g : TextFault). Err g.why) (sym same))
+
+pub and_ok : {X Y : Type 0} (r : Result X TextFault) (f : X → Result Y TextFault) (y : Y) → and_then r f ≡ Ok y → (x : X) × (r ≡ Ok x) × (f x ≡ Ok y)
+and_ok (Ok x) f y e = (x, refl, e)
+and_ok (Err w) f y e = cc
+
+pub and_err : {X Y : Type 0} (r : Result X TextFault) (f : X → Result Y TextFault) (w : TextFault) → and_then r f ≡ Err w → (r ≡ Err w) ⊎ ((x : X) × (r ≡ Ok x) × (f x ≡ Err w))
+and_err (Ok x) f w e = inr (x, refl, e)
+and_err (Err v) f w e = inl (cc)

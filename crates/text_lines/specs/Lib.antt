@@ -1,0 +1,9 @@
+pub mod Texts
+pub mod Reasons
+pub mod Numbers
+pub mod Names
+pub mod Addresses
+pub mod Identities
+pub mod Counts
+pub mod Runs
+pub mod Printed
