@@ -26,3 +26,6 @@ pub use text_lines::{Name, TextFault, TextRefused, TextWhy};
 pub use items::{Item, item_of};
 pub use keys::{Key, key_of};
 pub use partials::{Partial, check_key};
+
+#[cfg(test)]
+mod tests;

@@ -24,3 +24,6 @@ pub use names::{is_name, name};
 pub use numbers::{int64, number, number_from, signed_number};
 pub use reasons::{LineRefused, TextFault, TextRefused, TextWhy};
 pub use texts::{is_skipped, is_utf8, lines, words};
+
+#[cfg(test)]
+mod tests;

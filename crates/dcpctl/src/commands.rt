@@ -1,0 +1,28 @@
+//! The commands by their words.
+
+ghost use Rattle.std.specs.Prelude.{◌≡◌, MatchOption};
+ghost use Rattle.dcpctl.specs.Commands.{command_word, IsWord};
+
+/// What the program can be asked for.
+#[derive(Clone, Copy, Debug, PartialEq, Eq)]
+pub enum Command {
+    /// Prints the message whose bytes are the input.
+    Decode,
+    /// Prints the canonical text of a description.
+    Describe,
+}
+
+impl Command {
+    /// The command with this word; none where there is none.
+    pub fn from_word(word: &str) -> Option<Command>
+        ensures { MatchOption result (IsWord word.now → ⊥) (λ command. word.now ≡ command_word command) }
+    {
+        if word == "decode" {
+            return Some(Command::Decode);
+        }
+        if word == "describe" {
+            return Some(Command::Describe);
+        }
+        None
+    }
+}

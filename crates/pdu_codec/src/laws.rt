@@ -1,0 +1,32 @@
+//! What follows of the spellings for all messages.
+
+ghost use Rattle.std.specs.Prelude.{◌≡◌, IfOk, IfErr};
+ghost use Rattle.pdu_layout.specs.Message.{message_of, HasSpelling};
+ghost use Rattle.pdu_codec.specs.Laws.{OneToOne, OneRefusal};
+
+use crate::decoding::decode;
+use crate::encoding::encode;
+use crate::faults::DecodeFault;
+use pdu_layout::Pdu;
+
+/// No two messages have the same bytes.
+pub fn spellings_are_one_to_one()
+    ensures { OneToOne }
+{}
+
+/// Bytes that are no message have one refusal: one place and one cause.
+pub fn refusals_are_unique()
+    ensures { OneRefusal }
+{}
+
+/// Writes a message into the room and reads it back: it is the same message.
+///
+/// The message is in range.
+pub fn written_and_read<'a>(pdu: &Pdu<'_>, room: &'a mut [u8; 1024]) -> Result<Pdu<'a>, DecodeFault>
+    requires { HasSpelling (message_of pdu.now) }
+    ensures same { IfOk result (λ read. message_of read ≡ message_of pdu.now) }
+    ensures never { IfErr result (λ fault. ⊥) }
+{
+    let length = encode(pdu, room);
+    decode(&room[..length])
+}

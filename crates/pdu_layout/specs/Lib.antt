@@ -1,0 +1,5 @@
+pub mod Fields
+pub mod Table
+pub mod Message
+pub mod Parts
+pub mod Ranges

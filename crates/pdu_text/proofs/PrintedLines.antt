@@ -1,0 +1,11 @@
+-- The line of a message in parts.
+use Rattle.std.proofs.Common.{◌≡◌, ap, ◌∙◌}
+use Rattle.pdu_layout.specs.declared.message_parts.Parts.{Parts}
+use Rattle.pdu_layout.specs.Parts.{AreParts, values_of}
+use Rattle.pdu_layout.specs.Table.{rows_of}
+use Rattle.pdu_layout.specs.Message.{Message}
+use Rattle.pdu_text.specs.Printed.{row_line, line_in, line_of}
+
+pub line_is : (p : Message) (parts : Parts) → AreParts p parts → line_of p ≡ row_line parts.name.now (rows_of parts.fields.now) (values_of parts)
+unfolding line_of
+line_is p parts h = ap line_of h.message ∙ ap (λ r. line_in r (values_of parts)) h.row

@@ -1,0 +1,9 @@
+pub mod Printed
+pub mod Reasons
+pub mod Contents
+pub mod Words
+pub mod Lines
+pub mod Reading
+pub mod Refusals
+pub mod Machine
+pub mod Takers
