@@ -1,4 +1,2 @@
 pub mod Pieces
 pub mod Outcomes
-pub mod Spooling
-pub mod Rows

@@ -5,8 +5,5 @@ pub mod Outputs
 pub mod Refusals
 pub mod Decoding
 pub mod Describing
-pub mod Waiting
-pub mod Spools
-pub mod Rows
 pub mod Says
 pub mod Answers

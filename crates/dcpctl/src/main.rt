@@ -10,8 +10,6 @@ mod describing;
 mod inputs;
 mod outputs;
 mod refusals;
-mod row_texts;
-mod spools;
 mod statuses;
 #[cfg(test)]
 mod tests;

@@ -89,22 +89,42 @@ const ACKNOWLEDGEMENT: &[u8] = b"\xb0\x02\x00\x01";
 #[test]
 fn decode_writes_the_line_or_where_the_bytes_are_refused(rt: HostRuntime) -> Result<(), Fail> {
     let rows = [
-        (ACKNOWLEDGEMENT, Status::Done, "RSP_ack resp_seq_id=2 sender=1\n"),
+        (
+            ACKNOWLEDGEMENT,
+            Status::Done,
+            "RSP_ack resp_seq_id=2 sender=1\n",
+        ),
         (
             b"\x03\x02\x00\x01\x01".as_slice(),
             Status::Done,
             "STC_prepare pdu_seq_id=2 receiver=1 state_id=CONFIGURATION\n",
         ),
-        (b"\x80\x11\x00\x02".as_slice(), Status::Done, "INF_state pdu_seq_id=17 receiver=2\n"),
+        (
+            b"\x80\x11\x00\x02".as_slice(),
+            Status::Done,
+            "INF_state pdu_seq_id=17 receiver=2\n",
+        ),
         (b"".as_slice(), Status::BadInput, "input: byte 0 EMPTY\n"),
-        (b"\x03\x02\x00\x01\x01\x00".as_slice(), Status::BadInput, "input: byte 5 LONG\n"),
-        (b"\x03\x02\x00\x01\x13".as_slice(), Status::BadInput, "input: byte 4 BAD_STATE\n"),
+        (
+            b"\x03\x02\x00\x01\x01\x00".as_slice(),
+            Status::BadInput,
+            "input: byte 5 LONG\n",
+        ),
+        (
+            b"\x03\x02\x00\x01\x13".as_slice(),
+            Status::BadInput,
+            "input: byte 4 BAD_STATE\n",
+        ),
         (
             b"\x07\x34\x12\x02\x0b\x01\x00\x00".as_slice(),
             Status::BadInput,
             "input: byte 8 SHORT\n",
         ),
-        (b"\x00".as_slice(), Status::BadInput, "input: byte 0 UNKNOWN_TYPE\n"),
+        (
+            b"\x00".as_slice(),
+            Status::BadInput,
+            "input: byte 0 UNKNOWN_TYPE\n",
+        ),
     ];
     for (input, status, out) in rows {
         let (got, written) = steady("decode", input).run(rt.alloc())?;
