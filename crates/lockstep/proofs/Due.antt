@@ -1,11 +1,10 @@
 -- The parameters of a run, setting by setting.
-use Rattle.std.proofs.Common.{◌≡◌, ℕ, zero, suc, ◌+◌, ◌-◌, ◌≤◌, ◌<◌, Bool, true, false, ◌==◌, ◌&&◌, cond, List, [], ◌∷◌, ◌++◌, length, take, drop, map, get_or, refl, sym, ◌∙◌, ap, subst, arith, ℤ, Option, Some, None, slice_get}
-use Rattle.std.specs.Prelude.{filter, nat_le, All, AllPairs, IsTrue}
+use Rattle.std.proofs.Common.{◌≡◌, ℕ, suc, ◌+◌, ◌≤◌, ◌<◌, Bool, true, false, ◌==◌, ◌&&◌, cond, List, [], ◌∷◌, ◌++◌, length, take, drop, map, get_or, refl, sym, ◌∙◌, ap, arith, ℤ, Option, Some}
+use Rattle.std.specs.Prelude.{filter, nat_le, All, AllPairs}
 use Rattle.std.proofs.Math.Seq.{take-append-add}
 use Rattle.std.proofs.lemmas.Bool.{leb-false, lt-leb}
 use Rattle.std.proofs.lemmas.List.{at_drop_more, take-map, length-map}
-use Rattle.std.proofs.lemmas.Option.{slice_get_within, get_or_from_slice_get}
-use Rattle.fixed_models.specs.Kinds.{takes, has_inputs, output_count, has_ports}
+use Rattle.fixed_models.specs.Kinds.{takes, has_inputs, output_count}
 use Rattle.slave_desc.specs.declared.descriptions.SlaveDesc.{SlaveDesc}
 use Rattle.slave_desc.specs.Canonical.{IsDesc}
 use Rattle.scenario.specs.declared.scenarios.Scenario.{Scenario}

@@ -1,13 +1,13 @@
 -- A row that is filled slave by slave.
-use Rattle.std.proofs.Common.{◌≡◌, ℕ, zero, suc, ◌+◌, ◌-◌, ◌*◌, ◌≤◌, ◌<◌, Bool, true, false, ◌==◌, ◌&&◌, cond, List, [], ◌∷◌, ◌++◌, length, drop, map, get_or, refl, sym, ◌∙◌, ap, subst, arith, append_assoc, below_more, ℤ, pos, negsuc, ◌^◌, ◌≤ℤ◌, Option, Some, None, slice_get, Result, Ok, Err}
-use Rattle.std.specs.Prelude.{slice_set as set, All, sum_by, int_le}
+use Rattle.std.proofs.Common.{◌≡◌, ℕ, zero, suc, ◌+◌, ◌-◌, ◌≤◌, ◌<◌, Bool, true, false, ◌==◌, ◌&&◌, cond, List, [], ◌∷◌, ◌++◌, length, drop, get_or, refl, sym, ◌∙◌, ap, subst, arith, append_assoc, below_more, ℤ, pos, negsuc, ◌^◌, ◌≤ℤ◌, Some, slice_get, Result, Ok, Err}
+use Rattle.std.specs.Prelude.{slice_set as set, All, int_le}
 use Rattle.std.specs.Int.Signed.{le_z_yes}
 use Rattle.std.proofs.lemmas.Float.{T_from_true}
 use Rattle.std.proofs.lemmas.Int.{ints}
 use Rattle.std.proofs.lemmas.List.{drop_more, drop_all, append-nil, length-append, length-map, length-set}
 use Rattle.std.proofs.lemmas.List.Elements.{All-append, All-nil, All-cons, All-head, All-tail}
 use Rattle.std.proofs.lemmas.List.Sums.{sum_by-cons}
-use Rattle.std.proofs.lemmas.Option.{slice_get_within, slice_get-get_or, get_or_from_slice_get}
+use Rattle.std.proofs.lemmas.Option.{slice_get_within, get_or_from_slice_get}
 use Rattle.dcp_types.specs.declared.data_types.DataType.{DataType}
 use Rattle.dcp_types.specs.declared.data_types.DataType.TheVariants as types
 use Rattle.dcp_types.specs.declared.fault_codes.FaultCode.{FaultCode}

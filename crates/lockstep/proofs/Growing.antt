@@ -1,5 +1,5 @@
 -- The rows of a run, behind those of the runs before.
-use Rattle.std.proofs.Common.{◌≡◌, ℕ, zero, suc, ◌+◌, ◌-◌, ◌*◌, ◌≤◌, ◌<◌, ◌⊎◌, inl, inr, List, [], ◌∷◌, ◌++◌, length, refl, sym, ◌∙◌, ap, subst, arith, ℤ, Option, Some, None, slice_get, Result, Ok, Err}
+use Rattle.std.proofs.Common.{◌≡◌, ℕ, zero, suc, ◌+◌, ◌-◌, ◌*◌, ◌≤◌, ◌<◌, ◌⊎◌, inl, inr, List, [], ◌∷◌, ◌++◌, length, refl, sym, ◌∙◌, ap, subst, arith, ℤ, Some, None, slice_get, Ok}
 use Rattle.std.specs.Prelude.{All}
 use Rattle.std.proofs.lemmas.List.{length_push}
 use Rattle.std.proofs.lemmas.List.Elements.{All-push, All-nil, All-head}
@@ -15,7 +15,7 @@ use Rattle.lockstep.specs.declared.halts.Halt.{Halt}
 use Rattle.lockstep.specs.declared.halts.Halt.TheVariants as halts
 use Rattle.lockstep.specs.declared.references.RefFault.{RefFault}
 use Rattle.lockstep.specs.Cut.{Grid}
-use Rattle.lockstep.specs.Lockstep.{place, row, IsMoment, EachRow, EndsAt, Ends, IsReference}
+use Rattle.lockstep.specs.Lockstep.{place, row, IsMoment, IsReference}
 use Rattle.lockstep.specs.Parts.{StandsAt, AllStand, Halted}
 use Rattle.lockstep.specs.Filling.{SoFar, Stopped, StoppedBy}
 use Rattle.lockstep.proofs.Agreement.{state-agree}

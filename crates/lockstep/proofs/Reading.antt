@@ -1,18 +1,16 @@
 -- What the inputs read.
-use Rattle.std.proofs.Common.{◌≡◌, ◌-◌, ◌+◌, ◌*◌, ◌/◌, ◌%◌, ◌^◌, ◌≤◌, ◌<◌, sym, ◌∙◌, ap, subst, get_or, ℕ, zero, suc, ◌++◌, map, ℤ, pos, List, [], ◌∷◌, length, take, Option, Some, None, slice_get, arith, Bool, true, false, refl}
+use Rattle.std.proofs.Common.{◌≡◌, ◌-◌, ◌+◌, ◌*◌, ◌/◌, ◌%◌, ◌≤◌, sym, ◌∙◌, ap, subst, get_or, ℕ, zero, suc, ◌++◌, map, ℤ, pos, List, [], ◌∷◌, Option, Some, None, slice_get, arith, Bool, true, false, refl}
 use Rattle.std.specs.Prelude.{All, find, IfSome, ◌==◌, ◌&&◌}
-use Rattle.std.specs.List.{range_with_len}
 use Rattle.std.proofs.lemmas.Option.{get_or_from_slice_get}
 use Rattle.std.proofs.lemmas.List.Elements.{All-head, All-tail, All-nil, All-same, All-map}
 use Rattle.std.proofs.lemmas.List.FromFn.{map-range_with_len_more}
 use Rattle.fixed_models.specs.Answers.{IsInput}
-use Rattle.scenario.specs.Limits.{total_outputs}
-use Rattle.scenario.specs.Sound.{IsWire, IsEvery, IsScenario}
+use Rattle.scenario.specs.Sound.{IsWire, IsScenario}
 use Rattle.scenario.specs.declared.scenarios.Scenario.{Scenario}
 use Rattle.scenario.specs.declared.scenarios.Wire.{Wire}
 use Rattle.lockstep.specs.declared.wiring.Feed.{Feed}
-use Rattle.lockstep.specs.Wiring.{wire_into, every_between, interval, column}
-use Rattle.lockstep.specs.Feeds.{fed, feed_of, feeds_of, IsFeed}
+use Rattle.lockstep.specs.Wiring.{wire_into}
+use Rattle.lockstep.specs.Feeds.{fed, feed_of, feeds_of}
 
 pub last_renewal : (now k q : ℕ) → k ≤ now → now - k % q ≡ now - k + q * (k / q)
 last_renewal now k q le = grind arith

@@ -1,17 +1,16 @@
 -- One slave's step, against what it shows by the definition.
-use Rattle.std.proofs.Common.{◌≡◌, ℕ, zero, suc, ◌+◌, ◌-◌, ◌*◌, ◌/◌, ◌≤◌, ◌<◌, Bool, true, false, ◌==◌, ◌&&◌, cond, List, [], ◌∷◌, ◌++◌, length, take, map, get_or, refl, sym, ◌∙◌, ap, subst, arith, ℤ, pos, Option, Some, None, slice_get, Result, Ok, Err}
-use Rattle.std.specs.Prelude.{All, IfOk, IfSome}
+use Rattle.std.proofs.Common.{◌≡◌, ℕ, zero, suc, ◌+◌, ◌-◌, ◌*◌, ◌≤◌, ◌<◌, Bool, true, false, ◌==◌, ◌&&◌, List, [], ◌∷◌, length, take, map, get_or, refl, sym, ◌∙◌, ap, subst, arith, ℤ, Option, Some, None, slice_get, Result, Ok, Err}
+use Rattle.std.specs.Prelude.{All, IfSome}
 use Rattle.std.specs.List.{range_with_len}
 use Rattle.std.proofs.lemmas.List.{length-map}
 use Rattle.std.proofs.lemmas.List.Sums.{sum_by_more_le}
 use Rattle.std.proofs.lemmas.List.Elements.{All-map, All-same}
 use Rattle.std.proofs.lemmas.List.FromFn.{length-map-range_with_len}
 use Rattle.std.proofs.lemmas.Option.{slice_get_within, get_or_from_slice_get}
-use Rattle.std.proofs.lemmas.Result.{IfOk-weaker}
 use Rattle.dcp_types.specs.declared.fault_codes.FaultCode.{FaultCode}
-use Rattle.fixed_models.specs.Kinds.{has_inputs, output_count, has_ports}
-use Rattle.fixed_models.specs.Steps.{start, outputs, model_step}
-use Rattle.fixed_models.specs.Views.{View, begun, moved, step_of}
+use Rattle.fixed_models.specs.Kinds.{has_inputs, output_count}
+use Rattle.fixed_models.specs.Steps.{model_step}
+use Rattle.fixed_models.specs.Views.{moved, step_of}
 use Rattle.slave_desc.specs.declared.descriptions.SlaveDesc.{SlaveDesc}
 use Rattle.slave_desc.specs.Canonical.{IsDesc}
 use Rattle.scenario.specs.declared.scenarios.Scenario.{Scenario}
@@ -19,15 +18,15 @@ use Rattle.scenario.specs.declared.scenarios.Wire.{Wire}
 use Rattle.scenario.specs.declared.scenarios.Every.{Every}
 use Rattle.scenario.specs.Links.{slave_at, outputs_at, outputs_in}
 use Rattle.scenario.specs.Limits.{total_outputs}
-use Rattle.scenario.specs.Sound.{IsWire, IsEvery, IsSlave, IsScenario}
+use Rattle.scenario.specs.Sound.{IsWire, IsScenario}
 use Rattle.lockstep.specs.declared.wiring.Feed.{Feed}
 use Rattle.lockstep.specs.declared.parts.Part.{Part}
 use Rattle.lockstep.specs.Parameters.{parameters}
 use Rattle.lockstep.specs.Wiring.{wire_into, every_between, q_of, interval, column}
 use Rattle.lockstep.specs.Feeds.{fed, feed_of, feeds_of, IsFeed}
 use Rattle.lockstep.specs.Lockstep.{place, read, inputs, state, state_after, shown, shown_at}
-use Rattle.lockstep.specs.Parts.{types_of, shows, Advances, Reaches, Shows, Serves, StandsAt}
-use Rattle.lockstep.proofs.Reading.{All-find, wire_is, for_some}
+use Rattle.lockstep.specs.Parts.{types_of, shows, Reaches, Shows, Serves, StandsAt}
+use Rattle.lockstep.proofs.Reading.{All-find, wire_is}
 
 both_first : (a b : Bool) → (a && b) ≡ true → a ≡ true
 both_first true b h = refl

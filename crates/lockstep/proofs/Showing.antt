@@ -1,5 +1,5 @@
 -- What a model shows, port by port.
-use Rattle.std.proofs.Common.{◌≡◌, ℕ, ◌+◌, ◌≤◌, ◌<◌, Bool, true, false, ◌&&◌, if◌then◌else◌, cond, List, [], ◌∷◌, ◌++◌, length, take, drop, get_or, refl, sym, ◌∙◌, ap, subst, arith, Result, Ok, Err, ℤ, pos}
+use Rattle.std.proofs.Common.{◌≡◌, ℕ, ◌+◌, ◌≤◌, ◌<◌, Bool, true, false, ◌&&◌, if◌then◌else◌, cond, List, [], ◌∷◌, ◌++◌, length, take, drop, get_or, refl, sym, ◌∙◌, ap, arith, Result, Ok, Err, ℤ, pos}
 use Rattle.std.proofs.lemmas.List.{drop_more, drop_all, take_more, take_all}
 use Rattle.dcp_types.specs.declared.data_types.DataType.{DataType}
 use Rattle.dcp_types.specs.declared.data_types.DataType.TheVariants.{I64}
@@ -11,7 +11,6 @@ use Rattle.fixed_models.specs.declared.kinds.Kind.TheVariants as kinds
 use Rattle.fixed_models.specs.Kinds.{nth, output_count}
 use Rattle.fixed_models.specs.Steps.{outputs, all_fit}
 use Rattle.fixed_models.specs.Views.{View, value_at}
-use Rattle.lockstep.specs.Lockstep.{shown_of}
 use Rattle.lockstep.specs.Parts.{shows}
 
 pub length-outputs : (kind : Kind) (ps s : List ℤ) → length (outputs kind ps s) ≡ output_count kind

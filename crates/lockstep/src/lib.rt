@@ -15,6 +15,8 @@ mod row_lists;
 mod running;
 mod settings;
 mod tables;
+#[cfg(test)]
+mod tests;
 mod wiring;
 
 pub use laws::one_reference;

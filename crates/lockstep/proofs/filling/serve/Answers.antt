@@ -1,7 +1,6 @@
 use Rattle.std.proofs.Common.{length, subst, Result}
 use Rattle.std.proofs.lemmas.Result.{IfOk-weaker}
 use Rattle.dcp_types.specs.declared.fault_codes.FaultCode.{FaultCode}
-use Rattle.lockstep.specs.Lockstep.{shown}
 use Rattle.lockstep.specs.Parts.{Reaches, Shows, Serves, StandsAt}
 use Rattle.lockstep.proofs.Serving.{ports_ok, types_ok, feeds_ok, reach_err, reach_ok, serves}
 use Rattle.lockstep.proofs.filling.serve.Goals as goal

@@ -1,4 +1,4 @@
-use Rattle.std.proofs.Common.{◌≡◌, List, length, Result, Ok, ap, ◌∙◌, sym, arith, ℤ}
+use Rattle.std.proofs.Common.{List, length, Ok, ap, ◌∙◌, sym, arith, ℤ}
 use Rattle.lockstep.specs.Lockstep.{IsMoment}
 use Rattle.lockstep.proofs.Growing.{row_width, standing_more, halted}
 use Rattle.lockstep.proofs.running.run_once.Goals as goal

@@ -1,4 +1,4 @@
-use Rattle.std.proofs.Common.{◌≡◌, ◌≤◌}
+use Rattle.std.proofs.Common.{◌≡◌}
 use Rattle.lockstep.specs.Feeds.{feeds_of}
 use Rattle.lockstep.proofs.wiring.feeds_of.Given as goal
 
