@@ -96,6 +96,7 @@ ip_part_small w n e = small (number w) n e
     picked : (b : Bool) (m n : ℕ) → cond b (Some m) None ≡ Some n → (b ≡ true) × (m ≡ n)
     picked true m n e = (refl, cc)
     picked false m n e = cc
+
     small : (o : Option ℕ) (n : ℕ) → option_and_then (λ n. cond (leb n 255) (Some n) None) o ≡ Some n → n < 256
     small None n e = cc
     small (Some m) n e = let p = picked (leb m 255) m n e in let q = at_most m 255 p.0 in omega (arith, p.1, q)

@@ -40,11 +40,7 @@ fn contents(alloc: Global, values: &[Said]) -> Result<Vec<FieldContent<'_>>, Out
 /// Writes the bytes of a message that was read to the front of the room, and answers how many there are.
 ///
 /// The message has a spelling.
-fn put_said(
-    alloc: Global,
-    said: &SaidMessage,
-    room: &mut [u8; 1024],
-) -> Result<usize, OutOfMemory>
+fn put_said(alloc: Global, said: &SaidMessage, room: &mut [u8; 1024]) -> Result<usize, OutOfMemory>
     requires { HasSpelling (message_in said.now) }
     ensures at_most { IfOk result (λ n. n ≤ 1024) }
     ensures spelled { IfOk result (λ n. Spells (message_in said.now) (take n room.new)) }

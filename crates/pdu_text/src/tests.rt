@@ -186,7 +186,10 @@ fn lines_read(rt: HostRuntime) -> Result<(), Fail> {
         ),
         (b"RSP_ack\tresp_seq_id=2  sender=7\r\n", b"\xb0\x02\x00\x07"),
         (b"RSP_ack resp_seq_id=2 sender=7", b"\xb0\x02\x00\x07"),
-        (b"RSP_ack resp_seq_id=2 sender=7\n\n \t\n", b"\xb0\x02\x00\x07"),
+        (
+            b"RSP_ack resp_seq_id=2 sender=7\n\n \t\n",
+            b"\xb0\x02\x00\x07",
+        ),
         (
             b"CFG_parameter pdu_seq_id=3 receiver=1 vr=0 type=7 value=-2\n",
             b"\x27\x03\x00\x01\x00\x00\x00\x00\x00\x00\x00\x00\x07\xfe\xff\xff\xff\xff\xff\xff\xff",
@@ -199,7 +202,10 @@ fn lines_read(rt: HostRuntime) -> Result<(), Fail> {
             b"DAT_input_output pdu_seq_id=1 data_id=17 payload=14000aFF\n",
             b"\xf0\x01\x00\x11\x00\x14\x00\x0a\xff",
         ),
-        (b"RSP_log_ack resp_seq_id=5 sender=2 entries=\n", b"\xb4\x05\x00\x02"),
+        (
+            b"RSP_log_ack resp_seq_id=5 sender=2 entries=\n",
+            b"\xb4\x05\x00\x02",
+        ),
     ];
     for (text, bytes) in rows {
         assert!(rt; is_read(rt.alloc(), text, bytes));

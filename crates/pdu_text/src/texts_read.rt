@@ -32,12 +32,7 @@ fn have_words(alloc: Global, lines: &[&[u8]]) -> Result<bool, OutOfMemory>
 }
 
 /// The values of the fields of the message with this type code.
-fn read_row(
-    alloc: Global,
-    code: u8,
-    more: bool,
-    words: &[&[u8]],
-) -> Result<Vec<Said>, TextRefused>
+fn read_row(alloc: Global, code: u8, more: bool, words: &[&[u8]]) -> Result<Vec<Said>, TextRefused>
     ensures { Gives (λ v. map value_in v.items) result (row_said (row_of code) more (map (λ w. w.now) words.now)) }
 {
     match listed_row(code) {
