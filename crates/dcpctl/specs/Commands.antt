@@ -1,10 +1,11 @@
 -- The words that name a command.
 use Rattle.std.specs.Prelude.{◌≡◌, ℕ, List, [], ◌∷◌, codes}
 use Rattle.dcpctl.specs.declared.commands.Command.{Command}
-use Rattle.dcpctl.specs.declared.commands.Command.TheVariants.{Decode, Describe}
+use Rattle.dcpctl.specs.declared.commands.Command.TheVariants.{Decode, Encode, Describe}
 
 abbrev pub command_word : Command → List ℕ
 command_word Decode = codes "decode"
+command_word Encode = codes "encode"
 command_word Describe = codes "describe"
 
 -- some command has this word

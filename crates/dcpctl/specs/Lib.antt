@@ -4,6 +4,8 @@ pub mod Inputs
 pub mod Outputs
 pub mod Refusals
 pub mod Decoding
+pub mod Encoding
+pub mod Taken
 pub mod Describing
 pub mod Says
 pub mod Answers

@@ -7,9 +7,11 @@
 mod commands;
 mod decoding;
 mod describing;
+mod encoding;
 mod inputs;
 mod outputs;
 mod refusals;
+mod spellings;
 mod statuses;
 #[cfg(test)]
 mod tests;

@@ -9,6 +9,7 @@ ghost use Rattle.dcpctl.specs.Says.{Says};
 use crate::commands::Command;
 use crate::decoding::decode_input;
 use crate::describing::describe_input;
+use crate::encoding::encode_input;
 use crate::inputs::{Gathered, read_input};
 use crate::outputs::write_line;
 use crate::statuses::Status;
@@ -51,6 +52,7 @@ fn judge<K: Sink>(alloc: Global, command: Command, input: &[u8], out: &mut K) ->
 {
     match command {
         Command::Decode => decode_input(alloc, input, out),
+        Command::Encode => encode_input(alloc, input, out),
         Command::Describe => describe_input(alloc, input, out),
     }
 }
