@@ -143,8 +143,12 @@ fn put_field_at(
     put_field(kind, last, content, &mut room[at..])
 }
 
-/// Writes a type code, and after it what each field holds.
-fn put_message(code: u8, fields: &[Field], contents: &[FieldContent<'_>], room: &mut [u8]) -> usize
+/// Writes a type code, and after it what each field holds, to the front of the room of 1,024 bytes,
+/// and answers how many bytes that is. The rest of the room stays.
+///
+/// Each of the contents fits its field, and with the code they have at most 1,024 bytes. Contents
+/// past the fields mean nothing.
+pub fn put_message(code: u8, fields: &[Field], contents: &[FieldContent<'_>], room: &mut [u8]) -> usize
     requires size { length room.old ≡ 1024 }
     requires few { length fields.now ≤ length contents.now }
     requires fill { Fill (kinds_of fields.now) (map value_of (take (length fields.now) contents.now)) }

@@ -19,7 +19,7 @@ mod state_requests;
 mod walker;
 
 pub use decoding::decode;
-pub use encoding::encode;
+pub use encoding::{encode, put_message};
 pub use faults::{DecodeFault, DecodeWhy};
 pub use laws::{spellings_are_one_to_one, written_and_read};
 

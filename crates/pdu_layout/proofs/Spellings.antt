@@ -9,14 +9,14 @@ use Rattle.pdu_layout.specs.Message.{Message, Spells, HasSpelling}
 use Rattle.pdu_layout.specs.Parts.{values_of, AreParts}
 use Rattle.pdu_layout.specs.Ranges.{Fill}
 
-kinds_of_rows : (fields : List Field) → map (λ r. r.kind) (rows_of fields) ≡ kinds_of fields
+pub kinds_of_rows : (fields : List Field) → map (λ r. r.kind) (rows_of fields) ≡ kinds_of fields
 kinds_of_rows [] = refl
 kinds_of_rows (f ∷ fields) = ap (λ l. f.kind ∷ l) (kinds_of_rows fields)
 
 pub kinds_listed : (p : Message) (parts : Parts) → AreParts p parts → kinds_for parts.code ≡ Some (kinds_of parts.fields.now)
 kinds_listed p parts a = ap kinds_in a.row ∙ ap (λ (l : List FieldKind). Some l) (kinds_of_rows parts.fields.now)
 
-same_kinds : (x y : List FieldKind) (o : Option (List FieldKind)) → o ≡ Some x → o ≡ Some y → x ≡ y
+pub same_kinds : (x y : List FieldKind) (o : Option (List FieldKind)) → o ≡ Some x → o ≡ Some y → x ≡ y
 same_kinds x y o e f = cc
 
 pub spelling_of : (p : Message) (parts : Parts) → AreParts p parts → Fill (kinds_of parts.fields.now) (values_of parts) → HasSpelling p

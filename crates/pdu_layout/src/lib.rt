@@ -9,6 +9,7 @@ mod answers;
 mod configuration;
 mod field_names;
 mod fields;
+mod listed_rows;
 mod message_parts;
 mod messages;
 mod notices;
@@ -23,6 +24,7 @@ pub use configuration::{
     CFG_TIME_RES, CFG_TUNABLE_PARAMETER,
 };
 pub use fields::{Field, FieldKind, Layout};
+pub use listed_rows::{ListedRow, listed_row};
 pub use message_parts::{FieldContent, Parts, parts_of};
 pub use messages::{Cfg, Inf, NetInfo, Pdu, Rsp, Stc};
 pub use notices::{DAT_INPUT_OUTPUT, DAT_PARAMETER, NTF_LOG, NTF_STATE_CHANGED};

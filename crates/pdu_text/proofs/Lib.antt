@@ -1,3 +1,7 @@
 pub mod Fronts
+pub mod Answered
 pub mod Judged
+pub mod Fitting
+pub mod Names
+pub mod Spelled
 pub mod PrintedLines

@@ -1,20 +1,24 @@
 //! The printed form of a message, one line.
 //!
-//! What it promises: `print_pdu` writes exactly the line that `specs/Printed.antt` gives. Which texts
-//! read as which message (`specs/Reading.antt`), and which rule another text breaks first
-//! (`specs/Refusals.antt`), is defined here with the types that a reader answers with; the words of a
-//! row are read exactly as these definitions say. Only want of memory has no cause in a contract.
+//! What it promises: `print_pdu` writes exactly the line that `specs/Printed.antt` gives.
+//! `with_pdu_text` hands exactly the message as which a text reads (`specs/Reading.antt`) to its taker,
+//! once, and refuses any other text by the first rule that it breaks (`specs/Refusals.antt`), the taker
+//! not called. Only want of memory has no cause in a contract.
 #![tactic(auto)]
 
 mod contents;
+mod handing;
 mod line_fields;
+mod message_names;
 mod print;
 mod reasons;
 mod takers;
+mod texts_read;
 mod value_texts;
 mod word_values;
 
 pub use contents::{Said, SaidMessage};
+pub use handing::with_pdu_text;
 pub use print::print_pdu;
 pub use reasons::{PduTextWhy, TextRefused};
 pub use takers::PduTaker;
