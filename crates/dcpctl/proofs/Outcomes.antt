@@ -1,5 +1,5 @@
 -- What was made of an input is the outcome of the words that named its command.
-use Rattle.std.proofs.Common.{◌≡◌, ℕ, Bool, true, false, List, Option, subst, sym}
+use Rattle.std.proofs.Common.{ℕ, Bool, true, false, List, Option, subst, sym}
 use Rattle.dcpctl.specs.declared.commands.Command.{Command}
 use Rattle.dcpctl.specs.declared.statuses.Status.{Status}
 use Rattle.dcpctl.specs.declared.statuses.Status.TheVariants.{Done, Usage, BadInput, RunFailed, ReadFault, WriteFault, NetFault, OutOfMemory, Differs}

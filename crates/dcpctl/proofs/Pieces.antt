@@ -1,5 +1,5 @@
 -- One read and one write, where the bytes are told.
-use Rattle.std.proofs.Common.{◌≡◌, ℕ, ◌+◌, ◌<◌, ◌≤◌, List, [], ◌∷◌, ◌++◌, length, take, drop, refl, sym, ap, ◌∙◌, arith, Option, Some, None, append_assoc}
+use Rattle.std.proofs.Common.{◌≡◌, ℕ, ◌+◌, ◌≤◌, List, [], ◌++◌, length, take, drop, sym, ap, ◌∙◌, arith, Option, Some, None, append_assoc}
 use Rattle.std.proofs.lemmas.List.{take-append-drop, take-take, drop-take, take-append-le, take_all, take_at, append-nil}
 use Rattle.dcp_io.specs.declared.reads.Read.TheVariants as read
 use Rattle.dcp_io.specs.declared.writes.Written.TheVariants as written

@@ -1,4 +1,4 @@
-use Rattle.std.proofs.Common.{◌≡◌, ◌≤◌, ◌+◌, ◌-◌, length, take, drop, arith, rules, sym, ap, ◌∙◌, Some, ◌++◌}
+use Rattle.std.proofs.Common.{◌≡◌, ◌≤◌, length, take, drop, arith, rules, sym, ap, ◌∙◌, ◌++◌}
 use Rattle.std.proofs.lemmas.List.{length-append, length-take}
 use Rattle.dcpctl.proofs.Pieces.{read_more, end_is, full_is}
 use Rattle.dcpctl.proofs.inputs.read_input.Goals as goal

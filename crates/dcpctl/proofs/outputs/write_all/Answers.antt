@@ -1,4 +1,4 @@
-use Rattle.std.proofs.Common.{◌≤◌, ◌+◌, length, take, drop, arith, rules, sym, ap, ◌∙◌, Some, ◌++◌}
+use Rattle.std.proofs.Common.{arith}
 use Rattle.std.proofs.lemmas.List.{length-drop, take_rest}
 use Rattle.dcpctl.proofs.Pieces.{failed_adds, wrote_adds, front_is}
 use Rattle.dcpctl.proofs.outputs.write_all.Goals as goal
