@@ -1,5 +1,5 @@
 -- What a moment shows depends on the rows before it alone.
-use Rattle.std.proofs.Common.{◌≡◌, ℕ, zero, suc, ◌+◌, ◌*◌, ◌/◌, ◌<◌, ◌≤◌, Some, None, Option, Ok, Err, Result, List, [], ◌∷◌, map, length, refl, ◌∙◌, ap, arith, ℤ, pos, get_or}
+use Rattle.std.proofs.Common.{◌≡◌, ℕ, zero, suc, ◌+◌, ◌-◌, ◌*◌, ◌/◌, ◌<◌, ◌≤◌, Some, None, Option, Ok, Err, Result, List, [], ◌∷◌, ◌++◌, map, length, refl, sym, ◌∙◌, ap, arith, ℤ, pos, get_or}
 use Rattle.std.specs.List.{range_with_len}
 use Rattle.dcp_types.specs.declared.fault_codes.FaultCode.{FaultCode}
 use Rattle.fixed_models.specs.Steps.{model_step}

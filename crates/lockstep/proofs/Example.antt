@@ -4,7 +4,7 @@ use Rattle.dcp_types.specs.declared.addresses.Address.{Address}
 use Rattle.dcp_types.specs.declared.protocols.Protocol.TheVariants.{Udp}
 use Rattle.dcp_types.specs.declared.data_types.DataType.TheVariants.{I32}
 use Rattle.fixed_models.specs.declared.kinds.Kind.TheVariants.{Gain, Integrator}
-use Rattle.fixed_models.specs.Steps.{start, step_once, outputs, repeated}
+use Rattle.fixed_models.specs.Steps.{start, step_once, outputs, micro_steps}
 use Rattle.fixed_models.specs.Rows.{gain, integrator, q}
 use Rattle.slave_desc.specs.declared.descriptions.SlaveDesc.{SlaveDesc}
 use Rattle.scenario.specs.declared.scenarios.Scenario.{Scenario}
@@ -44,15 +44,15 @@ unfolding start outputs
 row_0 = refl
 
 row_1 : row (ring []) rows 1 1 ≡ Ok (pos 20 ∷ pos 10 ∷ [])
-unfolding start step_once outputs repeated gain integrator q
+unfolding start step_once outputs micro_steps gain integrator q
 row_1 = refl
 
 row_2 : row (ring []) rows 1 2 ≡ Ok (pos 20 ∷ pos 20 ∷ [])
-unfolding start step_once outputs repeated gain integrator q
+unfolding start step_once outputs micro_steps gain integrator q
 row_2 = refl
 
 row_5 : row (ring []) rows 1 5 ≡ Ok (pos 100 ∷ pos 80 ∷ [])
-unfolding start step_once outputs repeated gain integrator q
+unfolding start step_once outputs micro_steps gain integrator q
 row_5 = refl
 
 -- the same where the amplifier sends at each second step
@@ -60,9 +60,9 @@ abbrev slower : List (List ℤ)
 slower = (pos 0 ∷ pos 10 ∷ []) ∷ (pos 20 ∷ pos 10 ∷ []) ∷ (pos 20 ∷ pos 10 ∷ []) ∷ (pos 20 ∷ pos 20 ∷ []) ∷ (pos 40 ∷ pos 30 ∷ []) ∷ (pos 60 ∷ pos 50 ∷ []) ∷ []
 
 slower_2 : row (ring (record { from = 1; to = 2; q = 2 } ∷ [])) slower 1 2 ≡ Ok (pos 20 ∷ pos 10 ∷ [])
-unfolding start step_once outputs repeated gain integrator q
+unfolding start step_once outputs micro_steps gain integrator q
 slower_2 = refl
 
 slower_5 : row (ring (record { from = 1; to = 2; q = 2 } ∷ [])) slower 1 5 ≡ Ok (pos 60 ∷ pos 50 ∷ [])
-unfolding start step_once outputs repeated gain integrator q
+unfolding start step_once outputs micro_steps gain integrator q
 slower_5 = refl

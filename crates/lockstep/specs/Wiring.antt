@@ -1,5 +1,5 @@
 -- Where an input takes its values from, and where an output stands in a row.
-use Rattle.std.specs.Prelude.{ℕ, ◌+◌, ◌-◌, ◌==◌, ◌&&◌, Option, Some, None, List, take, find}
+use Rattle.std.specs.Prelude.{ℕ, ◌+◌, ◌-◌, ◌==◌, ◌&&◌, Option, Some, None, List, length, take, find, sum_by}
 use Rattle.scenario.specs.declared.scenarios.Wire.{Wire}
 use Rattle.scenario.specs.declared.scenarios.Every.{Every}
 use Rattle.scenario.specs.Limits.{total_outputs}

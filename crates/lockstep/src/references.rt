@@ -1,5 +1,6 @@
 //! Where a reference ends before its last row.
 
+use crate::row_lists::Rows;
 use dcp_types::FaultCode;
 
 /// The fault that ends the rows: the first by run and then by step, and there the one of the least
@@ -14,4 +15,13 @@ pub struct RefFault {
     /// type.
     pub step: u32,
     pub code: FaultCode,
+}
+
+/// What a correct run prints.
+#[derive(Debug, Drop)]
+pub struct Reference {
+    /// The rows of all runs. Row k of run r stands at place (r - 1) x (steps + 1) + k.
+    pub rows: Rows,
+    /// What ends the rows early; none where they are all there.
+    pub fault: Option<RefFault>,
 }

@@ -106,7 +106,7 @@ rest_once [] t v w (x ∷ vs) ws r f g e = absurd f.1
 rest_once [] t v w [] (x ∷ ws) r f g e = absurd g.1
 rest_once (k ∷ ks) t v w vs ws r f g e = absurd cc
 
-rest_after : (k : FieldKind) (ks : List FieldKind) → IsSized k → rest_is_last (k ∷ ks) ≡ true → rest_is_last ks ≡ true
+pub rest_after : (k : FieldKind) (ks : List FieldKind) → IsSized k → rest_is_last (k ∷ ks) ≡ true → rest_is_last ks ≡ true
 rest_after Rest ks s r = absurd s
 rest_after k ks s r = r
 
@@ -122,7 +122,7 @@ values_once (k ∷ ks) t (v ∷ vs) (w ∷ ws) r f g e =
       | inr is ↦ subst (λ (j : FieldKind). rest_is_last (j ∷ ks) ≡ true → FitEach (j ∷ ks) t (v ∷ vs) → FitEach (j ∷ ks) t (w ∷ ws) → spelled (j ∷ ks) t (v ∷ vs) ≡ spelled (j ∷ ks) t (w ∷ ws) → v ∷ vs ≡ w ∷ ws) (sym is) (rest_once ks t v w vs ws) r f g e
     ]
 
-same_kinds : (x y : List FieldKind) (o : Option (List FieldKind)) → o ≡ Some x → o ≡ Some y → x ≡ y
+pub same_kinds : (x y : List FieldKind) (o : Option (List FieldKind)) → o ≡ Some x → o ≡ Some y → x ≡ y
 same_kinds x y o e f = cc
 
 pub one_message : (p q : Message) (b : List ℕ) → Spells p b → Spells q b → p ≡ q

@@ -148,7 +148,12 @@ fn put_field_at(
 ///
 /// Each of the contents fits its field, and with the code they have at most 1,024 bytes. Contents
 /// past the fields mean nothing.
-pub fn put_message(code: u8, fields: &[Field], contents: &[FieldContent<'_>], room: &mut [u8]) -> usize
+pub fn put_message(
+    code: u8,
+    fields: &[Field],
+    contents: &[FieldContent<'_>],
+    room: &mut [u8],
+) -> usize
     requires size { length room.old ≡ 1024 }
     requires few { length fields.now ≤ length contents.now }
     requires fill { Fill (kinds_of fields.now) (map value_of (take (length fields.now) contents.now)) }

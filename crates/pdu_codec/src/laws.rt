@@ -2,7 +2,7 @@
 
 ghost use Rattle.std.specs.Prelude.{◌≡◌, IfOk, IfErr};
 ghost use Rattle.pdu_layout.specs.Message.{message_of, HasSpelling};
-ghost use Rattle.pdu_codec.specs.Laws.{OneToOne};
+ghost use Rattle.pdu_codec.specs.Laws.{OneToOne, OneRefusal};
 
 use crate::decoding::decode;
 use crate::encoding::encode;
@@ -12,6 +12,11 @@ use pdu_layout::Pdu;
 /// No two messages have the same bytes.
 pub fn spellings_are_one_to_one()
     ensures { OneToOne }
+{}
+
+/// Bytes that are no message have one refusal: one place and one cause.
+pub fn refusals_are_unique()
+    ensures { OneRefusal }
 {}
 
 /// Writes a message into the room and reads it back: it is the same message.

@@ -1,8 +1,8 @@
 //! The bytes of messages: reading them and writing them.
 //!
 //! What it promises: bytes are read exactly where they spell a message, and then as that message;
-//! every other list of bytes has one refusal, decided over the spellings of all messages. No call
-//! takes memory.
+//! every other list of bytes has one refusal, decided over the spellings of all messages. What is
+//! written is the message's one spelling, and is read back as the same message. No call takes memory.
 #![tactic(auto)]
 
 mod access;
@@ -21,7 +21,7 @@ mod walker;
 pub use decoding::decode;
 pub use encoding::{encode, put_message};
 pub use faults::{DecodeFault, DecodeWhy};
-pub use laws::{spellings_are_one_to_one, written_and_read};
+pub use laws::{refusals_are_unique, spellings_are_one_to_one, written_and_read};
 
 #[cfg(test)]
 mod tests;

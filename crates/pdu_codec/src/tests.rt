@@ -730,5 +730,6 @@ fn refused_vectors(rt: HostRuntime) -> Result<(), Fail> {
         assert!(rt; written_and_read(&fits, &mut room).is_ok());
     }
     spellings_are_one_to_one();
+    refusals_are_unique();
     Ok(())
 }

@@ -63,6 +63,9 @@ fn type_from(kind: FieldKind, last: DataType, piece: &[u8]) -> DataType
     last
 }
 
+/// Where each field ends, by the layout with this code.
+// In line, each message has a walk of its own, in which its fields are known: twice as fast.
+#[inline(always)]
 pub fn walk<const N: usize>(
     code: u8,
     fields: &[Field],

@@ -1,5 +1,5 @@
 -- The answers of a reader of texts by the definitions.
-use Rattle.std.proofs.Common.{◌≡◌, ℕ, List, Result, Ok, Err, IfOk, IfErr}
+use Rattle.std.proofs.Common.{ℕ, List, Result, Ok, Err, IfOk, IfErr}
 use Rattle.pdu_text.specs.Contents.{message_in}
 use Rattle.pdu_text.specs.declared.contents.SaidMessage.{SaidMessage}
 use Rattle.pdu_text.specs.Reasons.{Fails, Gives}

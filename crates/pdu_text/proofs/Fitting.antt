@@ -1,13 +1,12 @@
 -- What the words say of the fields fits them, and the bytes have room.
-use Rattle.std.proofs.Common.{◌≡◌, ℕ, ◌+◌, ◌*◌, ◌-◌, ◌^◌, ◌<◌, ◌≤◌, ltb, leb, Bool, true, false, List, [], ◌∷◌, length, map, Option, Some, None, cond, eqb, Result, Ok, Err, refl, sym, ap, ◌∙◌, subst, arith}
+use Rattle.std.proofs.Common.{◌≡◌, ℕ, ◌+◌, ◌*◌, ◌-◌, ◌^◌, ◌<◌, ◌≤◌, ltb, leb, Bool, true, false, List, [], ◌∷◌, length, map, Option, Some, None, cond, eqb, Result, Ok, Err, refl, sym, ap, subst, arith}
 use Rattle.std.specs.Prelude.{ℤ}
 use Rattle.std.specs.List.{slice_split}
 use Rattle.std.specs.Option.{option_and_then}
 use Rattle.std.specs.Result.{result_ok}
 use Rattle.std.proofs.lemmas.Bool.Decides.{nat_tests}
 use Rattle.std.proofs.lemmas.List.{length-append}
-use Rattle.hex.specs.Hex.{IsBytes, decode_of}
-use Rattle.hex.specs.declared.error.FromHexError.{FromHexError}
+use Rattle.hex.specs.Hex.{decode_of}
 use Rattle.hex.proofs.HexLemmas.{decode_of-ok}
 use Rattle.dcp_types.specs.Codes.{state_code}
 use Rattle.dcp_types.specs.Values.{fits, digits}
@@ -23,11 +22,11 @@ use Rattle.text_lines.specs.declared.reasons.TextWhy.TheVariants as text_why
 use Rattle.text_lines.proofs.Results as results
 use Rattle.text_lines.proofs.IdentityRange.{identity_small}
 use Rattle.pdu_layout.specs.declared.fields.FieldKind.{FieldKind}
-use Rattle.pdu_layout.specs.declared.fields.FieldKind.TheVariants.{U8, U16, U32, U64, I64, StateCode, TypeCode, Value, Uuid, Ip, Rest}
-use Rattle.pdu_layout.specs.Fields.{FieldValue, type_from, width, limit, Fits, FitEach, bytes_of, type_after, spelled}
+use Rattle.pdu_layout.specs.declared.fields.FieldKind.TheVariants.{I64, StateCode, TypeCode, Value, Uuid, Ip, Rest}
+use Rattle.pdu_layout.specs.Fields.{FieldValue, type_from, limit, Fits, FitEach, bytes_of, type_after, spelled}
 use Rattle.pdu_layout.specs.Fields.FieldValue.{Number, Signed, Bytes}
-use Rattle.pdu_layout.specs.Table.{FieldRow, Row, row_of, kinds_in, kinds_for}
-use Rattle.pdu_layout.specs.Message.{Message, Spells, HasSpelling}
+use Rattle.pdu_layout.specs.Table.{FieldRow, kinds_in}
+use Rattle.pdu_layout.specs.Message.{Message, HasSpelling}
 use Rattle.pdu_layout.proofs.Contents.{length-number, length-signed}
 use Rattle.pdu_text.specs.Reasons.{◌>>=◌, or_why, within}
 use Rattle.pdu_text.specs.Words.{state_named, is_signed, below_said, typed_said, value_said, size_of, placed, text_after, field_said, type_said}

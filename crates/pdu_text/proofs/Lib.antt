@@ -3,5 +3,6 @@ pub mod Answered
 pub mod Judged
 pub mod Fitting
 pub mod Names
+pub mod Once
 pub mod Spelled
 pub mod PrintedLines

@@ -1,5 +1,5 @@
 -- The codes that may have a name, one after another.
-use Rattle.std.proofs.Common.{◌≡◌, ℕ, suc, ◌+◌, ◌-◌, ◌<◌, ◌≤◌, cond, true, false, List, Option, Some, None, refl, ap, ◌∙◌, arith}
+use Rattle.std.proofs.Common.{◌≡◌, ℕ, suc, ◌+◌, ◌-◌, ◌<◌, ◌≤◌, cond, true, false, List, Option, Some, None, ap, ◌∙◌, arith}
 use Rattle.pdu_text.specs.Lines.{is_named, code_among}
 
 abbrev some_code : ℕ → Option ℕ

@@ -5,7 +5,7 @@ use Rattle.pdu_layout.specs.declared.fields.FieldKind.{FieldKind}
 use Rattle.pdu_layout.specs.declared.fields.Field.{Field}
 use Rattle.pdu_layout.specs.declared.message_parts.FieldContent.{FieldContent}
 use Rattle.pdu_layout.specs.Fields.{FieldValue, FitEach, spelled, bytes_of, type_after}
-use Rattle.pdu_layout.specs.Table.{Row, row_of, rows_of, kinds_of, kinds_in, kinds_for}
+use Rattle.pdu_layout.specs.Table.{row_of, rows_of, kinds_of, kinds_in, kinds_for}
 use Rattle.pdu_layout.specs.Message.{Message, Spells, HasSpelling}
 use Rattle.pdu_layout.specs.Parts.{value_of}
 use Rattle.pdu_layout.specs.Ranges.{Fill}

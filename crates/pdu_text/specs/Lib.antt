@@ -7,3 +7,4 @@ pub mod Reading
 pub mod Refusals
 pub mod Machine
 pub mod Takers
+pub mod Laws

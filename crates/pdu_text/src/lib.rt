@@ -8,6 +8,7 @@
 
 mod contents;
 mod handing;
+mod laws;
 mod line_fields;
 mod message_names;
 mod print;
@@ -19,6 +20,7 @@ mod word_values;
 
 pub use contents::{Said, SaidMessage};
 pub use handing::with_pdu_text;
+pub use laws::texts_are_judged_once;
 pub use print::print_pdu;
 pub use reasons::{PduTextWhy, TextRefused};
 pub use takers::PduTaker;

@@ -14,8 +14,12 @@ use Rattle.slave_desc.specs.declared.descriptions.SlaveDesc.{SlaveDesc}
 use Rattle.scenario.specs.Machine.{closes, start, take_line, finished, scenario_of}
 use Rattle.scenario.specs.Judging.{bad, blocks, head_said, slaves_said, why_at, why_end_of, FirstBad}
 use Rattle.scenario.specs.Reads.{scenario_said, Reads, ReadsOrRefused, NeverBoth, OneValue, OneFault}
-use Rattle.scenario.proofs.Results.{given_same}
+use Rattle.scenario.proofs.Results.{given_same, moved}
+use Rattle.scenario.specs.Grammar.{AreSlaves}
 use Rattle.scenario.proofs.Groups.{all_said}
+use Rattle.scenario.proofs.Kept.{text_gives}
+use Rattle.scenario.proofs.Grammatical.{grammatical}
+use Rattle.scenario.proofs.Equal.{passes, says_all}
 use Rattle.scenario.proofs.Stands.{Stands, closes_bad, closes_after, lined}
 use Rattle.scenario.proofs.Moves.{line_moves, starts}
 use Rattle.scenario.proofs.Judged.{at_next, at_end, first_bad}
@@ -26,9 +30,9 @@ use Rattle.scenario.specs.declared.scenarios.Scenario.{Scenario}
 
 -- nothing is wrong up to the end, and the scenario is what the lines say
 abbrev IsRead : List (List ℕ) → Scenario → Type 0
-IsRead ls s = ((n : ℕ) → n < length ls + 1 + 1 → 0 < n → why_at ls n ≡ None) × (s ≡ scenario_said ls)
+IsRead ls s = ((n : ℕ) → n < length ls + 1 + 1 → 0 < n → why_at ls n ≡ None) × (s ≡ scenario_said ls) × AreSlaves (blocks ls) s.slaves
 
-end_said : (ls : List (List ℕ)) (r : Reader) (s : Scenario) → Stands ls r → finished r ≡ Ok s → (why_end_of ls ≡ None) × (s ≡ scenario_said ls)
+pub end_said : (ls : List (List ℕ)) (r : Reader) (s : Scenario) → Stands ls r → finished r ≡ Ok s → (why_end_of ls ≡ None) × (s ≡ scenario_said ls) × AreSlaves (blocks ls) s.slaves
 end_said ls r s h e =
     let c = bind_ok (closes r true 2) (λ q. Ok (scenario_of q.head q.slaves q.links)) s e in
     let after = closes_after ls r h true 2 c.0 c.1 in (
@@ -37,13 +41,14 @@ end_said ls r s h e =
           ∙ ap (λ (l : List HeadItem). scenario_of l c.0.slaves c.0.links) (after.head ∙ h.head)
           ∙ ap (λ (l : List SlaveDesc). scenario_of (head_said ls) l c.0.links) (sym (all_said (blocks ls) c.0.slaves (after.shut refl).0))
           ∙ ap (λ (l : Links). scenario_of (head_said ls) (slaves_said ls) l) (after.links ∙ h.links),
+      moved (λ (s : Scenario). AreSlaves (blocks ls) s.slaves) (scenario_of c.0.head c.0.slaves c.0.links) s c.2 (after.shut refl).0,
     )
 
 run_said : (done rest : List (List ℕ)) (r : Reader) (s : Scenario) → Stands done r → ((n : ℕ) → n < length done + 1 → 0 < n → why_at (done ++ rest) n ≡ None) → run_of take_line finished (length done + 1) r rest ≡ Ok s → IsRead (done ++ rest) s
 run_said done [] r s h earlier e =
     let t = end_said done r s h (at_ok (length done + 1) (finished r) s e) in
     subst (λ (l : List (List ℕ)). IsRead l s) (sym (append-nil done))
-    (below_more (λ n. 0 < n → why_at done n ≡ None) (length done + 1) (subst (λ (l : List (List ℕ)). (n : ℕ) → n < length done + 1 → 0 < n → why_at l n ≡ None) (append-nil done) earlier) (λ _. at_end done ∙ t.0), t.1)
+    (below_more (λ n. 0 < n → why_at done n ≡ None) (length done + 1) (subst (λ (l : List (List ℕ)). (n : ℕ) → n < length done + 1 → 0 < n → why_at l n ≡ None) (append-nil done) earlier) (λ _. at_end done ∙ t.0), t.1, t.2)
 run_said done (line ∷ rest) r s h earlier e =
     let t = and_ok (at_line (length done + 1) (take_line r line)) (λ t. run_of take_line finished (length done + 1 + 1) t rest) s e in
     let took = at_ok (length done + 1) (take_line r line) t.0 t.1 in
@@ -56,16 +61,16 @@ run_said done (line ∷ rest) r s h earlier e =
     (subst (λ (l : List (List ℕ)). (n : ℕ) → n < length (done ++ line ∷ []) + 1 → 0 < n → why_at l n ≡ None) (sym same) (subst (λ (k : ℕ). (n : ℕ) → n < k + 1 → 0 < n → why_at (done ++ line ∷ rest) n ≡ None) longer more))
     (subst (λ (n : ℕ). run_of take_line finished (n + 1) t.0 rest ≡ Ok s) longer t.2))
 
-reads : (text : List ℕ) (s : Scenario) → run_of take_line finished 1 start (lines text) ≡ Ok s → Reads text s
+pub reads : (text : List ℕ) (s : Scenario) → run_of take_line finished 1 start (lines text) ≡ Ok s → Reads text s
 reads text s e =
     let t = run_said [] (lines text) start s starts (λ n below some. absurd (omega arith)) e in
-    record { each = λ n some below. t.0 n (omega arith) some; says = t.1 }
+    grammatical (lines text) (λ n some below. t.0 n (omega arith) some) s t.2 (text_gives (lines text) s e) t.1
 
 pub never_both : NeverBoth
-never_both text s line why r b = let none = r.each b.place b.counted.0 b.counted.1 in let here = b.here in cc
+never_both text s line why r b = let none = passes (lines text) s r b.place b.counted.0 b.counted.1 in let here = b.here in cc
 
 pub one_value : OneValue
-one_value text a b r s = r.says ∙ sym s.says
+one_value text a b r s = says_all (lines text) a r ∙ sym (says_all (lines text) b s)
 
 pub one_fault : OneFault
 one_fault text m n v w a b = one_first why_at (lines text) m n v w a b

@@ -7,6 +7,7 @@ use Rattle.slave_desc.specs.Judging.{busy_in, heartbeat_in, resolution_in, items
 use Rattle.slave_desc.specs.Reads.{Describes, IsOr}
 use Rattle.slave_desc.specs.declared.items.Item.{Item}
 use Rattle.slave_desc.specs.declared.descriptions.SlaveDesc.{SlaveDesc}
+pub use Rattle.scenario.specs.Grammar.{AreSlaves}
 use Rattle.scenario.specs.Judging.{begins_block, opens, onto, group, last_of, front_of, first_or, slave_said, slaves_of}
 
 -- a line at the end of the last block
@@ -66,13 +67,6 @@ front_is (h ∷ []) g = refl
 front_is (h ∷ i ∷ gs) g = ap (λ l. h ∷ l) (front_is (i ∷ gs) g)
 
 -- ---- the slaves of blocks
-
--- the blocks describe these slaves
-abbrev pub AreSlaves : List (List (List ℕ)) → List SlaveDesc → Type 0
-AreSlaves [] [] = Unit {0}
-AreSlaves [] (d ∷ ds) = ⊥
-AreSlaves (g ∷ gs) [] = ⊥
-AreSlaves (g ∷ gs) (d ∷ ds) = Describes (items_in g) d × AreSlaves gs ds
 
 pub slaves_more : (gs : List (List (List ℕ))) (ds : List SlaveDesc) (g : List (List ℕ)) (d : SlaveDesc) → AreSlaves gs ds → Describes (items_in g) d → AreSlaves (gs ++ g ∷ []) (ds ++ d ∷ [])
 slaves_more [] [] g d h k = (k, tt)

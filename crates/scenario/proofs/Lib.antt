@@ -7,4 +7,9 @@ pub mod Groups
 pub mod Stands
 pub mod Moves
 pub mod Judged
+pub mod Orders
+pub mod Passing
+pub mod Grammatical
+pub mod Excluded
+pub mod Equal
 pub mod Answered

@@ -77,10 +77,10 @@ stands_of ls r h = record { section = h.section; head = h.said; closed = h.close
 
 -- ---- one more line
 
-lines_push : (s : ℕ) (ls : List (List ℕ)) (l : List ℕ) (key : Option AnyKey) → key_at l ≡ key → lines_in s (ls ++ l ∷ []) ≡ lines_in s ls ++ cond (is_of s key) (l ∷ []) []
+pub lines_push : (s : ℕ) (ls : List (List ℕ)) (l : List ℕ) (key : Option AnyKey) → key_at l ≡ key → lines_in s (ls ++ l ∷ []) ≡ lines_in s ls ++ cond (is_of s key) (l ∷ []) []
 lines_push s ls l key k = filter-append (λ (l : List ℕ). is_of s (key_at l)) ls (l ∷ []) ∙ ap (λ (key : Option AnyKey). lines_in s ls ++ cond (is_of s key) (l ∷ []) []) k
 
-head_push : (ls : List (List ℕ)) (l : List ℕ) (key : Option AnyKey) → key_at l ≡ key → head_said (ls ++ l ∷ []) ≡ head_said ls ++ cons_option (head_by key (args_of (words l))) []
+pub head_push : (ls : List (List ℕ)) (l : List ℕ) (key : Option AnyKey) → key_at l ≡ key → head_said (ls ++ l ∷ []) ≡ head_said ls ++ cons_option (head_by key (args_of (words l))) []
 head_push ls l key k = filter_map-append (λ (l : List ℕ). head_by (key_at l) (args_of (words l))) ls (l ∷ []) ∙ ap (λ (key : Option AnyKey). head_said ls ++ cons_option (head_by key (args_of (words l))) []) k
 
 came_push : {X : Type 0} (xs : List X) (x : X) → came (xs ++ x ∷ []) ≡ true
@@ -110,10 +110,10 @@ links_push all l fresh = λ i. record {
   net = record { lines = listed line_in all l i; chaos = (ap (λ xs. slice_get xs 0) (listed chaos_in all l) ∙ first_newer (filter_map chaos_in all) (chaos_in l) fresh) i };
 }
 
-abbrev IsChaosKey : LinkKey → Link → Type 0
+abbrev pub IsChaosKey : LinkKey → Link → Type 0
 IsChaosKey key l = is_some (chaos_in l) ≡ true → is_chaos key ≡ true
 
-chaos_key : (slaves : List SlaveDesc) (runs : ℕ) (key : LinkKey) (args : List (List ℕ)) (l : Link) → link_of slaves runs key args ≡ Ok l → IsChaosKey key l
+pub chaos_key : (slaves : List SlaveDesc) (runs : ℕ) (key : LinkKey) (args : List (List ℕ)) (l : Link) → link_of slaves runs key args ≡ Ok l → IsChaosKey key l
 chaos_key slaves runs linkkeys.Wire args l e = let x = bind_ok (wire_of slaves args) _ l e in moved (IsChaosKey linkkeys.Wire) (link.Wire x.0) l x.2 (λ t. absurd (false≢true t))
 chaos_key slaves runs linkkeys.Set args l e = let x = bind_ok (setting_of slaves args) _ l e in moved (IsChaosKey linkkeys.Set) (link.Set x.0) l x.2 (λ t. absurd (false≢true t))
 chaos_key slaves runs linkkeys.RerunSet args l e = let x = bind_ok (rerun_of slaves runs args) _ l e in moved (IsChaosKey linkkeys.RerunSet) (link.RerunSet x.0) l x.2 (λ t. absurd (false≢true t))
@@ -123,13 +123,13 @@ chaos_key slaves runs linkkeys.Copy args l e = let x = bind_ok (copy_of (length 
 chaos_key slaves runs linkkeys.Hold args l e = let x = bind_ok (hold_of (length slaves) args) _ l e in moved (IsChaosKey linkkeys.Hold) (link.Net x.0) l x.2 (λ t. absurd (false≢true t))
 chaos_key slaves runs linkkeys.Chaos args l e = λ t. refl
 
-and_one : (a b : Bool) → (a && b) ≡ false → a ≡ true → b ≡ false
+pub and_one : (a b : Bool) → (a && b) ≡ false → a ≡ true → b ≡ false
 and_one true b e f = e
 and_one false b e f = absurd (false≢true f)
 
 -- ---- each kind of line
 
-slave_key_is : (key : Key) → is_slave_key (Some (any.Block key)) ≡ begins key
+pub slave_key_is : (key : Key) → is_slave_key (Some (any.Block key)) ≡ begins key
 slave_key_is keys.Slave = refl
 slave_key_is keys.Uuid = refl
 slave_key_is keys.Address = refl
@@ -292,7 +292,7 @@ module _ (ls : List (List ℕ)) (r q : Reader) (h : Stands ls r) where
 reframe : (l1 l1' l2 l2' : List (List ℕ)) (hd hd' : List HeadItem) (r : Reader) → l1 ≡ l1' → l2 ≡ l2' → hd ≡ hd' → Frame l1 l2 hd r → Frame l1' l2' hd' r
 reframe l1 l1' l2 l2' hd hd' r e f g h = subst (λ (l : List (List ℕ)). Frame l l2' hd' r) e (subst (λ (l : List (List ℕ)). Frame l1 l hd' r) f (subst (λ (l : List HeadItem). Frame l1 l2 l r) g h))
 
-key_said : (line w : List ℕ) (args : List (List ℕ)) (key : AnyKey) → words line ≡ w ∷ args → is_skipped (w ∷ args) ≡ false → any_key w ≡ Some key → key_at line ≡ Some key
+pub key_said : (line w : List ℕ) (args : List (List ℕ)) (key : AnyKey) → words line ≡ w ∷ args → is_skipped (w ∷ args) ≡ false → any_key w ≡ Some key → key_at line ≡ Some key
 key_said line w args key said skip k = ap (λ (ws : List (List ℕ)). cond (is_skipped ws) None (key_of_words ws)) said ∙ ap (λ (b : Bool). cond b None (any_key w)) skip ∙ k
 
 module _ (ls : List (List ℕ)) (r q t : Reader) (h : Stands ls r) (line w : List ℕ) (args : List (List ℕ)) (said : words line ≡ w ∷ args) (skip : is_skipped (w ∷ args) ≡ false) where

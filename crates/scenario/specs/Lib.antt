@@ -6,4 +6,5 @@ pub mod Limits
 pub mod Machine
 pub mod Sound
 pub mod Judging
+pub mod Grammar
 pub mod Reads

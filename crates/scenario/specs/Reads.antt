@@ -1,19 +1,19 @@
 -- Which scenario a text is.
-use Rattle.std.specs.Prelude.{◌≡◌, ℕ, ◌+◌, ◌<◌, ◌⊎◌, List, length, None}
+use Rattle.std.specs.Prelude.{◌≡◌, ℕ, ◌⊎◌, List}
 use Rattle.std.specs.Str.Lines.{lines}
 use Rattle.text_lines.specs.declared.reasons.TextWhy.{TextWhy}
 use Rattle.scenario.specs.Machine.{scenario_of}
-use Rattle.scenario.specs.Judging.{head_said, slaves_said, links_said, why_at, FirstBad}
+use Rattle.scenario.specs.Judging.{head_said, slaves_said, links_said, FirstBad}
+use Rattle.scenario.specs.Grammar.{AreOf}
 use Rattle.scenario.specs.declared.scenarios.Scenario.{Scenario}
 
 -- the scenario that lines say: its head, its blocks and its links, each by the lines of its section
 abbrev pub scenario_said : List (List ℕ) → Scenario
 scenario_said ls = scenario_of (head_said ls) (slaves_said ls) (links_said ls)
 
--- nothing is wrong with any line, the end included, and the scenario is what the lines say
-pub record Reads (text : List ℕ) (s : Scenario) : Type 0 where
-  pub each : (n : ℕ) → 0 < n → n < length (lines text) + 2 → why_at (lines text) n ≡ None
-  pub says : s ≡ scenario_said (lines text)
+-- the lines of the text are those of this scenario
+abbrev pub Reads : List ℕ → Scenario → Type 0
+Reads text s = AreOf (lines text) s
 
 -- each text reads or has a first line that is refused
 abbrev pub ReadsOrRefused : Type 0

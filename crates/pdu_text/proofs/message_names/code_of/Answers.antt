@@ -1,4 +1,4 @@
-use Rattle.std.proofs.Common.{◌≡◌, refl, sym, ◌∙◌, arith}
+use Rattle.std.proofs.Common.{refl, sym, ◌∙◌, arith}
 use Rattle.pdu_text.specs.Lines.{code_named}
 use Rattle.pdu_text.proofs.Names.{here, next, none}
 use Rattle.pdu_text.proofs.message_names.code_of.Goals as goal

@@ -1,0 +1,149 @@
+//! Which output each input reads, looked up once before the first step.
+
+ghost use Rattle.std.specs.Prelude.{◌≡◌, ◌==◌, ◌&&◌, ◌<◌, ◌≤◌, ◌-◌, ◌%◌, ◌^◌, length, map, All, OnOk, IfOk, sum_by, pos, slice_index_or};
+ghost use Rattle.std.specs.Option.{ForSome};
+ghost use Rattle.scenario.specs.Limits.{total_outputs};
+ghost use Rattle.scenario.specs.Sound.{IsWire, IsScenario};
+ghost use Rattle.lockstep.specs.Wiring.{wire_into, every_between, interval};
+ghost use Rattle.lockstep.specs.Feeds.{feed_of, feeds_of, fed, IsFeed};
+
+use crate::tables::Table;
+use dcp_types::OutOfMemory;
+use scenario::{Every, Scenario, Wire};
+use slave_desc::SlaveDesc;
+use std::alloc::Global;
+
+/// The output that an input reads.
+#[derive(Clone, Copy, Debug)]
+pub(crate) struct Feed {
+    /// Where the output stands in a row.
+    pub column: usize,
+    /// The steps from one renewal to the next, at least 1.
+    pub interval: u32,
+}
+
+fn goes_into(wire: &Wire, slave: u8, input: usize) -> bool
+    ensures { result ≡ ((wire.now.to == slave) && (wire.now.into == input)) }
+{
+    wire.to == slave && usize::from(wire.into) == input
+}
+
+fn wire_into(wires: &[Wire], slave: u8, input: usize) -> Option<Wire>
+    ensures { result ≡ wire_into wires.now slave input }
+{
+    wires.iter().copied().find(|w| goes_into(w, slave, input))
+}
+
+fn is_between(every: &Every, from: u8, to: u8) -> bool
+    ensures { result ≡ ((every.now.from == from) && (every.now.to == to)) }
+{
+    every.from == from && every.to == to
+}
+
+fn every_between(every: &[Every], from: u8, to: u8) -> Option<Every>
+    ensures { result ≡ every_between every.now from to }
+{
+    every.iter().copied().find(|e| is_between(e, from, to))
+}
+
+fn interval(every: &[Every], from: u8, to: u8) -> u32
+    ensures { result ≡ interval every.now from to }
+{
+    match every_between(every, from, to) {
+        Some(e) => e.q,
+        None => 1,
+    }
+}
+
+/// How many outputs the slaves have together.
+pub(crate) fn total_outputs(slaves: &[SlaveDesc]) -> usize
+    requires { total_outputs slaves.now < 2 ^ 64 }
+    ensures { result ≡ total_outputs slaves.now }
+{
+    slaves.iter().map(|d| d.outputs.as_slice().len()).sum()
+}
+
+/// The steps since what is sent at each `interval`-th step was renewed.
+fn age(step: u32, interval: u32) -> u32
+    requires { 0 < interval }
+    ensures { result ≡ step % interval }
+{
+    if interval == 1 { 0 } else { step % interval }
+}
+
+fn at(row: &[i128], column: usize) -> i128
+    requires { column < length row.now }
+    ensures { result ≡ slice_index_or row.now column (pos 0) }
+{
+    row[column]
+}
+
+/// What an input reads at a step whose row stands at `now`. Without a wire it is 0.
+fn fed(feed: Option<Feed>, rows: &Table, now: usize, step: u32) -> i128
+    requires feed { IsFeed rows.now.width feed }
+    requires there { now < length rows.now.rows }
+    requires step { step ≤ now }
+    ensures { result ≡ fed rows.now.rows (now - step) step feed }
+{
+    match feed {
+        None => 0,
+        Some(feed) => {
+            let row = rows.row(now - age(step, feed.interval) as usize);
+            at(row, feed.column)
+        }
+    }
+}
+
+/// Puts what the inputs read into the buffer, in the place of what it held.
+pub(crate) fn gather(
+    feeds: &[Option<Feed>],
+    rows: &Table,
+    now: usize,
+    step: u32,
+    inputs: &mut Vec<i128>,
+) -> Result<(), OutOfMemory>
+    requires feeds { All (IsFeed rows.now.width) feeds.now }
+    requires there { now < length rows.now.rows }
+    requires step { step ≤ now }
+    ensures { OnOk result (inputs.new.items ≡ map (fed rows.now.rows (now - step) step) feeds.now) }
+{
+    inputs.clear();
+    for feed in feeds {
+        inputs.push(fed(*feed, rows, now, step))?;
+    }
+    Ok(())
+}
+
+fn feed_of(scenario: &Scenario, wire: Option<Wire>) -> Option<Feed>
+    requires wire { ForSome wire (λ w. IsWire scenario.now.slaves w) }
+    requires few { total_outputs scenario.now.slaves ≤ 1000000 }
+    ensures { result ≡ feed_of scenario.now wire }
+{
+    match wire {
+        None => None,
+        Some(wire) => {
+            let before = &scenario.slaves.as_slice()[..usize::from(wire.from) - 1];
+            let column = total_outputs(before) + usize::from(wire.out);
+            let interval = interval(scenario.every.as_slice(), wire.from, wire.to);
+            Some(Feed { column, interval })
+        }
+    }
+}
+
+/// What each of so many inputs of a slave reads.
+pub(crate) fn feeds_of(
+    alloc: Global,
+    scenario: &Scenario,
+    slave: u8,
+    inputs: usize,
+) -> Result<Vec<Option<Feed>>, OutOfMemory>
+    requires { IsScenario scenario.now }
+    ensures { IfOk result (λ feeds. feeds.items ≡ feeds_of scenario.now slave inputs) }
+{
+    let wires = scenario.wires.as_slice();
+    let mut feeds = Vec::with_capacity(alloc, inputs)?;
+    for input in 0..inputs {
+        feeds.push(feed_of(scenario, wire_into(wires, slave, input)))?;
+    }
+    Ok(feeds)
+}

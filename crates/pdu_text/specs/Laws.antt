@@ -1,0 +1,26 @@
+-- What reading and refusing have in common.
+use Rattle.std.specs.Prelude.{◌≡◌, ◌⊎◌, ℕ, List}
+use Rattle.pdu_layout.specs.Message.{Message, HasSpelling}
+use Rattle.pdu_text.specs.Reading.{Reads}
+use Rattle.pdu_text.specs.Refusals.{Refused}
+use Rattle.pdu_text.specs.declared.reasons.PduTextWhy.{PduTextWhy}
+
+-- each text reads as a message or breaks some rule first
+abbrev pub ReadsOrBreaks : Type 0
+ReadsOrBreaks = (text : List ℕ) → ((p : Message) × Reads text p) ⊎ ((why : PduTextWhy) × Refused text why)
+
+-- no text does both
+abbrev pub NeverBoth : Type 0
+NeverBoth = (text : List ℕ) (p : Message) (why : PduTextWhy) → Reads text p → Refused text why → ⊥
+
+-- no text reads as two messages
+abbrev pub OneMessage : Type 0
+OneMessage = (text : List ℕ) (p q : Message) → Reads text p → Reads text q → p ≡ q
+
+-- no text breaks two rules first
+abbrev pub OneCause : Type 0
+OneCause = (text : List ℕ) (v w : PduTextWhy) → Refused text v → Refused text w → v ≡ w
+
+-- what a text reads as is a message with a spelling
+abbrev pub SpelledMessages : Type 0
+SpelledMessages = (text : List ℕ) (p : Message) → Reads text p → HasSpelling p
