@@ -5,5 +5,9 @@ pub mod Outputs
 pub mod Refusals
 pub mod Decoding
 pub mod Describing
+pub mod Waiting
+pub mod Spools
+pub mod Rows
+pub mod Referencing
 pub mod Says
 pub mod Answers

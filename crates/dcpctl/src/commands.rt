@@ -10,6 +10,8 @@ pub enum Command {
     Decode,
     /// Prints the canonical text of a description.
     Describe,
+    /// Prints what a correct run of a scenario prints.
+    Reference,
 }
 
 impl Command {
@@ -22,6 +24,9 @@ impl Command {
         }
         if word == "describe" {
             return Some(Command::Describe);
+        }
+        if word == "reference" {
+            return Some(Command::Reference);
         }
         None
     }

@@ -9,7 +9,10 @@ mod decoding;
 mod describing;
 mod inputs;
 mod outputs;
+mod referencing;
 mod refusals;
+mod row_texts;
+mod spools;
 mod statuses;
 #[cfg(test)]
 mod tests;

@@ -11,6 +11,7 @@ use crate::decoding::decode_input;
 use crate::describing::describe_input;
 use crate::inputs::{Gathered, read_input};
 use crate::outputs::write_line;
+use crate::referencing::reference_input;
 use crate::statuses::Status;
 use crate::word_lists::Words;
 use dcp_io::{Sink, Source};
@@ -52,5 +53,6 @@ fn judge<K: Sink>(alloc: Global, command: Command, input: &[u8], out: &mut K) ->
     match command {
         Command::Decode => decode_input(alloc, input, out),
         Command::Describe => describe_input(alloc, input, out),
+        Command::Reference => reference_input(alloc, input, out),
     }
 }
