@@ -12,6 +12,8 @@ pub enum Command {
     Encode,
     /// Prints the canonical text of a description.
     Describe,
+    /// Prints what a correct run of a scenario prints.
+    Reference,
 }
 
 impl Command {
@@ -27,6 +29,9 @@ impl Command {
         }
         if word == "describe" {
             return Some(Command::Describe);
+        }
+        if word == "reference" {
+            return Some(Command::Reference);
         }
         None
     }
