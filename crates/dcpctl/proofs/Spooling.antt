@@ -34,3 +34,9 @@ unfailed old text waits failed new spool same unset spooled =
     let P : Waiting → Type 0 = λ s. Spooled old text new s in
     let Q : Bool → Type 0 = λ b. SpooledIf b old text new waits in
     subst Q unset (subst P (sym same) spooled)
+
+-- nothing was put yet
+pub begun : (old : List ℕ) (before : Option (List ℕ)) (spool : Waiting) → before ≡ Some old → spool ≡ record { waits = []; failed = false } → Spooled old [] before spool
+begun old before spool held fresh =
+    let P : Waiting → Type 0 = λ s. Spooled old [] before s in
+    subst P (sym fresh) ([], refl, held ∙ ap (λ l. Some l) (sym (append-nil old)))
