@@ -1,2 +1,4 @@
 pub mod Pieces
+pub mod Spooling
+pub mod Rows
 pub mod Outcomes

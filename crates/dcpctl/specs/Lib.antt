@@ -4,6 +4,12 @@ pub mod Inputs
 pub mod Outputs
 pub mod Refusals
 pub mod Decoding
+pub mod Encoding
+pub mod Taken
 pub mod Describing
+pub mod Waiting
+pub mod Spools
+pub mod Rows
+pub mod Referencing
 pub mod Says
 pub mod Answers

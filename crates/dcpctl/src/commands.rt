@@ -8,8 +8,12 @@ ghost use Rattle.dcpctl.specs.Commands.{command_word, IsWord};
 pub enum Command {
     /// Prints the message whose bytes are the input.
     Decode,
+    /// Writes the bytes of the message whose line is the input.
+    Encode,
     /// Prints the canonical text of a description.
     Describe,
+    /// Prints what a correct run of a scenario prints.
+    Reference,
 }
 
 impl Command {
@@ -20,8 +24,14 @@ impl Command {
         if word == "decode" {
             return Some(Command::Decode);
         }
+        if word == "encode" {
+            return Some(Command::Encode);
+        }
         if word == "describe" {
             return Some(Command::Describe);
+        }
+        if word == "reference" {
+            return Some(Command::Reference);
         }
         None
     }

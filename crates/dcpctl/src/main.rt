@@ -7,9 +7,14 @@
 mod commands;
 mod decoding;
 mod describing;
+mod encoding;
 mod inputs;
 mod outputs;
+mod referencing;
 mod refusals;
+mod row_texts;
+mod spellings;
+mod spools;
 mod statuses;
 #[cfg(test)]
 mod tests;

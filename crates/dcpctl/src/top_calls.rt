@@ -9,8 +9,10 @@ ghost use Rattle.dcpctl.specs.Says.{Says};
 use crate::commands::Command;
 use crate::decoding::decode_input;
 use crate::describing::describe_input;
+use crate::encoding::encode_input;
 use crate::inputs::{Gathered, read_input};
 use crate::outputs::write_line;
+use crate::referencing::reference_input;
 use crate::statuses::Status;
 use crate::word_lists::Words;
 use dcp_io::{Sink, Source};
@@ -51,6 +53,8 @@ fn judge<K: Sink>(alloc: Global, command: Command, input: &[u8], out: &mut K) ->
 {
     match command {
         Command::Decode => decode_input(alloc, input, out),
+        Command::Encode => encode_input(alloc, input, out),
         Command::Describe => describe_input(alloc, input, out),
+        Command::Reference => reference_input(alloc, input, out),
     }
 }

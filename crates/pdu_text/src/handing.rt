@@ -54,9 +54,10 @@ fn put_said(alloc: Global, said: &SaidMessage, room: &mut [u8; 1024]) -> Result<
 
 /// Hands the message that the bytes spell to the taker.
 ///
-/// The bytes spell a message.
+/// The bytes spell a message, and the taker has room for it.
 fn hand<R: PduTaker>(bytes: &[u8], taker: &mut R)
-    requires { IsSpelling bytes.now }
+    requires ready { R.can_take taker.old }
+    requires spelled { IsSpelling bytes.now }
     ensures { Adds (R.taken taker.old) (R.taken taker.new) bytes.now }
 {
     match decode(bytes) {
@@ -65,7 +66,7 @@ fn hand<R: PduTaker>(bytes: &[u8], taker: &mut R)
     }
 }
 
-/// Reads a text as one message and hands it to the taker, once.
+/// Reads a text as one message and hands it to the taker, which has room for it, once.
 ///
 /// The text is one line: a message's name, and for each field the field's name, `=` and what it
 /// holds. A text that does not read is refused by the first rule that it breaks, and then the taker
@@ -75,6 +76,7 @@ pub fn with_pdu_text<R: PduTaker>(
     text: &[u8],
     taker: &mut R,
 ) -> Result<(), TextRefused>
+    requires { R.can_take taker.old }
     ensures ok { IfOk result (λ _. Handed text.now (R.taken taker.old) (R.taken taker.new)) }
     ensures err { IfErr result (λ e. IsRefused text.now e) }
     ensures not_called { IfErr result (λ _. taker.new ≡ taker.old) }

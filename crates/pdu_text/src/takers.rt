@@ -12,8 +12,13 @@ pub trait PduTaker {
     // the bytes of the messages that were handed over, the oldest first, where a taker tells them
     ghost taken: { Self → Option (List (List ℕ)) };
 
-    /// Takes the message. Each of its fields fits, and it has 1,024 bytes at most.
+    // whether there is room for one more message
+    ghost can_take: { Self → Type 0 } = { λ _. Unit {0} };
+
+    /// Takes the message. There is room for it, each of its fields fits, and it has 1,024 bytes at
+    /// most.
     fn take(&mut self, pdu: &Pdu<'_>)
-        requires { HasSpelling (message_of pdu.now) }
+        requires ready { can_take self.old }
+        requires fits { HasSpelling (message_of pdu.now) }
         ensures { (bytes : List ℕ) → Spells (message_of pdu.now) bytes → Adds (taken self.old) (taken self.new) bytes };
 }

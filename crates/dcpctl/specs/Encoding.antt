@@ -1,0 +1,13 @@
+-- What `encode` says of a text.
+use Rattle.std.specs.Prelude.{◌≡◌, ℕ, List, Bool, true, false}
+use Rattle.pdu_layout.specs.Message.{Message, Spells}
+use Rattle.pdu_text.specs.declared.reasons.PduTextWhy.{PduTextWhy}
+use Rattle.pdu_text.specs.Reasons.{why_word}
+use Rattle.pdu_text.specs.Reading.{Reads}
+use Rattle.pdu_text.specs.Refusals.{Refused}
+use Rattle.dcpctl.specs.Refusals.{line_refusal}
+
+-- the bytes of the message that the one line says, or the first rule that it breaks
+abbrev pub Encodes : List ℕ → Bool → List ℕ → Type 0
+Encodes input true text = (message : Message) × Reads input message × Spells message text
+Encodes input false text = (why : PduTextWhy) × Refused input why × (text ≡ line_refusal 1 (why_word why))
