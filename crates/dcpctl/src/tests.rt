@@ -192,6 +192,127 @@ output 1 uint32
 }
 
 #[test]
+fn encode_writes_the_bytes_or_the_first_broken_rule(rt: HostRuntime) -> Result<(), Fail> {
+    let rows = [
+        (
+            "RSP_ack resp_seq_id=2 sender=1\n",
+            Status::Done,
+            ACKNOWLEDGEMENT,
+        ),
+        (
+            "STC_register pdu_seq_id=0 receiver=1 state_id=ALIVE \
+             slave_uuid=00000000-0000-0000-0000-000000000001 op_mode=2 major_version=1 minor_version=0",
+            Status::Done,
+            b"\x01\0\0\x01\0\0\0\0\0\0\0\0\0\0\0\0\0\0\0\0\x01\x02\x01\0".as_slice(),
+        ),
+        (
+            "STC_reset pdu_seq_id=65536 receiver=1 state_id=ALIVE",
+            Status::BadInput,
+            b"input: line 1 LIMIT\n".as_slice(),
+        ),
+        (
+            "RSP_ack resp_seq_id=2",
+            Status::BadInput,
+            b"input: line 1 WORDS\n".as_slice(),
+        ),
+    ];
+    for (input, status, out) in rows {
+        let (got, written) = steady("encode", input.as_bytes()).run(rt.alloc())?;
+        assert_eq!(rt; got, status);
+        assert!(rt; written.as_slice() == out, "{input}");
+    }
+    Ok(())
+}
+
+const CHAIN: &str = "steps 2
+master 127.0.0.1 9000
+slave src
+uuid 00000000-0000-0000-0000-000000000001
+address 127.0.0.1 9001
+model const 3
+output 1 int32
+slave amp
+uuid 00000000-0000-0000-0000-000000000002
+address 127.0.0.1 9002
+model gain 131072
+input 1 int32
+output 2 int32
+slave top
+uuid 00000000-0000-0000-0000-000000000003
+address 127.0.0.1 9003
+model gain 65536
+input 1 int32
+output 2 int32
+wire src 0 amp 0
+wire amp 0 top 0
+";
+
+const OUT_OF_RANGE: &str = "steps 3
+master 127.0.0.1 9000
+slave count
+uuid 00000000-0000-0000-0000-000000000001
+address 127.0.0.1 9001
+model const 300
+output 1 uint8
+";
+
+const NO_UUID: &str = "steps 3
+master 127.0.0.1 9000
+slave count
+address 127.0.0.1 9001
+model counter 1000
+output 1 uint32
+";
+
+const DIVIDERS: &str = "steps 3
+runs 2
+master 127.0.0.1 9000
+slave fall
+uuid 00000000-0000-0000-0000-000000000001
+address 127.0.0.1 9001
+model ramp 3 -1
+output 1 int32
+slave da
+uuid 00000000-0000-0000-0000-000000000002
+address 127.0.0.1 9002
+model divider 12
+input 1 int32
+output 2 int32
+slave db
+uuid 00000000-0000-0000-0000-000000000003
+address 127.0.0.1 9003
+model divider -7
+input 1 int32
+output 2 int32
+wire fall 0 da 0
+wire fall 0 db 0
+rerun_set 2 fall 0 1
+";
+
+#[test]
+fn reference_writes_the_rows_and_the_line_after_them(rt: HostRuntime) -> Result<(), Fail> {
+    let rows = [
+        (
+            CHAIN,
+            Status::Done,
+            "0 3 0 0\n1 3 6 0\n2 3 6 6\nfinished 2\n",
+        ),
+        (OUT_OF_RANGE, Status::Done, "fault slave 1 step 0 code 34\n"),
+        (NO_UUID, Status::BadInput, "input: line 7 MISSING\n"),
+    ];
+    for (input, status, out) in rows {
+        let (got, written) = steady("reference", input.as_bytes()).run(rt.alloc())?;
+        assert_eq!(rt; got, status);
+        assert!(rt; written.as_slice() == out.as_bytes(), "{out}");
+    }
+    let (got, written) = steady("reference", DIVIDERS.as_bytes()).run(rt.alloc())?;
+    let end = b"fault slave 2 step 2 code 33 run 2\n".as_slice();
+    assert_eq!(rt; got, Status::Done);
+    assert!(rt; written.as_slice().ends_with(end));
+    Ok(())
+}
+
+#[test]
 fn faults_of_the_objects_decide_the_status(rt: HostRuntime) -> Result<(), Fail> {
     let second_read = Call {
         failing_reads: &[2],
