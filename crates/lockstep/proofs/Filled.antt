@@ -23,12 +23,27 @@ use Rattle.scenario.specs.Limits.{total_outputs}
 use Rattle.scenario.specs.Sound.{IsScenario}
 use Rattle.lockstep.specs.declared.parts.Part.{Part}
 use Rattle.lockstep.specs.declared.references.RefFault.{RefFault}
+use Rattle.lockstep.specs.Cut.{Grid, SameRows}
 use Rattle.lockstep.specs.Parameters.{parameters}
 use Rattle.lockstep.specs.Lockstep.{row, row_from, beside, shown, shown_at, shown_of, state}
 use Rattle.lockstep.specs.Parts.{StandsAt, AllStand, types_of}
 use Rattle.lockstep.specs.Filling.{behind, Filled}
 use Rattle.lockstep.proofs.Showing.{length-outputs}
 use Rattle.lockstep.proofs.Serving.{same_count}
+
+pub same_rows : (g : Grid) → SameRows g g
+same_rows g = record { width = refl; rows = refl }
+
+pub more_rows : (first before after : Grid) → SameRows first before → SameRows before after → SameRows first after
+more_rows first before after h k = record { width = k.width ∙ h.width; rows = k.rows ∙ h.rows }
+
+-- a value put behind the row that is begun leaves the others
+pub put_rows : (first before after : Grid) (begun : List ℤ) → SameRows first before → after ≡ record before { begun = begun } → SameRows first after
+put_rows first before after begun h e = record { width = ap (λ (x : Grid). x.width) e ∙ h.width; rows = ap (λ (x : Grid). x.rows) e ∙ h.rows }
+
+-- what a slave shows, where the rows are the same
+pub shown_rows : (sc : Scenario) (rows others : List (List ℤ)) (s : ℕ) (d : SlaveDesc) (r k : ℕ) (x : Result (List ℤ) FaultCode) → others ≡ rows → shown sc others s d r k ≡ x → shown sc rows s d r k ≡ x
+shown_rows sc rows others s d r k x e h = subst (λ (l : List (List ℤ)). shown sc l s d r k ≡ x) e h
 
 slice_get-set_same : (xs : List Part) (i : ℕ) (y : Part) → i < length xs → slice_get (set xs i y) i ≡ Some y
 slice_get-set_same [] i y lt = absurd (omega arith)

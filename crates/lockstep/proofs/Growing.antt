@@ -14,11 +14,12 @@ use Rattle.lockstep.specs.declared.parts.Part.{Part}
 use Rattle.lockstep.specs.declared.halts.Halt.{Halt}
 use Rattle.lockstep.specs.declared.halts.Halt.TheVariants as halts
 use Rattle.lockstep.specs.declared.references.RefFault.{RefFault}
-use Rattle.lockstep.specs.Cut.{Grid}
-use Rattle.lockstep.specs.Lockstep.{place, row, IsMoment, IsReference}
+use Rattle.lockstep.specs.Cut.{Grid, SameRows}
+use Rattle.lockstep.specs.Lockstep.{place, row, IsMoment, IsReference, EachRow, EndsAt}
 use Rattle.lockstep.specs.Parts.{StandsAt, AllStand, Halted}
 use Rattle.lockstep.specs.Filling.{SoFar, Stopped, StoppedBy}
 use Rattle.lockstep.proofs.Agreement.{state-agree}
+use Rattle.lockstep.proofs.Cuts.{grid_of}
 use Rattle.lockstep.proofs.Existence.{agree_push, EachRow-push, row-moment}
 use Rattle.lockstep.proofs.Filled.{row_is}
 
@@ -79,15 +80,24 @@ stands_on sc rows vs r k s d p le h = record {
   state = state-agree sc (rows ++ vs ∷ []) rows s d r k (agree_push rows vs (place sc.steps r k) le) ∙ h.state;
 }
 
-pub standing_more : (sc : Scenario) (r k : ℕ) (g more : Grid) (vs : List ℤ) (parts : List Part) → IsScenario sc → IsMoment sc r k → SoFar sc ((r - 1) * (sc.steps + 1) + k) g →
-    row sc g.rows r k ≡ Ok vs → AllStand sc g.rows r k parts → more ≡ record { width = g.width; rows = g.rows ++ vs ∷ [] } → Standing sc r (k + 1) more parts
-standing_more sc r k g more vs parts sound m h here stand e =
+-- the row that was begun is closed behind the others
+closed : (g filled more : Grid) → SameRows g filled → more ≡ grid_of filled.width (filled.rows ++ filled.begun ∷ []) [] → more ≡ grid_of g.width (g.rows ++ filled.begun ∷ []) []
+closed g filled more same e =
+    e
+    ∙ ap (λ (x : ℕ). grid_of x (filled.rows ++ filled.begun ∷ []) []) same.width
+    ∙ ap (λ (x : List (List ℤ)). grid_of g.width (x ++ filled.begun ∷ []) []) same.rows
+
+pub standing_more : (sc : Scenario) (r k : ℕ) (g filled more : Grid) (parts : List Part) → IsScenario sc → IsMoment sc r k → SoFar sc ((r - 1) * (sc.steps + 1) + k) g →
+    row sc g.rows r k ≡ Ok filled.begun → AllStand sc g.rows r k parts → SameRows g filled → more ≡ grid_of filled.width (filled.rows ++ filled.begun ∷ []) [] → Standing sc r (k + 1) more parts
+standing_more sc r k g filled more parts sound m h here stand same e =
+    let vs = filled.begun in
     let values = row_is sc g.rows r k vs sound here in
     let P : Grid → Type 0 = λ x. Standing sc r (k + 1) x parts in
     let back : k + 1 - 1 ≡ k = omega arith in
-    subst P (sym e) (record {
+    subst P (sym (closed g filled more same e)) (record {
       rows = record {
         width = h.width;
+        begun = refl;
         count = length_push g.rows vs ∙ omega (arith, h.count);
         values = All-push (λ row. All IsInput row) g.rows vs h.values values.1;
         each = EachRow-push sc g.rows vs r k m h.count here h.each;
@@ -98,8 +108,8 @@ standing_more sc r k g more vs parts sound m h here stand e =
       };
     })
 
-pub row_width : (sc : Scenario) (r k : ℕ) (g : Grid) (vs : List ℤ) → IsScenario sc → g.width ≡ total_outputs sc.slaves → row sc g.rows r k ≡ Ok vs → length vs ≡ g.width
-row_width sc r k g vs sound w here = (row_is sc g.rows r k vs sound here).0 ∙ sym w
+pub row_width : (sc : Scenario) (r k : ℕ) (g filled : Grid) → IsScenario sc → g.width ≡ total_outputs sc.slaves → row sc g.rows r k ≡ Ok filled.begun → SameRows g filled → length filled.begun ≡ filled.width
+row_width sc r k g filled sound w here same = (row_is sc g.rows r k filled.begun sound here).0 ∙ sym w ∙ sym same.width
 
 run_end : (r w : ℕ) → 1 ≤ r → (r - 1) * w + w ≡ r * w
 run_end r w h =
@@ -112,20 +122,26 @@ run_done sc r k g parts first e h =
     let same : (r - 1) * (sc.steps + 1) + k ≡ r * (sc.steps + 1) = ap (λ (x : ℕ). (r - 1) * (sc.steps + 1) + x) e ∙ run_end r (sc.steps + 1) first in
     subst (λ (n : ℕ). SoFar sc n g) same h.rows
 
-pub halted : (sc : Scenario) (r k : ℕ) (g : Grid) (h : Halt) → IsMoment sc r k → SoFar sc ((r - 1) * (sc.steps + 1) + k) g → Halted (row sc g.rows r k) h → StoppedBy sc g h
-halted sc r k g halts.OutOfMemory m so_far h = tt
-halted sc r k g (halts.Fault fault) m so_far h =
+stopped_same : (sc : Scenario) (g more : Grid) (fault : RefFault) → SameRows g more → Stopped sc g fault → Stopped sc more fault
+stopped_same sc g more fault same h = record {
+  each = subst (λ (x : List (List ℤ)). EachRow sc x) (sym same.rows) h.each;
+  ends = subst (λ (x : List (List ℤ)). EndsAt sc x fault) (sym same.rows) h.ends;
+}
+
+pub halted : (sc : Scenario) (r k : ℕ) (g more : Grid) (h : Halt) → IsMoment sc r k → SoFar sc ((r - 1) * (sc.steps + 1) + k) g → SameRows g more → Halted (row sc g.rows r k) h → StoppedBy sc more h
+halted sc r k g more halts.OutOfMemory m so_far same h = tt
+halted sc r k g more (halts.Fault fault) m so_far same h =
     let moment = row-moment sc g.rows r k fault h in
     let run = moment.0 in
     let step = moment.1 in
-    record {
+    stopped_same sc g more fault same (record {
       each = so_far.each;
       ends = record {
         moment = subst (λ (x : ℕ). IsMoment sc x fault.step) (sym run) (subst (λ (x : ℕ). IsMoment sc r x) (sym step) m);
         behind = so_far.count ∙ ap (λ (x : ℕ). place sc.steps r x) (sym step) ∙ ap (λ (x : ℕ). place sc.steps x fault.step) (sym run);
         faults = ap (λ (x : ℕ). row sc g.rows x fault.step) run ∙ ap (λ (x : ℕ). row sc g.rows r x) step ∙ h;
       };
-    }
+    })
 
 pub some_outputs : (slaves : List SlaveDesc) → All (λ d. IsDesc d) slaves → 1 ≤ length slaves → 0 < total_outputs slaves
 some_outputs [] h le = absurd (omega arith)
@@ -133,10 +149,10 @@ some_outputs (d ∷ ds) h le =
     let first = All-head (λ d. IsDesc d) d ds h in
     omega (arith, first.few_outputs.0, sum_by-cons (λ (x : SlaveDesc). length x.outputs) d ds)
 
-pub none_yet : (sc : Scenario) (g : Grid) (width : ℕ) → width ≡ total_outputs sc.slaves → g ≡ record { width = width; rows = [] } → SoFar sc 0 g
+pub none_yet : (sc : Scenario) (g : Grid) (width : ℕ) → width ≡ total_outputs sc.slaves → g ≡ grid_of width [] [] → SoFar sc 0 g
 none_yet sc g width w e =
     subst (λ (x : Grid). SoFar sc 0 x) (sym e)
-    (record { width = w; count = refl; values = All-nil (λ row. All IsInput row); each = λ r k m lt. absurd (omega arith) })
+    (record { width = w; begun = refl; count = refl; values = All-nil (λ row. All IsInput row); each = λ r k m lt. absurd (omega arith) })
 
 pub all_rows : (sc : Scenario) (g : Grid) (rows : List (List ℤ)) → rows ≡ g.rows → SoFar sc (sc.runs * (sc.steps + 1)) g → IsReference sc rows None
 all_rows sc g rows e h = subst (λ (x : List (List ℤ)). IsReference sc x None) (sym e) (record { each = h.each; ends = h.count })

@@ -1,7 +1,6 @@
 -- What the inputs read.
-use Rattle.std.proofs.Common.{◌≡◌, ◌-◌, ◌+◌, ◌*◌, ◌/◌, ◌%◌, ◌≤◌, sym, ◌∙◌, ap, subst, get_or, ℕ, zero, suc, ◌++◌, map, ℤ, pos, List, [], ◌∷◌, Option, Some, None, slice_get, arith, Bool, true, false, refl}
+use Rattle.std.proofs.Common.{◌≡◌, ◌-◌, ◌+◌, ◌*◌, ◌/◌, ◌%◌, ◌≤◌, sym, ◌∙◌, ap, subst, get_or, ℕ, zero, suc, ◌++◌, map, ℤ, pos, List, [], ◌∷◌, Option, Some, None, arith, Bool, true, false, refl}
 use Rattle.std.specs.Prelude.{All, find, IfSome, ◌==◌, ◌&&◌}
-use Rattle.std.proofs.lemmas.Option.{get_or_from_slice_get}
 use Rattle.std.proofs.lemmas.List.Elements.{All-head, All-tail, All-nil, All-same, All-map}
 use Rattle.std.proofs.lemmas.List.FromFn.{map-range_with_len_more}
 use Rattle.fixed_models.specs.Answers.{IsInput}
@@ -16,12 +15,11 @@ pub last_renewal : (now k q : ℕ) → k ≤ now → now - k % q ≡ now - k + q
 last_renewal now k q le = grind arith
 
 -- the row of the last renewal
-pub fed_at : (rows : List (List ℤ)) (row : List ℤ) (now k place : ℕ) (f : Feed) → slice_get rows place ≡ Some row → place ≡ now - k % f.interval → k ≤ now →
-    get_or row f.column (pos 0) ≡ fed rows (now - k) k (Some f)
-fed_at rows row now k place f there at le =
-    let found : get_or rows place [] ≡ row = get_or_from_slice_get rows place row [] there in
+pub fed_at : (rows : List (List ℤ)) (now k place : ℕ) (f : Feed) → place ≡ now - k % f.interval → k ≤ now →
+    get_or (get_or rows place []) f.column (pos 0) ≡ fed rows (now - k) k (Some f)
+fed_at rows now k place f at le =
     let same : place ≡ now - k + f.interval * (k / f.interval) = at ∙ last_renewal now k f.interval le in
-    ap (λ (x : List ℤ). get_or x f.column (pos 0)) (sym found ∙ ap (λ (x : ℕ). get_or rows x []) same)
+    ap (λ (x : ℕ). get_or (get_or rows x []) f.column (pos 0)) same
 
 -- what is found holds what all hold
 found_holds : {X : Type 0} (P : X → Type 0) (test : X → Bool) (x : X) (xs : List X) (b : Bool) → test x ≡ b → P x → IfSome (find test xs) P → IfSome (find test (x ∷ xs)) P

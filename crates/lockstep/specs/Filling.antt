@@ -1,5 +1,5 @@
 -- How far a row is filled, and how far the rows go.
-use Rattle.std.specs.Prelude.{◌≡◌, ℕ, ◌+◌, ◌-◌, ◌<◌, ◌≤◌, List, drop, length, ◌++◌, All, Result, Ok, Err, slice_get, Some, ℤ}
+use Rattle.std.specs.Prelude.{◌≡◌, ℕ, ◌+◌, ◌-◌, ◌<◌, ◌≤◌, List, [], drop, length, ◌++◌, All, Result, Ok, Err, slice_get, Some, ℤ}
 use Rattle.fixed_models.specs.Answers.{IsInput}
 use Rattle.slave_desc.specs.declared.descriptions.SlaveDesc.{SlaveDesc}
 use Rattle.scenario.specs.declared.scenarios.Scenario.{Scenario}
@@ -24,9 +24,10 @@ pub record Filled (sc : Scenario) (rows : List (List ℤ)) (r k i : ℕ) (parts 
   pub still : (j : ℕ) (d : SlaveDesc) (p : Part) → i ≤ j → slice_get sc.slaves j ≡ Some d → slice_get parts j ≡ Some p → StandsAt sc rows r (k - 1) (j + 1) d p
   pub rest : row sc rows r k ≡ behind row' (row_from sc rows r k (i + 1) (drop i sc.slaves))
 
--- the first rows of a scenario
+-- the first rows of a scenario, with no row begun behind them
 pub record SoFar (sc : Scenario) (n : ℕ) (g : Grid) : Type 0 where
   pub width : g.width ≡ total_outputs sc.slaves
+  pub begun : g.begun ≡ []
   pub count : length g.rows ≡ n
   pub values : All (λ row. All IsInput row) g.rows
   pub each : EachRow sc g.rows

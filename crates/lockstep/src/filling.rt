@@ -1,12 +1,13 @@
 //! One row: all slaves step at once, each on what the others showed before.
 
-ghost use Rattle.std.specs.Prelude.{◌≡◌, ◌≤◌, ◌-◌, ◌+◌, ◌++◌, List, ℤ, length, All, Ok, IfOk, IfErr, OnOk};
+ghost use Rattle.std.specs.Prelude.{◌≡◌, ◌-◌, [], length, All, Ok, IfOk, IfErr, OnOk};
 ghost use Rattle.fixed_models.specs.Answers.{IsInput};
 ghost use Rattle.slave_desc.specs.declared.descriptions.SlaveDesc.{SlaveDesc};
 ghost use Rattle.slave_desc.specs.Canonical.{IsDesc};
 ghost use Rattle.scenario.specs.Limits.{total_outputs};
 ghost use Rattle.scenario.specs.Sound.{IsScenario};
-ghost use Rattle.lockstep.specs.Lockstep.{place, row, shown, IsMoment};
+ghost use Rattle.lockstep.specs.Cut.{SameRows};
+ghost use Rattle.lockstep.specs.Lockstep.{place, row, IsMoment};
 ghost use Rattle.lockstep.specs.Parts.{StandsAt, AllStand, Serves, Halted};
 
 use crate::halts::Halt;
@@ -24,64 +25,60 @@ pub(crate) struct Moment {
     pub step: u32,
 }
 
-/// Room that is used again at each step.
-#[derive(Debug, Drop)]
-pub(crate) struct Buffers {
-    pub inputs: Vec<i128>,
-    pub row: Vec<i128>,
-}
-
-/// Brings one slave to this moment, from the step before it, and puts its outputs behind the row.
+/// Brings one slave to this moment, from the step before it, and puts its outputs behind the row
+/// that is begun.
 fn serve(
     scenario: &Scenario,
     desc: &SlaveDesc,
     _slave: u8,
     part: &mut Part,
-    rows: &Table,
+    rows: &mut Table,
     at: Moment,
-    buffers: &mut Buffers,
+    inputs: &mut Vec<i128>,
 ) -> Result<Result<(), FaultCode>, OutOfMemory>
     requires scenario { IsScenario scenario.now }
     requires desc { IsDesc desc.now }
     requires moment { IsMoment scenario.now at.run at.step }
-    requires place { length rows.now.rows ≡ place scenario.now.steps at.run at.step }
-    requires values { All (λ row. All IsInput row) rows.now.rows }
-    requires width { rows.now.width ≡ total_outputs scenario.now.slaves }
-    requires stands { StandsAt scenario.now rows.now.rows at.run (at.step - 1) _slave desc.now part.old }
-    ensures { IfOk result (Serves scenario.now rows.now.rows at.run at.step _slave desc.now buffers.old.row.items buffers.new.row.items part.new) }
+    requires place { length rows.old.rows ≡ place scenario.now.steps at.run at.step }
+    requires values { All (λ row. All IsInput row) rows.old.rows }
+    requires width { rows.old.width ≡ total_outputs scenario.now.slaves }
+    requires stands { StandsAt scenario.now rows.old.rows at.run (at.step - 1) _slave desc.now part.old }
+    ensures served { IfOk result (Serves scenario.now rows.old.rows at.run at.step _slave desc.now rows.old.begun rows.new.begun part.new) }
+    ensures kept { SameRows rows.old rows.new }
 {
-    match part.reach(rows, at.step, scenario.micro, &mut buffers.inputs)? {
+    match part.reach(rows, at.step, scenario.micro, inputs)? {
         Ok(()) => (),
         Err(code) => return Ok(Err(code)),
     }
     let outputs = desc.outputs.as_slice().len() as u8;
-    show(&part.model, outputs, &mut buffers.row)
+    show(&part.model, outputs, rows)
 }
 
-/// Brings all slaves to this moment, from the step before it, and puts what they show into the row.
+/// Brings all slaves to this moment, from the step before it, and begins the row of what they show.
 pub(crate) fn fill(
     scenario: &Scenario,
     parts: &mut Vec<Part>,
-    rows: &Table,
+    rows: &mut Table,
     at: Moment,
-    buffers: &mut Buffers,
+    inputs: &mut Vec<i128>,
 ) -> Result<(), Halt>
     requires scenario { IsScenario scenario.now }
     requires moment { IsMoment scenario.now at.run at.step }
-    requires place { length rows.now.rows ≡ place scenario.now.steps at.run at.step }
-    requires values { All (λ row. All IsInput row) rows.now.rows }
-    requires width { rows.now.width ≡ total_outputs scenario.now.slaves }
-    requires stand { AllStand scenario.now rows.now.rows at.run (at.step - 1) parts.old.items }
-    ensures row { OnOk result (row scenario.now rows.now.rows at.run at.step ≡ Ok buffers.new.row.items) }
-    ensures stand { OnOk result (AllStand scenario.now rows.now.rows at.run at.step parts.new.items) }
-    ensures halted { IfErr result (Halted (row scenario.now rows.now.rows at.run at.step)) }
+    requires place { length rows.old.rows ≡ place scenario.now.steps at.run at.step }
+    requires values { All (λ row. All IsInput row) rows.old.rows }
+    requires width { rows.old.width ≡ total_outputs scenario.now.slaves }
+    requires begun { rows.old.begun ≡ [] }
+    requires stand { AllStand scenario.now rows.old.rows at.run (at.step - 1) parts.old.items }
+    ensures row { OnOk result (row scenario.now rows.old.rows at.run at.step ≡ Ok rows.new.begun) }
+    ensures stand { OnOk result (AllStand scenario.now rows.old.rows at.run at.step parts.new.items) }
+    ensures kept { SameRows rows.old rows.new }
+    ensures halted { IfErr result (Halted (row scenario.now rows.old.rows at.run at.step)) }
 {
-    buffers.row.clear();
     let slaves = scenario.slaves.as_slice();
     for index in 0..slaves.len() {
         let slave = index as u8 + 1;
         let part = &mut parts[index];
-        match serve(scenario, &slaves[index], slave, part, rows, at, buffers) {
+        match serve(scenario, &slaves[index], slave, part, rows, at, inputs) {
             Ok(Ok(())) => (),
             Ok(Err(code)) => {
                 return Err(Halt::Fault(RefFault {

@@ -7,6 +7,7 @@ ghost use Rattle.slave_desc.specs.Canonical.{IsDesc};
 ghost use Rattle.scenario.specs.Links.{slave_at};
 ghost use Rattle.scenario.specs.Sound.{IsScenario, IsSlave};
 ghost use Rattle.fixed_models.specs.Views.{begun, accepts};
+ghost use Rattle.lockstep.specs.Cut.{SameRows};
 ghost use Rattle.lockstep.specs.Feeds.{fed, IsFeed};
 ghost use Rattle.lockstep.specs.Parts.{StandsAt, Advances, Reaches, Shows};
 
@@ -117,19 +118,20 @@ fn begin(
     }
 }
 
-/// Puts the outputs of a model behind the row so far. After a fault the row is of no use.
+/// Puts the outputs of a model behind the row that is begun. After a fault that row is of no use.
 pub(crate) fn show(
     model: &Model,
     outputs: u8,
-    row: &mut Vec<i128>,
+    rows: &mut Table,
 ) -> Result<Result<(), FaultCode>, OutOfMemory>
     requires outputs { outputs ≡ length model.now.types }
     requires types { length model.now.types ≡ output_count model.now.kind }
-    ensures { IfOk result (Shows model.now row.old.items row.new.items) }
+    ensures shown { IfOk result (Shows model.now rows.old.begun rows.new.begun) }
+    ensures kept { SameRows rows.old rows.new }
 {
     for port in 0..outputs {
         match model.output(port) {
-            Ok(value) => row.push(value)?,
+            Ok(value) => rows.put(value)?,
             Err(code) => return Ok(Err(code)),
         }
     }

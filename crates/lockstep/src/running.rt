@@ -6,7 +6,7 @@ ghost use Rattle.lockstep.specs.Lockstep.{place, IsReference};
 ghost use Rattle.lockstep.specs.Parts.{AllStand};
 ghost use Rattle.lockstep.specs.Filling.{SoFar, StoppedBy};
 
-use crate::filling::{Buffers, Moment, fill};
+use crate::filling::{Moment, fill};
 use crate::halts::Halt;
 use crate::parts::Part;
 use crate::references::Reference;
@@ -37,7 +37,7 @@ fn run_once(
     scenario: &Scenario,
     run: u32,
     rows: &mut Table,
-    buffers: &mut Buffers,
+    inputs: &mut Vec<i128>,
 ) -> Result<(), Halt>
     requires scenario { IsScenario scenario.now }
     requires first { 1 ≤ run }
@@ -51,14 +51,11 @@ fn run_once(
     };
     for step in 0..scenario.steps + 1 {
         let at = Moment { run, step };
-        match fill(scenario, &mut parts, rows, at, buffers) {
+        match fill(scenario, &mut parts, rows, at, inputs) {
             Ok(()) => (),
             Err(halt) => return Err(halt),
         }
-        match rows.push(buffers.row.as_slice()) {
-            Ok(()) => (),
-            Err(OutOfMemory) => return Err(Halt::OutOfMemory),
-        }
+        rows.close();
     }
     Ok(())
 }
@@ -67,7 +64,7 @@ fn run_all(
     alloc: Global,
     scenario: &Scenario,
     rows: &mut Table,
-    buffers: &mut Buffers,
+    inputs: &mut Vec<i128>,
 ) -> Result<(), Halt>
     requires scenario { IsScenario scenario.now }
     requires rows { SoFar scenario.now 0 rows.old }
@@ -75,7 +72,7 @@ fn run_all(
     ensures halted { IfErr result (StoppedBy scenario.now rows.new) }
 {
     for run in 1..scenario.runs + 1 {
-        run_once(alloc, scenario, run, rows, buffers)?;
+        run_once(alloc, scenario, run, rows, inputs)?;
     }
     Ok(())
 }
@@ -89,11 +86,8 @@ pub fn reference(alloc: Global, scenario: &Scenario) -> Result<Reference, OutOfM
     let width = total_outputs(scenario.slaves.as_slice());
     let room = scenario.runs as usize * (scenario.steps as usize + 1);
     let mut rows = Table::with_room(alloc, width, room)?;
-    let mut buffers = Buffers {
-        inputs: Vec::new(alloc),
-        row: Vec::new(alloc),
-    };
-    let fault = match run_all(alloc, scenario, &mut rows, &mut buffers) {
+    let mut inputs = Vec::new(alloc);
+    let fault = match run_all(alloc, scenario, &mut rows, &mut inputs) {
         Ok(()) => None,
         Err(Halt::Fault(fault)) => Some(fault),
         Err(Halt::OutOfMemory) => return Err(OutOfMemory),

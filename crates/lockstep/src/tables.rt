@@ -1,12 +1,14 @@
-//! Rows of one width, stored one behind the other.
+//! Rows of one width, stored one behind the other, and the row that is begun behind them.
 
-ghost use Rattle.std.specs.Prelude.{◌≡◌, ◌≤◌, ◌<◌, [], ◌∷◌, ◌++◌, length, IfOk, OnOk, slice_get, Some, ◌+◌, take, drop};
+ghost use Rattle.std.specs.Prelude.{◌≡◌, ◌≤◌, ◌<◌, [], ◌∷◌, ◌++◌, length, IfOk, OnOk, OnErr, slice_get, slice_index_or, pos, Some, ◌+◌, take, drop};
 
 use dcp_types::OutOfMemory;
 use std::alloc::Global;
 use std::marker::Model;
 
-/// Rows of one width. Contracts see the width and the list of the rows.
+/// Rows of one width, and the values of the row that is begun. A row is put together where it will
+/// stand, so that nothing is copied once it is there. Contracts see the width, the list of the rows,
+/// and the begun row.
 #[derive(Debug, Drop)]
 pub(crate) struct Table {
     width: usize,
@@ -15,21 +17,21 @@ pub(crate) struct Table {
 }
 
 impl Model for Table {
-    ghost use Rattle.std.specs.Prelude.{◌≡◌, ◌<◌, ◌*◌, length};
-    ghost use Rattle.lockstep.specs.Cut.{cut, Grid};
+    ghost use Rattle.std.specs.Prelude.{◌≤◌, ◌<◌, ◌*◌, length};
+    ghost use Rattle.lockstep.specs.Cut.{cut, behind_rows, Grid};
 
     ghost Value = { Grid };
 
-    ghost view = { λ t. record { width = t.width; rows = cut t.width t.count t.values.items } };
+    ghost view = { λ t. record { width = t.width; rows = cut t.width t.count t.values.items; begun = behind_rows t.width t.count t.values.items } };
 
-    ghost invariant = { λ t. (length t.values.items ≡ t.count * t.width) × (0 < t.width) };
+    ghost invariant = { λ t. (t.count * t.width ≤ length t.values.items) × (0 < t.width) };
 }
 
 impl Table {
-    /// No row yet, and room for so many rows of this width.
+    /// No row yet, none begun, and room for so many rows of this width.
     pub(crate) fn with_room(alloc: Global, width: usize, room: usize) -> Result<Table, OutOfMemory>
         requires { 0 < width }
-        ensures { IfOk result (λ table. table ≡ record { width = width; rows = [] }) }
+        ensures { IfOk result (λ table. table ≡ record { width = width; rows = []; begun = [] }) }
     {
         let values = Vec::with_capacity(alloc, width.saturating_mul(room))?;
         Ok(Table {
@@ -56,14 +58,31 @@ impl Table {
         part(values, place * self.width, self.width)
     }
 
-    /// Puts a row at the end.
-    pub(crate) fn push(&mut self, row: &[i128]) -> Result<(), OutOfMemory>
-        requires { length row.now ≡ self.old.width }
-        ensures { OnOk result (self.new ≡ record { width = self.old.width; rows = self.old.rows ++ row.now ∷ [] }) }
+    /// The value in this column of the row at this place, both from 0.
+    #[tactic(auto, using(crate::proofs::Cuts::cells))]
+    pub(crate) fn value(&self, place: usize, column: usize) -> i128
+        requires place { place < length self.now.rows }
+        requires column { column < self.now.width }
+        ensures { result ≡ slice_index_or (slice_index_or self.now.rows place []) column (pos 0) }
     {
-        self.values.extend_from_slice(row)?;
-        self.count += 1;
+        self.values[place * self.width + column]
+    }
+
+    /// Puts a value behind the row that is begun.
+    pub(crate) fn put(&mut self, value: i128) -> Result<(), OutOfMemory>
+        ensures added { OnOk result (self.new ≡ record self.old { begun = self.old.begun ++ value ∷ [] }) }
+        ensures kept { OnErr result (self.new ≡ self.old) }
+    {
+        self.values.push(value)?;
         Ok(())
+    }
+
+    /// Makes the row that is begun the last row, and begins another. It takes no memory.
+    pub(crate) fn close(&mut self)
+        requires { length self.old.begun ≡ self.old.width }
+        ensures { self.new ≡ record { width = self.old.width; rows = self.old.rows ++ self.old.begun ∷ []; begun = [] } }
+    {
+        self.count += 1;
     }
 }
 

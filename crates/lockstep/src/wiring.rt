@@ -1,6 +1,6 @@
 //! Which output each input reads, looked up once before the first step.
 
-ghost use Rattle.std.specs.Prelude.{◌≡◌, ◌==◌, ◌&&◌, ◌<◌, ◌≤◌, ◌-◌, ◌%◌, ◌^◌, length, map, All, OnOk, IfOk, sum_by, pos, slice_index_or};
+ghost use Rattle.std.specs.Prelude.{◌≡◌, ◌==◌, ◌&&◌, ◌<◌, ◌≤◌, ◌-◌, ◌%◌, ◌^◌, length, map, All, OnOk, IfOk, sum_by};
 ghost use Rattle.std.specs.Option.{ForSome};
 ghost use Rattle.scenario.specs.Limits.{total_outputs};
 ghost use Rattle.scenario.specs.Sound.{IsWire, IsScenario};
@@ -71,13 +71,6 @@ fn age(step: u32, interval: u32) -> u32
     if interval == 1 { 0 } else { step % interval }
 }
 
-fn at(row: &[i128], column: usize) -> i128
-    requires { column < length row.now }
-    ensures { result ≡ slice_index_or row.now column (pos 0) }
-{
-    row[column]
-}
-
 /// What an input reads at a step whose row stands at `now`. Without a wire it is 0.
 fn fed(feed: Option<Feed>, rows: &Table, now: usize, step: u32) -> i128
     requires feed { IsFeed rows.now.width feed }
@@ -87,10 +80,7 @@ fn fed(feed: Option<Feed>, rows: &Table, now: usize, step: u32) -> i128
 {
     match feed {
         None => 0,
-        Some(feed) => {
-            let row = rows.row(now - age(step, feed.interval) as usize);
-            at(row, feed.column)
-        }
+        Some(feed) => rows.value(now - age(step, feed.interval) as usize, feed.column),
     }
 }
 
