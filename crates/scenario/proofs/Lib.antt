@@ -2,6 +2,7 @@ pub mod Results
 pub mod HeadRanges
 pub mod LinkRanges
 pub mod LinkSets
+pub mod LastSettings
 pub mod Kept
 pub mod Groups
 pub mod Stands

@@ -2,6 +2,7 @@ pub mod Keys
 pub mod Heads
 pub mod Links
 pub mod Checks
+pub mod LastSettings
 pub mod Limits
 pub mod Machine
 pub mod Sound

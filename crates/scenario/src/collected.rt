@@ -1,9 +1,13 @@
 //! What the lines of the links so far say, and what is wrong with the next one among them.
 
-ghost use Rattle.std.specs.Prelude.{◌≡◌, ◌==◌, ◌&&◌, [], None, OnOk, IfOk, map, nat_lt};
+ghost use Rattle.std.specs.Prelude.{◌≡◌, ◌==◌, ◌&&◌, List, [], OnOk, IfOk};
 ghost use Rattle.std.specs.List.{list_any};
-ghost use Rattle.scenario.specs.Checks.{type_at, same_input, why_wire, changed_by, changed, setting_in, takes_at, parameters_now, why_change, why_setting, why_rerun, why_every, why_net, why_link};
+ghost use Rattle.slave_desc.specs.Machine.{longer};
+ghost use Rattle.scenario.specs.Checks.{type_at, same_input, why_wire, changed_by, changed, setting_in, takes_at, why_change, why_setting, why_rerun, why_every, why_net, why_link, set_in, rerun_in};
+ghost use Rattle.scenario.specs.LastSettings.{SameSettings, IsLastRun};
+ghost use Rattle.scenario.specs.declared.scenarios.Rerun.{Rerun};
 
+use crate::latest::Latest;
 use crate::link_words::{Link, inputs_at, outputs_at, parameters_at, slave_at};
 use crate::lists::{Intervals, Reruns, Settings, Wires};
 use crate::scenarios::{Every, Rerun, Setting, Wire};
@@ -12,6 +16,7 @@ use dcp_types::OutOfMemory;
 use fixed_models::takes;
 use slave_desc::{Port, SlaveDesc};
 use std::alloc::Global;
+use std::marker::Model;
 use text_lines::TextWhy;
 
 /// What the lines of the links so far say.
@@ -22,6 +27,31 @@ pub struct Links {
     pub every: Intervals,
     pub reruns: Reruns,
     pub net: NetPlan,
+}
+
+/// What the lines of the links so far say, as contracts see it. Beside it stands what judging the
+/// next line needs of the settings, so that it takes no longer where there are many.
+#[derive(Debug, Drop)]
+pub struct Collected {
+    links: Links,
+    /// What the settings before the first run come to.
+    first: Latest,
+    /// What those before later runs come to.
+    later: Latest,
+    /// The last of these runs; 0 where there is none.
+    last_run: u32,
+}
+
+impl Model for Collected {
+    ghost use Rattle.scenario.specs.declared.collected.Links.{Links};
+
+    ghost Value = { Links };
+
+    ghost use Rattle.scenario.specs.LastSettings.{IsKept};
+
+    ghost view = { λ n. n.links };
+
+    ghost invariant = { λ n. IsKept n.links n.first n.later n.last_run };
 }
 
 /// The code of a port's type; 0 where there is no such port.
@@ -70,12 +100,6 @@ fn has_interval(intervals: &[Every], from: u8, to: u8) -> bool
     intervals.iter().any(|e| is_of_pair(*e, from, to))
 }
 
-fn has_later_run(reruns: &[Rerun], run: u32) -> bool
-    ensures { result ≡ list_any (λ r. nat_lt run r.run) reruns.now }
-{
-    reruns.iter().any(|r| run < r.run)
-}
-
 fn check_wire(slaves: &[SlaveDesc], wires: &[Wire], wire: Wire) -> Option<TextWhy>
     ensures { result ≡ why_wire slaves.now wires.now wire }
 {
@@ -117,15 +141,6 @@ fn setting_in(rerun: Rerun) -> Setting
     }
 }
 
-/// Sets the parameters of one slave as they are set before later runs, in order.
-fn set_again(parameters: &mut [i64], slave: u8, reruns: &[Rerun])
-    ensures { parameters.new ≡ changed parameters.old slave (map setting_in reruns.now) }
-{
-    for rerun in reruns {
-        set_one(parameters, slave, setting_in(*rerun));
-    }
-}
-
 fn takes_at(slaves: &[SlaveDesc], slave: u8, parameters: &[i64]) -> bool
     ensures { result ≡ takes_at slaves.now slave parameters.now }
 {
@@ -135,53 +150,42 @@ fn takes_at(slaves: &[SlaveDesc], slave: u8, parameters: &[i64]) -> bool
     }
 }
 
-/// What is wrong with a setting after all settings before it.
-fn check_change(
-    alloc: Global,
-    slaves: &[SlaveDesc],
-    links: &Links,
-    setting: Setting,
-) -> Result<Option<TextWhy>, OutOfMemory>
-    ensures { IfOk result (λ o. o ≡ why_change slaves.now links.now setting) }
+fn set_said(link: Link) -> Option<Setting>
+    ensures { result ≡ set_in link }
 {
-    let slave = setting.slave;
-    let mut parameters = Vec::from_slice(alloc, parameters_at(slaves, slave))?;
-    set_all(&mut parameters, slave, links.settings.as_slice());
-    set_again(&mut parameters, slave, links.reruns.as_slice());
-    set_one(&mut parameters, slave, setting);
-    if takes_at(slaves, slave, parameters.as_slice()) {
-        Ok(None)
-    } else {
-        Ok(Some(TextWhy::Parameters))
+    match link {
+        Link::Set(setting) => Some(setting),
+        _ => None,
     }
 }
 
-fn check_setting(
-    alloc: Global,
-    slaves: &[SlaveDesc],
-    links: &Links,
-    setting: Setting,
-) -> Result<Option<TextWhy>, OutOfMemory>
-    ensures { IfOk result (λ o. o ≡ why_setting slaves.now links.now setting) }
+fn rerun_said(link: Link) -> Option<Rerun>
+    ensures { result ≡ rerun_in link }
 {
-    if !links.reruns.as_slice().is_empty() {
-        return Ok(Some(TextWhy::Order));
+    match link {
+        Link::RerunSet(rerun) => Some(rerun),
+        _ => None,
     }
-    check_change(alloc, slaves, links, setting)
 }
 
-fn check_rerun(
-    alloc: Global,
-    slaves: &[SlaveDesc],
-    links: &Links,
-    rerun: Rerun,
-) -> Result<Option<TextWhy>, OutOfMemory>
-    ensures { IfOk result (λ o. o ≡ why_rerun slaves.now links.now rerun) }
+/// Adds a setting, if there is one.
+fn put_if(latest: &mut Latest, setting: Option<Setting>) -> Result<(), OutOfMemory>
+    ensures { OnOk result (SameSettings latest.new (longer latest.old setting)) }
 {
-    if has_later_run(links.reruns.as_slice(), rerun.run) {
-        return Ok(Some(TextWhy::Order));
+    if let Some(setting) = setting {
+        latest.put(setting)?;
     }
-    check_change(alloc, slaves, links, setting_in(rerun))
+    Ok(())
+}
+
+/// The last run, after one more setting before a later run, if there is one.
+fn last_run_with(last: u32, rerun: Option<Rerun>) -> u32
+    ensures { (reruns : List Rerun) → IsLastRun last reruns → IsLastRun result (longer reruns rerun) }
+{
+    match rerun {
+        Some(rerun) => last.max(rerun.run),
+        None => last,
+    }
 }
 
 fn check_every(links: &Links, every: Every) -> Option<TextWhy>
@@ -225,25 +229,6 @@ impl Links {
         }
     }
 
-    /// What is wrong with the whole line that says this, after the lines of the links before it.
-    pub fn check(
-        &self,
-        alloc: Global,
-        slaves: &[SlaveDesc],
-        link: Link,
-    ) -> Result<Option<TextWhy>, OutOfMemory>
-        ensures { IfOk result (λ o. o ≡ why_link slaves.now self.now link) }
-    {
-        match link {
-            Link::Wire(wire) => Ok(check_wire(slaves, self.wires.as_slice(), wire)),
-            Link::Set(setting) => check_setting(alloc, slaves, self, setting),
-            Link::RerunSet(rerun) => check_rerun(alloc, slaves, self, rerun),
-            Link::Every(every) => Ok(check_every(self, every)),
-            Link::Net(_) => Ok(check_net(self)),
-            Link::Chaos(_) => Ok(None),
-        }
-    }
-
     /// Adds what a line says. After want of memory the value is of no use.
     pub fn put(&mut self, link: Link) -> Result<(), OutOfMemory>
         ensures { OnOk result (self.new ≡ put_link self.old link) }
@@ -263,5 +248,124 @@ impl Links {
         ensures { self.new ≡ put_link self.old (Link.Chaos chaos) }
     {
         self.net.chaos = Some(chaos);
+    }
+}
+
+impl Collected {
+    ghost use Rattle.scenario.specs.Checks.{no_links, put_link};
+
+    /// No links. It takes no memory.
+    pub fn new(alloc: Global) -> Collected
+        ensures { result ≡ no_links }
+    {
+        Collected {
+            links: Links::new(alloc),
+            first: Latest::new(alloc),
+            later: Latest::new(alloc),
+            last_run: 0,
+        }
+    }
+
+    pub fn links(&self) -> &Links
+        ensures { result.now ≡ self.now }
+    {
+        &self.links
+    }
+
+    pub fn into_links(self) -> Links
+        ensures { result ≡ self }
+    {
+        self.links
+    }
+
+    /// What is wrong with a setting after all settings before it.
+    fn check_change(
+        &self,
+        alloc: Global,
+        slaves: &[SlaveDesc],
+        setting: Setting,
+    ) -> Result<Option<TextWhy>, OutOfMemory>
+        ensures { IfOk result (λ o. o ≡ why_change slaves.now self.now setting) }
+    {
+        let slave = setting.slave;
+        let mut parameters = Vec::from_slice(alloc, parameters_at(slaves, slave))?;
+        set_all(&mut parameters, slave, self.first.as_slice());
+        set_all(&mut parameters, slave, self.later.as_slice());
+        set_one(&mut parameters, slave, setting);
+        if takes_at(slaves, slave, parameters.as_slice()) {
+            Ok(None)
+        } else {
+            Ok(Some(TextWhy::Parameters))
+        }
+    }
+
+    fn check_setting(
+        &self,
+        alloc: Global,
+        slaves: &[SlaveDesc],
+        setting: Setting,
+    ) -> Result<Option<TextWhy>, OutOfMemory>
+        ensures { IfOk result (λ o. o ≡ why_setting slaves.now self.now setting) }
+    {
+        if !self.links.reruns.as_slice().is_empty() {
+            return Ok(Some(TextWhy::Order));
+        }
+        self.check_change(alloc, slaves, setting)
+    }
+
+    fn check_rerun(
+        &self,
+        alloc: Global,
+        slaves: &[SlaveDesc],
+        rerun: Rerun,
+    ) -> Result<Option<TextWhy>, OutOfMemory>
+        ensures { IfOk result (λ o. o ≡ why_rerun slaves.now self.now rerun) }
+    {
+        if rerun.run < self.last_run {
+            return Ok(Some(TextWhy::Order));
+        }
+        self.check_change(alloc, slaves, setting_in(rerun))
+    }
+
+    /// What is wrong with the whole line that says this, after the lines of the links before it.
+    pub fn check(
+        &self,
+        alloc: Global,
+        slaves: &[SlaveDesc],
+        link: Link,
+    ) -> Result<Option<TextWhy>, OutOfMemory>
+        ensures { IfOk result (λ o. o ≡ why_link slaves.now self.now link) }
+    {
+        match link {
+            Link::Wire(wire) => Ok(check_wire(slaves, self.links.wires.as_slice(), wire)),
+            Link::Set(setting) => self.check_setting(alloc, slaves, setting),
+            Link::RerunSet(rerun) => self.check_rerun(alloc, slaves, rerun),
+            Link::Every(every) => Ok(check_every(&self.links, every)),
+            Link::Net(_) => Ok(check_net(&self.links)),
+            Link::Chaos(_) => Ok(None),
+        }
+    }
+
+    /// The links with what one more line says.
+    pub fn with(self, link: Link) -> Result<Collected, OutOfMemory>
+        ensures { IfOk result (λ c. c ≡ put_link self link) }
+    {
+        let Collected {
+            mut links,
+            mut first,
+            mut later,
+            last_run,
+        } = self;
+        put_if(&mut first, set_said(link))?;
+        let rerun = rerun_said(link);
+        put_if(&mut later, rerun.map(setting_in))?;
+        let last_run = last_run_with(last_run, rerun);
+        links.put(link)?;
+        Ok(Collected {
+            links,
+            first,
+            later,
+            last_run,
+        })
     }
 }

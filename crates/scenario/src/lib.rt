@@ -8,6 +8,7 @@
 mod collected;
 mod heads;
 mod keys;
+mod latest;
 mod limits;
 mod link_words;
 mod lists;

@@ -6,7 +6,7 @@ ghost use Rattle.std.specs.Str.{bytes_eq};
 ghost use Rattle.text_lines.specs.Reasons.{Gives, Steps};
 ghost use Rattle.scenario.specs.Machine.{why_name, is_master, same_address, why_address, steps_said, runs_said, limits_said, is_chaos};
 
-use crate::collected::Links;
+use crate::collected::{Collected, Links};
 use crate::heads::{HeadItem, head_item, is_said, master_said, number_said, protocol_said};
 use crate::keys::{AnyKey, HeadKey, LinkKey, any_key};
 use crate::limits::is_too_much;
@@ -27,7 +27,7 @@ pub struct Reader {
     head: HeadItems,
     slaves: Slaves,
     block: Partial,
-    links: Links,
+    links: Collected,
 }
 
 fn same_address(a: Address, b: Address) -> bool
@@ -128,7 +128,7 @@ impl Reader {
             head: HeadItems::new(alloc),
             slaves: Slaves::new(alloc),
             block: Partial::new(alloc),
-            links: Links::new(alloc),
+            links: Collected::new(alloc),
         }
     }
 
@@ -233,7 +233,7 @@ impl Reader {
     fn take_link(&mut self, alloc: Global, key: LinkKey, args: &[&[u8]]) -> Result<(), LineRefused>
         ensures { Steps result self.new (take_link self.old key (map (λ w. w.now) args.now)) }
     {
-        if is_chaos(key) && self.links.net.chaos.is_some() {
+        if is_chaos(key) && self.links.links().net.chaos.is_some() {
             return Err(LineRefused::Why(TextWhy::Repeated));
         }
         let slaves = self.slaves.as_slice();
@@ -241,7 +241,8 @@ impl Reader {
         if let Some(why) = self.links.check(alloc, slaves, link)? {
             return Err(LineRefused::Why(why));
         }
-        self.links.put(link)?;
+        let links = mem::replace(&mut self.links, Collected::new(alloc));
+        self.links = links.with(link)?;
         Ok(())
     }
 
@@ -317,7 +318,7 @@ impl Reader {
             every,
             reruns,
             net,
-        } = links;
+        } = links.into_links();
         Ok(Scenario {
             steps,
             micro,
