@@ -6,10 +6,11 @@ use Rattle.std.specs.Option.{option_map}
 use Rattle.std.specs.Result.{result_ok}
 use Rattle.std.specs.Str.{is_utf8}
 use Rattle.std.proofs.str.Laws.{order}
-use Rattle.std.proofs.lemmas.Bool.{false≢true}
+use Rattle.std.proofs.lemmas.Bool.{false≢true, and_parts, and_from}
 use Rattle.std.proofs.lemmas.Bool.Decides.{nat_tests}
 use Rattle.std.proofs.lemmas.List.Elements.{All-push}
 use Rattle.std.proofs.lemmas.Option.{slice_get-get_or}
+use Rattle.dcp_types.specs.declared.addresses.Address.{Address}
 use Rattle.text_lines.specs.Texts.{words, is_skipped}
 use Rattle.text_lines.specs.Reasons.{◌>>=◌}
 use Rattle.text_lines.specs.Runs.{at_line, run_of}
@@ -21,28 +22,31 @@ use Rattle.slave_desc.specs.Canonical.{IsDesc}
 use Rattle.slave_desc.specs.Judging.{begins, why_key, refused_if, item_keyed, item_of_words, item_in, items_in}
 use Rattle.slave_desc.specs.Machine.{has, put, why_held, unless, nothing}
 use Rattle.slave_desc.specs.Machine as block
-use Rattle.slave_desc.proofs.Held.{Holds, holds_nothing, holds_more, may_come, not_refused}
+use Rattle.slave_desc.proofs.Held.{Holds, holds_nothing, holds_more, may_come, not_refused, not_not}
 use Rattle.slave_desc.proofs.Judged.{item_key, unless_ok, end_ok, items_push}
 use Rattle.slave_desc.proofs.Ranges.{items_desc}
 use Rattle.slave_desc.specs.declared.keys.Key.{Key}
 use Rattle.slave_desc.specs.declared.items.Item.{Item}
+use Rattle.slave_desc.specs.declared.partials.Partial.{Partial}
 use Rattle.slave_desc.specs.declared.descriptions.SlaveDesc.{SlaveDesc}
 use Rattle.scenario.specs.Keys.{or_some, head_key, link_key, any_key, section_of, closes_block}
-use Rattle.scenario.specs.Heads.{head_item, is_said}
+use Rattle.scenario.specs.Heads.{head_item, is_said, master_in, first_said}
 use Rattle.scenario.specs.Links.{parameters_at, parameters_in, link_of}
 use Rattle.scenario.specs.Checks.{takes_at, taken_by, why_link, put_link, no_links}
 use Rattle.scenario.specs.Limits.{is_too_much}
 use Rattle.scenario.specs.Machine.{steps_said, runs_said, start, why_head, why_slaves, close_head, close_block, close_slaves, closes, why_among, is_chaos, take_head, take_block, take_link, act, take_keyed, take_words, take_line, scenario_of, finished}
 use Rattle.scenario.specs.Sound.{IsSlave, IsScenario}
 use Rattle.scenario.proofs.Results.{given_same, moved, all_push}
-use Rattle.scenario.proofs.HeadRanges.{FitsItem, first_fits, head_item_fits}
+use Rattle.scenario.proofs.HeadRanges.{FitsItem, first_fits, head_item_fits, master_fits}
 use Rattle.scenario.proofs.LinkRanges.{link_there}
+use Rattle.scenario.proofs.Apart.{AreNew, none_new, slave_new, item_new, others_differ}
 use Rattle.scenario.proofs.LinkSets.{AreSound, links_more, none_sound}
 use Rattle.scenario.specs.declared.keys.HeadKey.{HeadKey}
 use Rattle.scenario.specs.declared.keys.HeadKey.TheVariants as heads
 use Rattle.scenario.specs.declared.keys.LinkKey.{LinkKey}
 use Rattle.scenario.specs.declared.keys.AnyKey.{AnyKey}
 use Rattle.scenario.specs.declared.keys.AnyKey.TheVariants as any
+use Rattle.scenario.specs.declared.heads.HeadItem.{HeadItem}
 use Rattle.scenario.specs.declared.collected.Links.{Links}
 use Rattle.scenario.specs.declared.readers.Reader.{Reader}
 use Rattle.scenario.specs.declared.scenarios.Scenario.{Scenario}
@@ -59,6 +63,9 @@ pub record Sound (r : Reader) : Type 0 where
   pub shut : r.section ≡ 2 → is_some r.block.name ≡ false
   pub ready : r.section ≡ 2 → (1 ≤ length r.slaves) × (is_too_much r.slaves (steps_said r.head) (runs_said r.head) ≡ false)
   pub bounded : r.section ≤ 2
+  pub new : AreNew (first_said master_in r.head) r.slaves r.block
+  pub bare : r.section ≡ 0 → (r.slaves ≡ []) × (r.block ≡ nothing)
+  pub mastered : 1 ≤ r.section → is_said heads.Master r.head ≡ true
 
 -- ---- tests
 
@@ -102,6 +109,11 @@ pub head_same : (b : Bool) (r a : Reader) → cond b (close_head r) (Ok r) ≡ O
 head_same true r a e = given_same r a (unless_ok (why_head r.head) (Ok r) a e).1
 head_same false r a e = given_same r a e
 
+-- a head that closes names the master
+head_named : (b : Bool) (r a : Reader) → cond b (close_head r) (Ok r) ≡ Ok a → b ≡ true → is_said heads.Master r.head ≡ true
+head_named true r a e t = (and_parts (is_said heads.Steps r.head) (is_said heads.Master r.head) (not_not _ (not_refused _ why.Missing (unless_ok (why_head r.head) (Ok r) a e).0))).1
+head_named false r a e t = absurd (false≢true t)
+
 slaves_same : (b : Bool) (r c : Reader) → cond b (close_slaves r) (Ok r) ≡ Ok c → (r ≡ c) × (b ≡ true → why_slaves r.head r.slaves ≡ None)
 slaves_same true r c e = let u = unless_ok (why_slaves r.head r.slaves) (Ok r) c e in (given_same r c u.1, λ _. u.0)
 slaves_same false r c e = (given_same r c e, λ t. absurd (false≢true t))
@@ -109,8 +121,8 @@ slaves_same false r c e = (given_same r c e, λ t. absurd (false≢true t))
 abbrev closed_with : Reader → SlaveDesc → Reader
 closed_with r d = record r { slaves = r.slaves ++ d ∷ []; block = nothing }
 
-with_slave : (r : Reader) (d : SlaveDesc) → Sound r → IsDesc d → r.section < 2 → length r.slaves < 16 → Sound (closed_with r d)
-with_slave r d h desc early room =
+with_slave : (r : Reader) (d : SlaveDesc) → Sound r → IsDesc d → block.finished r.block ≡ Ok d → 1 ≤ r.section → r.section < 2 → length r.slaves < 16 → Sound (closed_with r d)
+with_slave r d h desc given late early room =
     let slaves = All-push (λ d. IsDesc d) r.slaves d h.slaves desc in
     record {
       lines = [];
@@ -123,24 +135,32 @@ with_slave r d h desc early room =
       shut = λ _. refl;
       ready = λ two. absurd (omega arith);
       bounded = h.bounded;
+      new = slave_new (first_said master_in r.head) r.slaves r.block d h.new given;
+      bare = λ zero. absurd (omega arith);
+      mastered = h.mastered;
     }
 
-block_by : (named : Bool) (r b : Reader) → Sound r → is_some r.block.name ≡ named → cond named (unless (refused_if (leb 16 (length r.slaves)) why.Limit) (block.finished r.block >>= λ d. Ok (closed_with r d))) (Ok r) ≡ Ok b → Sound b × (b.section ≡ r.section) × (is_some b.block.name ≡ false)
+abbrev Shut : Reader → Reader → Type 0
+Shut r b = Sound b × (b.section ≡ r.section) × (b.head ≡ r.head) × (is_some b.block.name ≡ false)
+
+block_by : (named : Bool) (r b : Reader) → Sound r → is_some r.block.name ≡ named → cond named (unless (refused_if (leb 16 (length r.slaves)) why.Limit) (block.finished r.block >>= λ d. Ok (closed_with r d))) (Ok r) ≡ Ok b → Shut r b
 block_by true r b h named e =
     let u = unless_ok (refused_if (leb 16 (length r.slaves)) why.Limit) _ b e in
     let d = bind_ok (block.finished r.block) _ b u.1 in
     let desc = items_desc h.lines d.0 (end_ok (items_in h.lines) r.block h.block d.0 d.1) in
     let not_last : r.section ≢ 2 = λ two. false≢true (sym (h.shut two) ∙ named) in
+    let not_first : r.section ≢ 0 = λ zero. false≢true (ap (λ (p : Partial). is_some p.name) (sym (h.bare zero).1) ∙ named) in
+    let late : 1 ≤ r.section = omega (arith, not_first) in
     let early : r.section < 2 = omega (arith, h.bounded) in
-    moved (λ (b : Reader). Sound b × (b.section ≡ r.section) × (is_some b.block.name ≡ false)) (closed_with r d.0) b d.2 (with_slave r d.0 h desc early (has_room (length r.slaves) (not_refused _ why.Limit u.0)), refl, refl)
-block_by false r b h named e = moved (λ (b : Reader). Sound b × (b.section ≡ r.section) × (is_some b.block.name ≡ false)) r b e (h, refl, named)
+    moved (λ (b : Reader). Shut r b) (closed_with r d.0) b d.2 (with_slave r d.0 h desc d.1 late early (has_room (length r.slaves) (not_refused _ why.Limit u.0)), refl, refl, refl)
+block_by false r b h named e = moved (λ (b : Reader). Shut r b) r b e (h, refl, refl, named)
 
-block_keeps : (ends : Bool) (r b : Reader) → Sound r → cond ends (close_block r) (Ok r) ≡ Ok b → Sound b × (b.section ≡ r.section) × (ends ≡ true → is_some b.block.name ≡ false)
-block_keeps true r b h e = let t = block_by (is_some r.block.name) r b h refl e in (t.0, t.1, λ _. t.2)
-block_keeps false r b h e = moved (λ (b : Reader). Sound b × (b.section ≡ r.section) × (false ≡ true → is_some b.block.name ≡ false)) r b e (h, refl, λ t. absurd (false≢true t))
+block_keeps : (ends : Bool) (r b : Reader) → Sound r → cond ends (close_block r) (Ok r) ≡ Ok b → Sound b × (b.section ≡ r.section) × (b.head ≡ r.head) × (ends ≡ true → is_some b.block.name ≡ false)
+block_keeps true r b h e = let t = block_by (is_some r.block.name) r b h refl e in (t.0, t.1, t.2, λ _. t.3)
+block_keeps false r b h e = moved (λ (b : Reader). Sound b × (b.section ≡ r.section) × (b.head ≡ r.head) × (false ≡ true → is_some b.block.name ≡ false)) r b e (h, refl, refl, λ t. absurd (false≢true t))
 
-at_section : (r : Reader) (section : ℕ) → Sound r → r.section ≤ section → section ≤ 2 → (section ≡ 2 → is_some r.block.name ≡ false) → ((ltb r.section 2 && eqb section 2) ≡ true → why_slaves r.head r.slaves ≡ None) → Sound (record r { section = section })
-at_section r section h up bound shut closed = record {
+at_section : (r : Reader) (section : ℕ) → Sound r → r.section ≤ section → section ≤ 2 → (section ≡ 2 → is_some r.block.name ≡ false) → (1 ≤ section → is_said heads.Master r.head ≡ true) → ((ltb r.section 2 && eqb section 2) ≡ true → why_slaves r.head r.slaves ≡ None) → Sound (record r { section = section })
+at_section r section h up bound shut mastered closed = record {
   lines = h.lines;
   block = h.block;
   head = h.head;
@@ -157,6 +177,9 @@ at_section r section h up bound shut closed = record {
       (λ late. h.ready (omega (arith, h.bounded)))
       (order r.section 2);
   bounded = bound;
+  new = h.new;
+  bare = λ zero. h.bare (omega arith);
+  mastered = mastered;
 }
 
 abbrev Closed : Reader → ℕ → Type 0
@@ -171,10 +194,20 @@ closes_keeps r q ends section h up bound last e =
     let c = bind_ok (cond (ltb b.0.section 2 && eqb section 2) (close_slaves b.0) (Ok b.0)) _ q b.2 in
     let same_c = slaves_same (ltb b.0.section 2 && eqb section 2) b.0 c.0 c.1 in
     let same_section : b.0.section ≡ r.section = kept.1 ∙ ap (λ (r : Reader). r.section) (sym same_a) in
-    let new = at_section b.0 section kept.0 (omega arith) bound (λ two. kept.2 (last two)) same_c.1 in
+    let same_head : r.head ≡ b.0.head = ap (λ (r : Reader). r.head) same_a ∙ sym kept.2 in
+    let mastered : 1 ≤ section → is_said heads.Master b.0.head ≡ true =
+    λ one. subst (λ (l : List HeadItem). is_said heads.Master l ≡ true) same_head
+    (⊎_elim
+    (λ zero. head_named (eqb r.section 0 && ltb 0 section) r a.0 a.1 (and_from (eqb r.section 0) (ltb 0 section) (is_equal r.section 0 (omega arith)) (is_below 0 section (omega arith))))
+    (λ late. h.mastered late)
+    (order r.section 1)) in
+    let new = at_section b.0 section kept.0 (omega arith) bound (λ two. kept.3 (last two)) mastered same_c.1 in
     moved (λ (q : Reader). Closed q section) (record c.0 { section = section }) q c.2 (subst (λ (c : Reader). Sound (record c { section = section })) same_c.0 new, refl)
 
 -- ---- what a line says
+
+bare_new : (master : Option Address) (slaves : List SlaveDesc) (p : Partial) → (slaves ≡ []) × (p ≡ nothing) → AreNew master slaves p
+bare_new master slaves p bare = subst (λ (l : List SlaveDesc). AreNew master l p) (sym bare.0) (subst (λ (p : Partial). AreNew master [] p) (sym bare.1) (none_new master))
 
 head_keeps : (r q : Reader) (key : HeadKey) (args : List (List ℕ)) → Sound r → r.section ≡ 0 → take_head r key args ≡ Ok q → Sound q
 head_keeps r q key args h at e =
@@ -192,6 +225,9 @@ head_keeps r q key args h at e =
       shut = h.shut;
       ready = λ two. absurd (omega arith);
       bounded = h.bounded;
+      new = bare_new (first_said master_in (r.head ++ i.0 ∷ [])) r.slaves r.block (h.bare at);
+      bare = h.bare;
+      mastered = λ one. absurd (omega arith);
     })
 
 pub line_item : (line w : List ℕ) (args : List (List ℕ)) (key : Key) (i : Item) → words line ≡ w ∷ args → is_skipped (w ∷ args) ≡ false → key_of w ≡ Some key → item_of key args ≡ Ok i → item_in line ≡ Some i
@@ -222,6 +258,9 @@ block_takes r q key line w args h at said skip k e =
       shut = λ two. absurd (omega arith);
       ready = λ two. absurd (omega arith);
       bounded = h.bounded;
+      new = item_new r.head r.slaves r.block i.0 h.new x.0;
+      bare = λ zero. absurd (omega arith);
+      mastered = h.mastered;
     })
 
 link_keeps : (r q : Reader) (key : LinkKey) (args : List (List ℕ)) → Sound r → r.section ≡ 2 → take_link r key args ≡ Ok q → Sound q
@@ -240,6 +279,9 @@ link_keeps r q key args h at e =
       shut = h.shut;
       ready = h.ready;
       bounded = h.bounded;
+      new = h.new;
+      bare = h.bare;
+      mastered = h.mastered;
     })
 
 pub block_key : (h : Option HeadKey) (b : Option Key) (l : Option LinkKey) (k : Key) → or_some (option_map (λ k. any.Head k) h) (or_some (option_map (λ k. any.Block k) b) (option_map (λ k. any.Link k) l)) ≡ Some (any.Block k) → b ≡ Some k
@@ -292,10 +334,12 @@ end_gives r s h e =
     let k = t.0 in
     let ready = k.ready t.1 in
     let runs = first_fits heads.Runs c.0.head 1 k.head (omega arith, omega arith) in
+    let master = master_fits c.0.head (record { ip = 0; port = 0 }) k.head (k.mastered (omega (arith, t.1))) in
     moved IsScenario (scenario_of c.0.head c.0.slaves c.0.links) s c.2 (record {
       steps = (first_fits heads.Steps c.0.head 0 k.head (omega arith, omega arith)).1;
       micro = first_fits heads.Micro c.0.head 1 k.head (omega arith, omega arith);
       runs = runs;
+      master = master.0;
       limits = record {
         turn_limit = first_fits heads.TurnLimit c.0.head 50 k.head (omega arith, omega arith);
         tries = first_fits heads.Tries c.0.head 4 k.head (omega arith, omega arith);
@@ -307,6 +351,9 @@ end_gives r s h e =
       };
       few_slaves = (ready.0, k.few);
       slaves = k.slaves;
+      names_apart = k.new.names;
+      addresses_apart = k.new.addresses;
+      master_apart = others_differ c.0.slaves (first_said master_in c.0.head) _ master.1 k.new.others;
       small = ready.1;
       wires = k.links.wires;
       one_wire = k.links.one_wire;
@@ -315,6 +362,8 @@ end_gives r s h e =
       in_order = k.links.in_order;
       taken = k.links.taken;
       every = k.links.every;
+      one_interval = k.links.one_interval;
+      net = k.links.net;
     })
 
 nothing_at : {X : Type 0} (P : X → Type 0) → All P []
@@ -332,6 +381,9 @@ start_sound = record {
   shut = λ _. refl;
   ready = λ two. absurd (omega arith);
   bounded = omega arith;
+  new = none_new None;
+  bare = λ _. (refl, refl);
+  mastered = λ one. absurd (omega arith);
 }
 
 run_gives : (n : ℕ) (r : Reader) (ls : List (List ℕ)) (s : Scenario) → Sound r → run_of take_line finished n r ls ≡ Ok s → IsScenario s

@@ -1,8 +1,10 @@
 pub mod Results
+pub mod Addresses
 pub mod HeadRanges
 pub mod LinkRanges
 pub mod LinkSets
 pub mod LastSettings
+pub mod Apart
 pub mod Kept
 pub mod Groups
 pub mod Stands

@@ -3,20 +3,22 @@ use Rattle.std.proofs.Common.{◌≡◌, ℕ, ℤ, ◌<◌, ◌≤◌, Bool, tru
 use Rattle.std.specs.Prelude.{All, AllPairs}
 use Rattle.std.specs.List.{list_any}
 use Rattle.std.proofs.str.Laws.{order}
-use Rattle.std.proofs.lemmas.Bool.{false≢true}
+use Rattle.std.proofs.lemmas.Bool.{false≢true, leb-false}
 use Rattle.std.proofs.lemmas.Bool.Decides.{nat_tests}
 use Rattle.std.proofs.lemmas.List.{map-append, take-append-le, take_all}
 use Rattle.std.proofs.lemmas.List.Elements.{All-push}
 use Rattle.std.proofs.lemmas.List.Folds.{list_any_at, list_any-append}
 use Rattle.std.proofs.lemmas.List.Quantifiers.{all_pairs_push}
+use Rattle.dcp_io.specs.declared.net_plans.NetLine.{NetLine}
+use Rattle.dcp_io.specs.declared.net_plans.Chaos.{Chaos}
 use Rattle.text_lines.specs.declared.reasons.TextWhy.{TextWhy}
 use Rattle.text_lines.specs.declared.reasons.TextWhy.TheVariants as why
 use Rattle.slave_desc.specs.Judging.{refused_if}
 use Rattle.slave_desc.proofs.Held.{not_refused, not_not}
 use Rattle.slave_desc.specs.declared.descriptions.SlaveDesc.{SlaveDesc}
 use Rattle.scenario.specs.Links.{outputs_at, inputs_at, parameters_at}
-use Rattle.scenario.specs.Checks.{type_at, same_input, why_wire, changed_by, changed, setting_in, takes_at, parameters_now, why_change, why_setting, why_rerun, why_every, why_link, no_links, put_link}
-use Rattle.scenario.specs.Sound.{IsSlave, IsWire, IsSetting, IsRerun, IsEvery, changes, AreTaken}
+use Rattle.scenario.specs.Checks.{type_at, same_input, why_wire, changed_by, changed, setting_in, takes_at, parameters_now, why_change, why_setting, why_rerun, why_every, why_net, why_link, no_links, put_link}
+use Rattle.scenario.specs.Sound.{IsSlave, IsWire, IsSetting, IsRerun, IsEvery, same_pair, IsNetLine, IsChaos, IsPlan, changes, AreTaken}
 use Rattle.scenario.proofs.LinkRanges.{IsPlaced, IsPair, IsThere}
 use Rattle.scenario.specs.declared.scenarios.Wire.{Wire}
 use Rattle.scenario.specs.declared.scenarios.Setting.{Setting}
@@ -35,6 +37,8 @@ pub record AreSound (slaves : List SlaveDesc) (runs : ℕ) (links : Links) : Typ
   pub in_order : AllPairs (λ q r. q.run ≤ r.run) links.reruns
   pub taken : AreTaken slaves (changes links.settings links.reruns)
   pub every : All (λ e. IsEvery slaves links.wires e) links.every
+  pub one_interval : AllPairs (λ e f. same_pair e f ≡ false) links.every
+  pub net : IsPlan slaves links.net
 
 -- ---- tests
 
@@ -56,7 +60,7 @@ empty [] e = refl
 empty (x ∷ xs) e = absurd (omega (arith, no_more (length (x ∷ xs)) e))
 
 -- a test that no element passes
-none_at : {X : Type 0} (p : X → Bool) (xs : List X) (k : ℕ) (d : X) → list_any p xs ≡ false → k < length xs → p (get_or xs k d) ≡ false
+pub none_at : {X : Type 0} (p : X → Bool) (xs : List X) (k : ℕ) (d : X) → list_any p xs ≡ false → k < length xs → p (get_or xs k d) ≡ false
 none_at p xs k d none below = by (p (get_or xs k d)) refl
   where
     by : (b : Bool) → p (get_or xs k d) ≡ b → b ≡ false
@@ -116,6 +120,8 @@ module _ (slaves : List SlaveDesc) (runs : ℕ) (links : Links) (h : AreSound sl
           q = v.q;
           wired = list_any-append _ links.wires (w ∷ []) ∙ ap (λ (b : Bool). b || list_any (λ (u : Wire). eqb u.from (get_or links.every k d).from && eqb u.to (get_or links.every k d).to) (w ∷ [])) v.wired;
         };
+        one_interval = h.one_interval;
+        net = h.net;
       }
 
   set_more : (x : Setting) → IsSetting slaves x → why_setting slaves links x ≡ None → AreSound slaves runs (put_link links (link.Set x))
@@ -133,6 +139,8 @@ module _ (slaves : List SlaveDesc) (runs : ℕ) (links : Links) (h : AreSound sl
         in_order = h.in_order;
         taken = subst (AreTaken slaves) (sym after) (one_more_taken slaves links.settings x (subst (AreTaken slaves) before h.taken) here);
         every = h.every;
+        one_interval = h.one_interval;
+        net = h.net;
       }
 
   rerun_more : (r : Rerun) → IsRerun slaves runs r → why_rerun slaves links r ≡ None → AreSound slaves runs (put_link links (link.RerunSet r))
@@ -148,6 +156,8 @@ module _ (slaves : List SlaveDesc) (runs : ℕ) (links : Links) (h : AreSound sl
         in_order = all_pairs_push (λ (q r : Rerun). q.run ≤ r.run) links.reruns r h.in_order (λ k d below. not_later r.run (get_or links.reruns k d).run (none_at (λ (q : Rerun). ltb r.run q.run) links.reruns k d t.0 below));
         taken = subst (AreTaken slaves) (sym after) (one_more_taken slaves (changes links.settings links.reruns) (setting_in r) h.taken (taken_here (setting_in r) t.1));
         every = h.every;
+        one_interval = h.one_interval;
+        net = h.net;
       }
 
   every_more : (x : Every) → IsPair slaves x → why_every links x ≡ None → AreSound slaves runs (put_link links (link.Every x))
@@ -162,15 +172,47 @@ module _ (slaves : List SlaveDesc) (runs : ℕ) (links : Links) (h : AreSound sl
         in_order = h.in_order;
         taken = h.taken;
         every = All-push (λ x. IsEvery slaves links.wires x) links.every x h.every (record { from = there.from; to = there.to; q = there.q; wired = wired });
+        one_interval = all_pairs_push (λ (e f : Every). same_pair e f ≡ false) links.every x h.one_interval (λ k d below. none_at (λ (f : Every). same_pair f x) links.every k d t.0 below);
+        net = h.net;
       }
+
+  net_more : (l : NetLine) → IsNetLine slaves l → why_net links ≡ None → AreSound slaves runs (put_link links (link.Net l))
+  net_more l there e = record {
+    wires = h.wires;
+    one_wire = h.one_wire;
+    settings = h.settings;
+    reruns = h.reruns;
+    in_order = h.in_order;
+    taken = h.taken;
+    every = h.every;
+    one_interval = h.one_interval;
+    net = record {
+      few = omega (arith, leb-false 64 (length links.net.lines) (not_refused _ why.Limit e), length-append links.net.lines (l ∷ []));
+      lines = All-push (λ l. IsNetLine slaves l) links.net.lines l h.net.lines there;
+      chaos = h.net.chaos;
+    };
+  }
+
+  chaos_more : (c : Chaos) → IsChaos c → AreSound slaves runs (put_link links (link.Chaos c))
+  chaos_more c there = record {
+    wires = h.wires;
+    one_wire = h.one_wire;
+    settings = h.settings;
+    reruns = h.reruns;
+    in_order = h.in_order;
+    taken = h.taken;
+    every = h.every;
+    one_interval = h.one_interval;
+    net = record { few = h.net.few; lines = h.net.lines; chaos = there };
+  }
 
   pub links_more : (l : Link) → IsThere slaves runs l → why_link slaves links l ≡ None → AreSound slaves runs (put_link links l)
   links_more (link.Wire w) there e = wire_more w there e
   links_more (link.Set x) there e = set_more x there e
   links_more (link.RerunSet r) there e = rerun_more r there e
   links_more (link.Every x) there e = every_more x there e
-  links_more (link.Net l) there e = record { wires = h.wires; one_wire = h.one_wire; settings = h.settings; reruns = h.reruns; in_order = h.in_order; taken = h.taken; every = h.every }
-  links_more (link.Chaos c) there e = record { wires = h.wires; one_wire = h.one_wire; settings = h.settings; reruns = h.reruns; in_order = h.in_order; taken = h.taken; every = h.every }
+  links_more (link.Net l) there e = net_more l there e
+  links_more (link.Chaos c) there e = chaos_more c there
 
 nothing_at : {X : Type 0} (P : X → Type 0) → All P []
 nothing_at P k d below = absurd (omega arith)
@@ -191,4 +233,6 @@ none_sound slaves runs takes = record {
   in_order = no_pairs (λ q r. q.run ≤ r.run);
   taken = λ n s is. subst (λ (l : List Setting). takes_at slaves s (changed (parameters_at slaves s) s l) ≡ true) (sym (take_nothing n)) (takes s is);
   every = nothing_at (λ e. IsEvery slaves [] e);
+  one_interval = no_pairs (λ e f. same_pair e f ≡ false);
+  net = record { few = omega arith; lines = nothing_at (λ l. IsNetLine slaves l); chaos = tt };
 }
