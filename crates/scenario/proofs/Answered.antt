@@ -11,7 +11,8 @@ use Rattle.text_lines.specs.declared.reasons.TextFault.{TextFault}
 use Rattle.text_lines.specs.declared.reasons.TextRefused.{TextRefused}
 use Rattle.text_lines.specs.declared.reasons.TextRefused.TheVariants as refusals
 use Rattle.slave_desc.specs.declared.descriptions.SlaveDesc.{SlaveDesc}
-use Rattle.scenario.specs.Machine.{closes, start, take_line, finished, scenario_of}
+use Rattle.scenario.specs.Scenarios.{scenario_of}
+use Rattle.scenario.specs.Machine.{closes, start, take_line, finished}
 use Rattle.scenario.specs.Judging.{bad, blocks, head_said, slaves_said, why_at, why_end_of, FirstBad}
 use Rattle.scenario.specs.Reads.{scenario_said, Reads, ReadsOrRefused, NeverBoth, OneValue, OneFault}
 use Rattle.scenario.proofs.Results.{given_same, moved}

@@ -23,7 +23,7 @@ use Rattle.slave_desc.specs.declared.items.Item.TheVariants as items
 use Rattle.slave_desc.specs.declared.partials.Partial.{Partial}
 use Rattle.slave_desc.specs.declared.descriptions.SlaveDesc.{SlaveDesc}
 use Rattle.scenario.specs.Heads.{master_in, first_said}
-use Rattle.scenario.specs.Machine.{same_address, is_master, why_among}
+use Rattle.scenario.specs.Scenarios.{same_address, is_master, why_among}
 use Rattle.scenario.proofs.Results.{moved}
 use Rattle.scenario.proofs.LinkSets.{none_at}
 use Rattle.scenario.specs.declared.heads.HeadItem.{HeadItem}

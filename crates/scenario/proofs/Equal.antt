@@ -30,7 +30,7 @@ use Rattle.scenario.specs.Heads.{head_item, is_said}
 use Rattle.scenario.specs.Links.{link_of, chaos_of}
 use Rattle.scenario.specs.Checks.{why_link}
 use Rattle.scenario.specs.Limits.{is_too_much}
-use Rattle.scenario.specs.Machine.{steps_said, runs_said, why_head, why_slaves, why_among, is_chaos, scenario_of}
+use Rattle.scenario.specs.Scenarios.{steps_said, runs_said, why_head, why_slaves, why_among, is_chaos, scenario_of}
 use Rattle.scenario.specs.Judging.{key_of_words, key_at, args_of, is_of, lines_in, section_now, opens, onto, is_slave_key, begins_block, head_said, group, blocks, last_of, front_of, slaves_of, slaves_said, links_said, when, why_block, why_closes, why_order, block_for, slaves_for, bad, why_item_read, why_link_read, why_acts, why_keyed, why_words, why_line, why_end_of, why_entry, why_at}
 use Rattle.scenario.specs.Grammar.{reads_by, is_read, IsOrdered, Fits, IsNew, AreSlaves, AreOf}
 use Rattle.scenario.specs.Reads.{scenario_said}

@@ -23,7 +23,7 @@ use Rattle.slave_desc.specs.declared.items.Item.{Item}
 use Rattle.slave_desc.specs.declared.items.Item.TheVariants as items
 use Rattle.slave_desc.specs.declared.descriptions.SlaveDesc.{SlaveDesc}
 use Rattle.scenario.specs.Judging.{begins_block, opens, onto, group, last_of, front_of, slaves_of}
-use Rattle.scenario.specs.Machine.{why_among, why_name}
+use Rattle.scenario.specs.Scenarios.{why_among, why_name}
 use Rattle.scenario.specs.Grammar.{AreSlaves, IsNew}
 use Rattle.scenario.proofs.Groups.{at_last, group_new, group_more, at_last_is}
 use Rattle.scenario.specs.declared.heads.HeadItem.{HeadItem}

@@ -18,7 +18,7 @@ use Rattle.scenario.specs.Keys.{section_of, closes_block}
 use Rattle.scenario.specs.Heads.{head_item, is_said}
 use Rattle.scenario.specs.Links.{link_of}
 use Rattle.scenario.specs.Checks.{why_link}
-use Rattle.scenario.specs.Machine.{runs_said, why_head, why_slaves, why_among, is_chaos, scenario_of}
+use Rattle.scenario.specs.Scenarios.{runs_said, why_head, why_slaves, why_among, is_chaos, scenario_of}
 use Rattle.scenario.specs.Judging.{key_of_words, key_at, args_of, is_of, lines_in, section_now, head_said, group, blocks, slaves_of, slaves_said, links_said, when, why_block, why_closes, block_for, slaves_for, bad, why_item_read, why_link_read, why_acts, why_line, why_at, why_end_of}
 use Rattle.scenario.specs.Grammar.{reads_by, is_read, IsOrdered, Fits, IsNew, AreSlaves, AreOf}
 use Rattle.scenario.proofs.Orders.{earlier_lines, earlier_head, same_now}

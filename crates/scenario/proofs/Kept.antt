@@ -34,7 +34,8 @@ use Rattle.scenario.specs.Heads.{head_item, is_said, master_in, first_said}
 use Rattle.scenario.specs.Links.{parameters_at, parameters_in, link_of}
 use Rattle.scenario.specs.Checks.{takes_at, taken_by, why_link, put_link, no_links}
 use Rattle.scenario.specs.Limits.{is_too_much}
-use Rattle.scenario.specs.Machine.{steps_said, runs_said, start, why_head, why_slaves, close_head, close_block, close_slaves, closes, why_among, is_chaos, take_head, take_block, take_link, act, take_keyed, take_words, take_line, scenario_of, finished}
+use Rattle.scenario.specs.Scenarios.{steps_said, runs_said, why_head, why_slaves, why_among, is_chaos, scenario_of}
+use Rattle.scenario.specs.Machine.{start, close_head, close_block, close_slaves, closes, take_head, take_block, take_link, act, take_keyed, take_words, take_line, finished}
 use Rattle.scenario.specs.Sound.{IsSlave, IsScenario}
 use Rattle.scenario.proofs.Results.{given_same, moved, all_push}
 use Rattle.scenario.proofs.HeadRanges.{FitsItem, first_fits, head_item_fits, master_fits}

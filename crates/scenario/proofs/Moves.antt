@@ -27,7 +27,8 @@ use Rattle.scenario.specs.Keys.{head_key, link_key, any_key, section_of, closes_
 use Rattle.scenario.specs.Heads.{head_item, is_said}
 use Rattle.scenario.specs.Links.{link_of, wire_of, setting_of, rerun_of, every_of, drop_of, copy_of, hold_of}
 use Rattle.scenario.specs.Checks.{why_link, put_link, wire_in, set_in, rerun_in, every_in, line_in, chaos_in}
-use Rattle.scenario.specs.Machine.{runs_said, why_among, closes, is_chaos, take_head, take_block, take_link, act, take_keyed, take_words, take_line, start}
+use Rattle.scenario.specs.Scenarios.{runs_said, why_among, is_chaos}
+use Rattle.scenario.specs.Machine.{closes, take_head, take_block, take_link, act, take_keyed, take_words, take_line, start}
 use Rattle.scenario.specs.Judging.{key_of_words, key_at, args_of, is_of, lines_in, head_by, head_said, is_slave_key, begins_block, group, slaves_of, link_by, links_of}
 use Rattle.scenario.proofs.Results.{moved}
 use Rattle.scenario.proofs.Groups.{at_last, group_new, group_more, at_last_is, AreSlaves, all_said}

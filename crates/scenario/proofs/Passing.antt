@@ -20,7 +20,7 @@ use Rattle.scenario.specs.Keys.{any_key, section_of, closes_block}
 use Rattle.scenario.specs.Heads.{head_item, is_said, master_in, first_said}
 use Rattle.scenario.specs.Links.{outputs_at, inputs_at, link_of, chaos_of}
 use Rattle.scenario.specs.Checks.{type_at, same_input, changed_by, takes_at, parameters_now, why_wire, why_change, why_setting, why_rerun, why_every, why_net, why_link, setting_in, chaos_in}
-use Rattle.scenario.specs.Machine.{runs_said, same_address, is_master, why_name, why_address, why_head, why_among, is_chaos}
+use Rattle.scenario.specs.Scenarios.{runs_said, same_address, is_master, why_name, why_address, why_head, why_among, is_chaos}
 use Rattle.scenario.specs.Judging.{key_of_words, key_at, args_of, section_now, head_said, blocks, slaves_said, links_said, when, why_closes, why_order, block_for, slaves_for, bad, why_item_read, why_link_read, why_acts, why_keyed, why_words, why_line, why_at}
 use Rattle.scenario.specs.Grammar.{reads_by, is_read, IsOrdered, Fits, IsNew}
 use Rattle.scenario.proofs.Orders.{earlier_lines, earlier_head}

@@ -26,7 +26,8 @@ use Rattle.scenario.specs.Keys.{any_key, section_of, closes_block}
 use Rattle.scenario.specs.Heads.{head_item, is_said}
 use Rattle.scenario.specs.Links.{link_of}
 use Rattle.scenario.specs.Checks.{why_link, put_link}
-use Rattle.scenario.specs.Machine.{runs_said, why_head, why_slaves, close_head, close_block, close_slaves, closes, why_among, is_chaos, take_head, take_block, take_link, act, take_keyed, take_words, take_line}
+use Rattle.scenario.specs.Scenarios.{runs_said, why_head, why_slaves, why_among, is_chaos}
+use Rattle.scenario.specs.Machine.{close_head, close_block, close_slaves, closes, take_head, take_block, take_link, act, take_keyed, take_words, take_line}
 use Rattle.scenario.specs.Judging.{lines_in, section_now, head_said, group, blocks, last_of, front_of, slaves_of, slaves_said, links_said, when, why_block, why_closes, bad, why_item_read, why_link_read, why_acts, why_keyed, why_words, why_line}
 use Rattle.scenario.proofs.Results.{given_same, moved}
 use Rattle.scenario.proofs.Groups.{last_is, front_is, AreSlaves, slaves_more, all_said}

@@ -21,7 +21,7 @@ use Rattle.scenario.specs.Heads.{head_item, is_said, master_in, first_said}
 use Rattle.scenario.specs.Links.{outputs_at, inputs_at, link_of}
 use Rattle.scenario.specs.Checks.{type_at, same_input, changed_by, setting_in, takes_at, parameters_now}
 use Rattle.scenario.specs.Limits.{is_too_much}
-use Rattle.scenario.specs.Machine.{is_master, same_address, scenario_of}
+use Rattle.scenario.specs.Scenarios.{is_master, same_address, scenario_of}
 use Rattle.scenario.specs.Judging.{key_at, args_of, section_now, head_said, blocks, slaves_for, links_said}
 use Rattle.scenario.specs.declared.keys.HeadKey.TheVariants as heads
 use Rattle.scenario.specs.declared.keys.AnyKey.{AnyKey}

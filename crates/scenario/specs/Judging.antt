@@ -21,7 +21,7 @@ use Rattle.scenario.specs.Keys.{any_key, section_of, closes_block}
 use Rattle.scenario.specs.Heads.{head_item, is_said}
 use Rattle.scenario.specs.Links.{link_of}
 use Rattle.scenario.specs.Checks.{why_link, wire_in, set_in, rerun_in, every_in, line_in, chaos_in}
-use Rattle.scenario.specs.Machine.{runs_said, why_head, why_slaves, why_among, is_chaos}
+use Rattle.scenario.specs.Scenarios.{runs_said, why_head, why_slaves, why_among, is_chaos}
 use Rattle.scenario.specs.declared.keys.AnyKey.{AnyKey}
 use Rattle.scenario.specs.declared.keys.AnyKey.TheVariants as any
 use Rattle.scenario.specs.declared.heads.HeadItem.{HeadItem}

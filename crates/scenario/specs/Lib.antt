@@ -4,8 +4,9 @@ pub mod Links
 pub mod Checks
 pub mod LastSettings
 pub mod Limits
-pub mod Machine
+pub mod Scenarios
 pub mod Sound
 pub mod Judging
 pub mod Grammar
 pub mod Reads
+pub mod Machine

@@ -2,7 +2,7 @@
 use Rattle.std.specs.Prelude.{◌≡◌, ℕ, ◌⊎◌, List}
 use Rattle.std.specs.Str.Lines.{lines}
 use Rattle.text_lines.specs.declared.reasons.TextWhy.{TextWhy}
-use Rattle.scenario.specs.Machine.{scenario_of}
+use Rattle.scenario.specs.Scenarios.{scenario_of}
 use Rattle.scenario.specs.Judging.{head_said, slaves_said, links_said, FirstBad}
 use Rattle.scenario.specs.Grammar.{AreOf}
 use Rattle.scenario.specs.declared.scenarios.Scenario.{Scenario}

@@ -4,7 +4,7 @@ ghost use Rattle.std.specs.Prelude.{◌≡◌, ◌==◌, ◌&&◌, map, Some};
 ghost use Rattle.std.specs.List.{list_any};
 ghost use Rattle.std.specs.Str.{bytes_eq};
 ghost use Rattle.text_lines.specs.Reasons.{Gives, Steps};
-ghost use Rattle.scenario.specs.Machine.{why_name, is_master, same_address, why_address, steps_said, runs_said, limits_said, is_chaos};
+ghost use Rattle.scenario.specs.Scenarios.{why_name, is_master, same_address, why_address, steps_said, runs_said, limits_said, is_chaos};
 
 use crate::collected::{Collected, Links};
 use crate::heads::{HeadItem, head_item, is_said, master_said, number_said, protocol_said};
@@ -117,7 +117,8 @@ fn is_chaos(key: LinkKey) -> bool
 }
 
 impl Reader {
-    ghost use Rattle.scenario.specs.Machine.{start, close_head, close_block, close_slaves, closes, why_among, take_head, take_block, take_link, act, take_keyed, take_words, take_line, finished};
+    ghost use Rattle.scenario.specs.Scenarios.{why_among};
+    ghost use Rattle.scenario.specs.Machine.{start, close_head, close_block, close_slaves, closes, take_head, take_block, take_link, act, take_keyed, take_words, take_line, finished};
 
     /// What no lines say. It takes no memory.
     pub fn new(alloc: Global) -> Reader
