@@ -1,10 +1,8 @@
 -- The grammar and the judging agree.
-use Rattle.std.proofs.Common.{◌≡◌, ◌≢◌, ℕ, ℤ, suc, ◌+◌, ◌-◌, ◌<◌, ◌≤◌, Bool, true, false, not, ◌&&◌, ◌||◌, cond, eqb, ltb, leb, get_or, take, drop, ◌⊎◌, inl, inr, ⊎_elim, List, [], ◌∷◌, ◌++◌, map, length, Option, Some, None, Result, Ok, Err, is_some, refl, sym, ap, ◌∙◌, subst, arith, append-nil, append_assoc, length-append, take-append-drop}
-use Rattle.std.specs.Prelude.{slice_get}
-use Rattle.std.specs.List.{filter_map, cons_option}
+use Rattle.std.proofs.Common.{◌≡◌, ℕ, suc, ◌-◌, ◌<◌, ◌≤◌, Bool, true, false, not, ◌&&◌, ◌||◌, cond, eqb, ltb, get_or, take, drop, ⊎_elim, List, [], ◌∷◌, ◌++◌, length, Option, Some, None, Result, Ok, Err, is_some, refl, sym, ap, ◌∙◌, subst, arith, take-append-drop}
+use Rattle.std.specs.List.{filter_map}
 use Rattle.std.specs.Result.{result_ok}
 use Rattle.std.specs.Str.{is_utf8}
-use Rattle.std.specs.Str.Lines.{lines}
 use Rattle.std.proofs.Math.Seq.{take-length, drop-cons}
 use Rattle.std.proofs.str.Laws.{order}
 use Rattle.std.proofs.lemmas.Bool.{false≢true}
@@ -12,12 +10,11 @@ use Rattle.std.proofs.lemmas.Bool.Decides.{nat_tests}
 use Rattle.std.proofs.lemmas.List.Elements.{filter-append}
 use Rattle.std.proofs.lemmas.Option.{slice_get_past, slice_get-get_or}
 use Rattle.text_lines.specs.Texts.{words, is_skipped}
-use Rattle.text_lines.specs.Reasons.{◌>>=◌}
 use Rattle.text_lines.proofs.Results.{bind_ok}
 use Rattle.text_lines.specs.declared.reasons.TextWhy.{TextWhy}
 use Rattle.text_lines.specs.declared.reasons.TextWhy.TheVariants as why
 use Rattle.slave_desc.specs.Items.{key_of, item_of}
-use Rattle.slave_desc.specs.Judging.{name_in, came, came_before, begins, why_key, why_item, why_end, or_else, refused_if, item_in, items_in}
+use Rattle.slave_desc.specs.Judging.{name_in, came, came_before, begins, why_key, why_item, or_else, refused_if, items_in}
 use Rattle.slave_desc.proofs.Held.{key_in}
 use Rattle.slave_desc.proofs.Judged.{item_key}
 use Rattle.slave_desc.specs.declared.keys.Key.{Key}
@@ -26,24 +23,21 @@ use Rattle.slave_desc.specs.declared.items.Item.{Item}
 use Rattle.slave_desc.specs.declared.items.Item.TheVariants as items
 use Rattle.slave_desc.specs.declared.descriptions.SlaveDesc.{SlaveDesc}
 use Rattle.scenario.specs.Keys.{head_key, link_key, any_key, section_of, closes_block}
-use Rattle.scenario.specs.Heads.{head_item, is_said}
+use Rattle.scenario.specs.Heads.{head_item}
 use Rattle.scenario.specs.Links.{link_of, chaos_of}
-use Rattle.scenario.specs.Checks.{why_link}
 use Rattle.scenario.specs.Limits.{is_too_much}
-use Rattle.scenario.specs.Scenarios.{steps_said, runs_said, why_head, why_slaves, why_among, is_chaos, scenario_of}
-use Rattle.scenario.specs.Judging.{key_of_words, key_at, args_of, is_of, lines_in, section_now, opens, onto, is_slave_key, begins_block, head_said, group, blocks, last_of, front_of, slaves_of, slaves_said, links_said, when, why_block, why_closes, why_order, block_for, slaves_for, bad, why_item_read, why_link_read, why_acts, why_keyed, why_words, why_line, why_end_of, why_entry, why_at}
-use Rattle.scenario.specs.Grammar.{reads_by, is_read, IsOrdered, Fits, IsNew, AreSlaves, AreOf}
+use Rattle.scenario.specs.Scenarios.{steps_said, runs_said, why_head, why_slaves, is_chaos, scenario_of}
+use Rattle.scenario.specs.Judging.{key_of_words, key_at, args_of, is_of, lines_in, section_now, opens, onto, is_slave_key, head_said, group, blocks, last_of, front_of, slaves_of, slaves_said, links_said, when, why_block, why_closes, bad, why_item_read, why_link_read, why_acts, why_keyed, why_words, why_line, why_end_of, why_entry}
+use Rattle.scenario.specs.Grammar.{reads_by, IsOrdered, Fits, IsNew, AreSlaves, AreOf}
 use Rattle.scenario.specs.Reads.{scenario_said}
 use Rattle.scenario.proofs.Results.{moved}
 use Rattle.scenario.proofs.Groups.{all_said}
 use Rattle.scenario.proofs.Moves.{slave_key_is, key_said}
 use Rattle.scenario.proofs.Kept.{block_key, line_item}
-use Rattle.scenario.proofs.Orders.{earlier_lines, earlier_head, section_ge}
+use Rattle.scenario.proofs.Orders.{earlier_lines, earlier_head}
 use Rattle.scenario.proofs.Passing.{if_fits}
 use Rattle.scenario.proofs.Grammatical.{Passes}
 use Rattle.scenario.proofs.Excluded.{whole, open_described, slave_room, last_whole, last_of_all, key_none, item_none, among_none}
-use Rattle.scenario.specs.declared.keys.HeadKey.{HeadKey}
-use Rattle.scenario.specs.declared.keys.HeadKey.TheVariants as heads
 use Rattle.scenario.specs.declared.keys.LinkKey.{LinkKey}
 use Rattle.scenario.specs.declared.keys.LinkKey.TheVariants as linkkeys
 use Rattle.scenario.specs.declared.keys.AnyKey.{AnyKey}

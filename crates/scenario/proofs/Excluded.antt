@@ -1,29 +1,20 @@
 -- A text of the grammar has no line that is refused.
-use Rattle.std.proofs.Common.{◌≡◌, ◌≢◌, ℕ, ℤ, suc, ◌+◌, ◌-◌, ◌<◌, ◌≤◌, Bool, true, false, not, ◌&&◌, ◌||◌, cond, eqb, ltb, leb, ◌⊎◌, inl, inr, ⊎_elim, List, [], ◌∷◌, ◌++◌, map, length, Option, Some, None, Result, Ok, Err, is_some, refl, sym, ap, ◌∙◌, subst, arith, append-nil, append_assoc, length-append}
-use Rattle.std.specs.List.{filter_map, cons_option, list_any}
-use Rattle.std.specs.Result.{result_ok}
-use Rattle.std.specs.Str.{is_utf8, bytes_eq}
-use Rattle.std.proofs.lemmas.Bool.{false≢true}
+use Rattle.std.proofs.Common.{◌≡◌, ℕ, suc, ◌<◌, Bool, true, false, cond, leb, ◌⊎◌, inl, inr, List, [], ◌∷◌, ◌++◌, length, Option, Some, None, refl, sym, ap, ◌∙◌, subst, arith, append-nil, append_assoc}
+use Rattle.std.specs.List.{filter_map, cons_option}
 use Rattle.std.proofs.lemmas.Bool.Decides.{nat_tests}
-use Rattle.std.proofs.lemmas.List.Elements.{filter-append, filter_map-append}
-use Rattle.text_lines.specs.Texts.{words, is_skipped}
-use Rattle.text_lines.specs.Reasons.{◌>>=◌}
-use Rattle.text_lines.proofs.Results.{bind_ok}
+use Rattle.std.proofs.lemmas.List.Elements.{filter_map-append}
 use Rattle.text_lines.specs.declared.reasons.TextWhy.{TextWhy}
 use Rattle.text_lines.specs.declared.reasons.TextWhy.TheVariants as why
-use Rattle.slave_desc.specs.Items.{key_of, item_of}
-use Rattle.slave_desc.specs.Judging.{name_in, came, came_before, begins, why_key, why_item, why_end, or_else, refused_if, item_in, items_in}
+use Rattle.slave_desc.specs.Judging.{name_in, came, came_before, begins, why_key, why_item, why_end, refused_if, item_in, items_in}
 use Rattle.slave_desc.specs.Reads.{Describes}
 use Rattle.slave_desc.proofs.Held.{key_in}
-use Rattle.slave_desc.proofs.Judged.{item_key}
 use Rattle.slave_desc.proofs.Apart.{not_key, not_item, end_none}
-use Rattle.slave_desc.specs.declared.keys.Key.{Key}
 use Rattle.slave_desc.specs.declared.keys.Key.TheVariants as keys
 use Rattle.slave_desc.specs.declared.items.Item.{Item}
 use Rattle.slave_desc.specs.declared.items.Item.TheVariants as items
 use Rattle.slave_desc.specs.declared.descriptions.SlaveDesc.{SlaveDesc}
-use Rattle.scenario.specs.Judging.{begins_block, opens, onto, group, last_of, front_of, slaves_of}
-use Rattle.scenario.specs.Scenarios.{why_among, why_name}
+use Rattle.scenario.specs.Judging.{begins_block, group, last_of, front_of, slaves_of}
+use Rattle.scenario.specs.Scenarios.{why_among}
 use Rattle.scenario.specs.Grammar.{AreSlaves, IsNew}
 use Rattle.scenario.proofs.Groups.{at_last, group_new, group_more, at_last_is}
 use Rattle.scenario.specs.declared.heads.HeadItem.{HeadItem}

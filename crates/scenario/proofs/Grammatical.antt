@@ -1,15 +1,12 @@
 -- What the reader takes is of the grammar.
-use Rattle.std.proofs.Common.{◌≡◌, ◌≢◌, ℕ, ℤ, suc, ◌+◌, ◌-◌, ◌<◌, ◌≤◌, Bool, true, false, not, ◌&&◌, ◌||◌, cond, eqb, ltb, leb, ◌⊎◌, inl, inr, ⊎_elim, List, [], ◌∷◌, ◌++◌, length, Option, Some, None, Result, Ok, Err, is_some, refl, sym, ap, ◌∙◌, subst, arith, append-nil, append_assoc, length-append}
+use Rattle.std.proofs.Common.{◌≡◌, ℕ, ◌+◌, ◌<◌, ◌≤◌, Bool, true, false, ◌&&◌, ◌||◌, cond, eqb, ltb, ◌⊎◌, inl, inr, ⊎_elim, List, [], ◌∷◌, ◌++◌, length, Option, Some, None, Result, Ok, Err, is_some, refl, sym, ap, ◌∙◌, subst, arith, append-nil, append_assoc, length-append}
 use Rattle.std.specs.Result.{result_ok}
-use Rattle.std.specs.Str.{is_utf8}
-use Rattle.std.specs.Str.Lines.{lines}
-use Rattle.std.proofs.lemmas.Bool.{false≢true}
 use Rattle.std.proofs.lemmas.Bool.Decides.{nat_tests}
 use Rattle.text_lines.specs.Texts.{words, is_skipped}
 use Rattle.text_lines.specs.declared.reasons.TextWhy.{TextWhy}
 use Rattle.text_lines.specs.declared.reasons.TextWhy.TheVariants as why
 use Rattle.slave_desc.specs.Items.{item_of}
-use Rattle.slave_desc.specs.Judging.{name_in, came, came_before, why_key, why_item, or_else, refused_if}
+use Rattle.slave_desc.specs.Judging.{came, why_item, or_else, refused_if}
 use Rattle.slave_desc.proofs.Held.{not_refused, not_not}
 use Rattle.slave_desc.specs.declared.keys.Key.{Key}
 use Rattle.slave_desc.specs.declared.items.Item.{Item}
@@ -18,11 +15,11 @@ use Rattle.scenario.specs.Keys.{section_of, closes_block}
 use Rattle.scenario.specs.Heads.{head_item, is_said}
 use Rattle.scenario.specs.Links.{link_of}
 use Rattle.scenario.specs.Checks.{why_link}
-use Rattle.scenario.specs.Scenarios.{runs_said, why_head, why_slaves, why_among, is_chaos, scenario_of}
-use Rattle.scenario.specs.Judging.{key_of_words, key_at, args_of, is_of, lines_in, section_now, head_said, group, blocks, slaves_of, slaves_said, links_said, when, why_block, why_closes, block_for, slaves_for, bad, why_item_read, why_link_read, why_acts, why_line, why_at, why_end_of}
+use Rattle.scenario.specs.Scenarios.{runs_said, why_head, why_among, is_chaos, scenario_of}
+use Rattle.scenario.specs.Judging.{key_of_words, key_at, args_of, lines_in, section_now, head_said, group, blocks, slaves_of, slaves_said, links_said, when, why_closes, block_for, slaves_for, bad, why_item_read, why_link_read, why_acts, why_line, why_at, why_end_of}
 use Rattle.scenario.specs.Grammar.{reads_by, is_read, IsOrdered, Fits, IsNew, AreSlaves, AreOf}
 use Rattle.scenario.proofs.Orders.{earlier_lines, earlier_head, same_now}
-use Rattle.scenario.proofs.Passing.{Passed, PassedKey, passed, new_item, fits_if}
+use Rattle.scenario.proofs.Passing.{PassedKey, passed, new_item, fits_if}
 use Rattle.scenario.proofs.Moves.{chaos_key, and_one, lines_push, head_push}
 use Rattle.std.proofs.str.Laws.{order}
 use Rattle.scenario.specs.Sound.{IsScenario}
@@ -30,7 +27,6 @@ use Rattle.scenario.specs.Reads.{scenario_said}
 use Rattle.scenario.proofs.Groups.{all_said}
 use Rattle.scenario.proofs.Judged.{at_next, at_end}
 use Rattle.scenario.specs.declared.keys.HeadKey.{HeadKey}
-use Rattle.scenario.specs.declared.keys.HeadKey.TheVariants as heads
 use Rattle.scenario.specs.declared.keys.LinkKey.{LinkKey}
 use Rattle.scenario.specs.declared.keys.AnyKey.{AnyKey}
 use Rattle.scenario.specs.declared.keys.AnyKey.TheVariants as any

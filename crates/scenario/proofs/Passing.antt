@@ -1,6 +1,6 @@
 -- What a line that passes shows.
-use Rattle.std.proofs.Common.{◌≡◌, ◌≢◌, ℕ, ℤ, suc, ◌+◌, ◌-◌, ◌<◌, ◌≤◌, Bool, true, false, not, ◌&&◌, ◌||◌, cond, eqb, ltb, leb, ◌⊎◌, inl, inr, ⊎_elim, List, [], ◌∷◌, ◌++◌, length, Option, Some, None, Result, Ok, Err, is_some, refl, sym, ap, ◌∙◌, subst, arith, append-nil, append_assoc, length-append}
-use Rattle.std.specs.List.{filter_map, list_any}
+use Rattle.std.proofs.Common.{◌≡◌, ℕ, suc, ◌<◌, ◌≤◌, Bool, true, false, not, ◌&&◌, cond, eqb, ltb, leb, ◌⊎◌, inl, inr, List, [], ◌∷◌, length, Option, Some, None, Result, Ok, Err, is_some, refl, sym, ap, ◌∙◌, subst, arith}
+use Rattle.std.specs.List.{list_any}
 use Rattle.std.specs.Result.{result_ok}
 use Rattle.std.specs.Str.{is_utf8, bytes_eq}
 use Rattle.std.proofs.lemmas.Bool.{false≢true}
@@ -8,27 +8,18 @@ use Rattle.std.proofs.lemmas.Bool.Decides.{nat_tests}
 use Rattle.text_lines.specs.Texts.{words, is_skipped}
 use Rattle.text_lines.specs.declared.reasons.TextWhy.{TextWhy}
 use Rattle.text_lines.specs.declared.reasons.TextWhy.TheVariants as why
-use Rattle.slave_desc.specs.Items.{item_of}
-use Rattle.slave_desc.specs.Judging.{name_in, came, came_before, why_key, why_item, or_else, refused_if}
+use Rattle.slave_desc.specs.Judging.{or_else, refused_if}
 use Rattle.slave_desc.proofs.Held.{not_refused, not_not}
-use Rattle.slave_desc.specs.declared.keys.Key.{Key}
-use Rattle.slave_desc.specs.declared.keys.Key.TheVariants as keys
 use Rattle.slave_desc.specs.declared.items.Item.{Item}
 use Rattle.slave_desc.specs.declared.items.Item.TheVariants as items
 use Rattle.slave_desc.specs.declared.descriptions.SlaveDesc.{SlaveDesc}
 use Rattle.scenario.specs.Keys.{any_key, section_of, closes_block}
-use Rattle.scenario.specs.Heads.{head_item, is_said, master_in, first_said}
-use Rattle.scenario.specs.Links.{outputs_at, inputs_at, link_of, chaos_of}
-use Rattle.scenario.specs.Checks.{type_at, same_input, changed_by, takes_at, parameters_now, why_wire, why_change, why_setting, why_rerun, why_every, why_net, why_link, setting_in, chaos_in}
-use Rattle.scenario.specs.Scenarios.{runs_said, same_address, is_master, why_name, why_address, why_head, why_among, is_chaos}
-use Rattle.scenario.specs.Judging.{key_of_words, key_at, args_of, section_now, head_said, blocks, slaves_said, links_said, when, why_closes, why_order, block_for, slaves_for, bad, why_item_read, why_link_read, why_acts, why_keyed, why_words, why_line, why_at}
-use Rattle.scenario.specs.Grammar.{reads_by, is_read, IsOrdered, Fits, IsNew}
-use Rattle.scenario.proofs.Orders.{earlier_lines, earlier_head}
-use Rattle.scenario.proofs.Judged.{at_next}
-use Rattle.scenario.specs.declared.keys.HeadKey.{HeadKey}
-use Rattle.scenario.specs.declared.keys.LinkKey.{LinkKey}
+use Rattle.scenario.specs.Links.{outputs_at, inputs_at}
+use Rattle.scenario.specs.Checks.{type_at, same_input, changed_by, takes_at, parameters_now, why_change, why_link, setting_in, chaos_in}
+use Rattle.scenario.specs.Scenarios.{why_among}
+use Rattle.scenario.specs.Judging.{key_of_words, key_at, args_of, section_now, why_closes, why_order, bad, why_item_read, why_link_read, why_acts, why_keyed, why_words, why_line}
+use Rattle.scenario.specs.Grammar.{Fits, IsNew}
 use Rattle.scenario.specs.declared.keys.AnyKey.{AnyKey}
-use Rattle.scenario.specs.declared.keys.AnyKey.TheVariants as any
 use Rattle.scenario.specs.declared.heads.HeadItem.{HeadItem}
 use Rattle.scenario.specs.declared.link_words.Link.{Link}
 use Rattle.scenario.specs.declared.link_words.Link.TheVariants as link

@@ -1,12 +1,9 @@
 -- The grammar of scenarios, said of the whole text.
-use Rattle.std.specs.Prelude.{◌≡◌, ◌≢◌, ℕ, ◌≤◌, ◌<◌, Bool, true, false, ◌&&◌, ◌||◌, ◌==◌, nat_lt, List, [], ◌∷◌, ◌++◌, map, length, is_some, Option, Some, None, Ok}
-use Rattle.std.specs.List.{filter_map, list_any}
-use Rattle.std.specs.Option.{option_map}
+use Rattle.std.specs.Prelude.{◌≡◌, ℕ, ◌≤◌, ◌<◌, Bool, true, false, ◌&&◌, ◌||◌, ◌==◌, nat_lt, List, [], ◌∷◌, ◌++◌, length, is_some, Option, Some, None, Ok}
+use Rattle.std.specs.List.{list_any}
 use Rattle.std.specs.Result.{result_ok}
 use Rattle.std.specs.Str.{is_utf8, bytes_eq}
-use Rattle.std.specs.Str.Lines.{lines}
 use Rattle.text_lines.specs.Texts.{words, is_skipped}
-use Rattle.dcp_types.specs.declared.addresses.Address.{Address}
 use Rattle.slave_desc.specs.Items.{item_of}
 use Rattle.slave_desc.specs.Judging.{items_in}
 use Rattle.slave_desc.specs.Reads.{Describes}

@@ -10,7 +10,6 @@ use Rattle.scenario.specs.declared.scenarios.Scenario.{Scenario}
 use Rattle.scenario.proofs.Kept.{text_gives}
 use Rattle.scenario.proofs.Judged.{answered_fault}
 use Rattle.scenario.proofs.Answered.{answered_ok, answered_only}
-use Rattle.scenario.proofs.Grammatical.{ordered}
 use Rattle.scenario.proofs.texts.read_scenario.Goals as goal
 
 in_range : (text : List ℕ) (r : Result Scenario TextRefused) → GivesText r (run_of take_line finished 1 start (lines text)) → IfOk r (λ s. IsScenario s)

@@ -1,4 +1,4 @@
-use Rattle.std.proofs.Common.{◌≡◌, Option, List, ap, ◌∙◌, subst, rules}
+use Rattle.std.proofs.Common.{◌≡◌, Option, ap, ◌∙◌, subst, rules}
 use Rattle.std.specs.Option.{option_map}
 use Rattle.slave_desc.specs.Machine.{longer}
 use Rattle.scenario.specs.Checks.{setting_in}

@@ -1,10 +1,8 @@
 -- What `retain` keeps is of other parameters, so the setting at the end comes in the place of an earlier one.
-use Rattle.std.proofs.Common.{◌≡◌, ◌++◌, ◌∷◌, [], List, not, false, filter, ap, sym, subst, ◌∙◌, rules}
-use Rattle.std.specs.Prelude.{AllPairs}
+use Rattle.std.proofs.Common.{◌≡◌, not, false, rules}
 use Rattle.std.proofs.lemmas.Fn.{filter_same}
 use Rattle.std.proofs.lemmas.List.Kept.{AllPairs-filter}
-use Rattle.scenario.specs.Checks.{changed}
-use Rattle.scenario.specs.LastSettings.{same_parameter, SameSettings}
+use Rattle.scenario.specs.LastSettings.{same_parameter}
 use Rattle.scenario.specs.declared.scenarios.Setting.{Setting}
 use Rattle.scenario.proofs.LastSettings.{put_same, put_apart}
 use Rattle.scenario.proofs.latest.Latest.put.Goals as goal
