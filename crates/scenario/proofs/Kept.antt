@@ -41,6 +41,7 @@ use Rattle.scenario.proofs.Results.{given_same, moved, all_push}
 use Rattle.scenario.proofs.HeadRanges.{FitsItem, first_fits, head_item_fits, master_fits}
 use Rattle.scenario.proofs.LinkRanges.{link_there}
 use Rattle.scenario.proofs.Apart.{AreNew, none_new, slave_new, item_new, others_differ}
+use Rattle.scenario.proofs.FewWires.{few_wires}
 use Rattle.scenario.proofs.LinkSets.{AreSound, links_more, none_sound}
 use Rattle.scenario.specs.declared.keys.HeadKey.{HeadKey}
 use Rattle.scenario.specs.declared.keys.HeadKey.TheVariants as heads
@@ -358,6 +359,7 @@ end_gives r s h e =
       small = ready.1;
       wires = k.links.wires;
       one_wire = k.links.one_wire;
+      few_wires = few_wires c.0.slaves c.0.links.wires k.slaves k.few k.links.wires k.links.one_wire;
       settings = k.links.settings;
       reruns = k.links.reruns;
       in_order = k.links.in_order;

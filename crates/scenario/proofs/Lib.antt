@@ -5,6 +5,7 @@ pub mod LinkRanges
 pub mod LinkSets
 pub mod LastSettings
 pub mod Apart
+pub mod FewWires
 pub mod Kept
 pub mod Groups
 pub mod Stands

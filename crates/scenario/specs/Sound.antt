@@ -116,6 +116,7 @@ pub record IsScenario (s : Scenario) : Type 0 where
   pub small : is_too_much s.slaves s.steps s.runs ≡ false
   pub wires : All (λ w. IsWire s.slaves w) s.wires
   pub one_wire : AllPairs (λ v w. same_input v w ≡ false) s.wires
+  pub few_wires : length s.wires ≤ 128
   pub settings : All (λ x. IsSetting s.slaves x) s.settings
   pub reruns : All (λ r. IsRerun s.slaves s.runs r) s.reruns
   pub in_order : AllPairs (λ q r. q.run ≤ r.run) s.reruns

@@ -346,7 +346,8 @@ impl Collected {
         }
     }
 
-    /// The links with what one more line says.
+    /// The links with what one more line says. It takes `self`, since what is kept beside the links
+    /// no longer fits them where memory runs out in between.
     pub fn with(self, link: Link) -> Result<Collected, OutOfMemory>
         ensures { IfOk result (λ c. c ≡ put_link self link) }
     {
