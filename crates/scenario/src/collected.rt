@@ -3,7 +3,7 @@
 ghost use Rattle.std.specs.Prelude.{◌≡◌, ◌==◌, ◌&&◌, List, [], OnOk, IfOk};
 ghost use Rattle.std.specs.List.{list_any};
 ghost use Rattle.slave_desc.specs.Machine.{longer};
-ghost use Rattle.scenario.specs.Checks.{type_at, same_input, why_wire, changed_by, changed, setting_in, takes_at, why_change, why_setting, why_rerun, why_every, why_net, why_link, set_in, rerun_in};
+ghost use Rattle.scenario.specs.Checks.{type_at, same_input, why_wire, changed, takes_at, why_change, why_setting, why_rerun, why_every, why_net, why_link, set_in, rerun_in};
 ghost use Rattle.scenario.specs.LastSettings.{SameSettings, IsLastRun};
 ghost use Rattle.scenario.specs.declared.scenarios.Rerun.{Rerun};
 
@@ -114,30 +114,12 @@ fn check_wire(slaves: &[SlaveDesc], wires: &[Wire], wire: Wire) -> Option<TextWh
     }
 }
 
-fn set_one(parameters: &mut [i64], slave: u8, setting: Setting)
-    ensures { parameters.new ≡ changed_by parameters.old slave setting }
-{
-    if setting.slave == slave && (setting.index as usize) < parameters.len() {
-        parameters[setting.index as usize] = setting.value;
-    }
-}
-
 /// Sets the parameters of one slave, in order.
 fn set_all(parameters: &mut [i64], slave: u8, settings: &[Setting])
     ensures { parameters.new ≡ changed parameters.old slave settings.now }
 {
     for setting in settings {
-        set_one(parameters, slave, *setting);
-    }
-}
-
-fn setting_in(rerun: Rerun) -> Setting
-    ensures { result ≡ setting_in rerun }
-{
-    Setting {
-        slave: rerun.slave,
-        index: rerun.index,
-        value: rerun.value,
+        setting.change(slave, parameters);
     }
 }
 
@@ -291,7 +273,7 @@ impl Collected {
         let mut parameters = Vec::from_slice(alloc, parameters_at(slaves, slave))?;
         set_all(&mut parameters, slave, self.first.as_slice());
         set_all(&mut parameters, slave, self.later.as_slice());
-        set_one(&mut parameters, slave, setting);
+        setting.change(slave, &mut parameters);
         if takes_at(slaves, slave, parameters.as_slice()) {
             Ok(None)
         } else {
@@ -324,7 +306,7 @@ impl Collected {
         if rerun.run < self.last_run {
             return Ok(Some(TextWhy::Order));
         }
-        self.check_change(alloc, slaves, setting_in(rerun))
+        self.check_change(alloc, slaves, rerun.setting())
     }
 
     /// What is wrong with the whole line that says this, after the lines of the links before it.
@@ -359,7 +341,7 @@ impl Collected {
         } = self;
         put_if(&mut first, set_said(link))?;
         let rerun = rerun_said(link);
-        put_if(&mut later, rerun.map(setting_in))?;
+        put_if(&mut later, rerun.map(Rerun::setting))?;
         let last_run = last_run_with(last_run, rerun);
         links.put(link)?;
         Ok(Collected {

@@ -1,5 +1,8 @@
 //! A scenario: slaves, the wires between them, and how they are run.
 
+ghost use Rattle.std.specs.Prelude.{◌≡◌};
+ghost use Rattle.scenario.specs.Checks.{changed_by, setting_in};
+
 use crate::lists::{Intervals, Reruns, Settings, Slaves, Wires};
 use dcp_io::NetPlan;
 use dcp_types::{Address, Limits, Protocol};
@@ -25,6 +28,18 @@ pub struct Setting {
     pub value: i64,
 }
 
+impl Setting {
+    /// Changes the parameter among those of a slave, where it is this slave's and is there.
+    pub fn change(self, slave: u8, parameters: &mut [i64])
+        ensures { parameters.new ≡ changed_by parameters.old slave self }
+    {
+        let index = usize::from(self.index);
+        if self.slave == slave && index < parameters.len() {
+            parameters[index] = self.value;
+        }
+    }
+}
+
 /// The data that goes from one slave to another is sent at each `q`-th step, 1 to 1,000. A pair of
 /// slaves with wires and without such an interval has the interval 1.
 #[derive(Clone, Copy, Debug, PartialEq, Eq)]
@@ -41,6 +56,19 @@ pub struct Rerun {
     pub slave: u8,
     pub index: u8,
     pub value: i64,
+}
+
+impl Rerun {
+    /// What it sets.
+    pub fn setting(self) -> Setting
+        ensures { result ≡ setting_in self }
+    {
+        Setting {
+            slave: self.slave,
+            index: self.index,
+            value: self.value,
+        }
+    }
 }
 
 /// A scenario. `read_scenario` gives those that a text can have, and their condition is `IsScenario`.

@@ -7,4 +7,4 @@ returns-then-rerun-self c = rerun_early c.args.slaves.now c.self.inside.links c.
 pub returns : goal.returns
 returns c =
     rerun_late c.args.slaves.now c.self.inside.links c.args.self.now c.self.view_is c.self.inside.last_run c.self.invariant.last c.args.rerun c.if-rerun-self.false
-    c.setting_in.result c.setting_in.ensures c.check_change.result c.check_change.ensures
+    c.setting.result c.setting.ensures c.check_change.result c.check_change.ensures
