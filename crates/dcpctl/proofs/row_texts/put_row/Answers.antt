@@ -1,4 +1,4 @@
-use Rattle.std.proofs.Common.{◌++◌, List, ℕ, subst}
+use Rattle.std.proofs.Common.{List, ℕ, subst}
 use Rattle.std.specs.Prelude.{decimal}
 use Rattle.dcpctl.proofs.Rows.{value_more}
 use Rattle.dcpctl.specs.Spools.{Spooled}

@@ -1,5 +1,5 @@
 -- The number and the values so far were put.
-use Rattle.std.proofs.Common.{◌≡◌, ◌++◌, List, ℕ, take}
+use Rattle.std.proofs.Common.{◌++◌, List, ℕ, take}
 use Rattle.std.specs.List.{flat_map}
 use Rattle.std.specs.Prelude.{decimal}
 use Rattle.dcpctl.specs.Rows.{spaced}

@@ -1,4 +1,4 @@
-use Rattle.std.proofs.Common.{◌++◌, List, ℕ, subst}
+use Rattle.std.proofs.Common.{List, ℕ, subst}
 use Rattle.dcpctl.proofs.Rows.{row_more}
 use Rattle.dcpctl.specs.Spools.{Spooled}
 use Rattle.dcpctl.proofs.row_texts.put_rows.Goals as goal

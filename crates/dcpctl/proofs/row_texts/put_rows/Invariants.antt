@@ -1,5 +1,5 @@
 -- The rows so far were put.
-use Rattle.std.proofs.Common.{◌≡◌, ◌++◌, List, ℕ, take}
+use Rattle.std.proofs.Common.{◌++◌, List, ℕ, take}
 use Rattle.dcpctl.specs.Rows.{row_lines}
 use Rattle.dcpctl.specs.Spools.{Counts, Spooled}
 use Rattle.dcpctl.proofs.row_texts.put_rows.Given as goal
