@@ -43,7 +43,8 @@ fn read(alloc: Global, text: &[u8]) -> Result<Scenario, TextRefused>
 pub fn read_scenario(alloc: Global, text: &[u8]) -> Result<Scenario, TextRefused>
     ensures ok { IfOk result (λ s. Reads text.now s) }
 
-    // What was read is in range: each slave, port, setting and interval that it names is there.
+    // What was read is in range: each slave, port, setting and interval that it names is there, and
+    // no two of its names, addresses, wires into an input or intervals of a pair clash.
     ensures range { IfOk result (λ s. IsScenario s) }
 
     // What reads is read, unless memory runs out.
