@@ -1,9 +1,9 @@
 -- Numbers and their bytes.
-use Rattle.std.proofs.Common.{◌≡◌, ℕ, zero, suc, ◌+◌, ◌-◌, ◌*◌, ◌/◌, ◌%◌, ◌^◌, ◌<◌, ◌≤◌, List, [], ◌∷◌, ◌++◌, length, get_or, take, drop, reverse, refl, sym, ap, subst, ◌∙◌, arith}
-use Rattle.std.proofs.lemmas.List.{length-reverse, reverse-reverse, get_or-drop, get_or-take, get_or_past, get_or-reverse, length-take, length-drop, take_more, reverse-append}
+use Rattle.std.proofs.Common.{◌≡◌, ℕ, zero, suc, ◌+◌, ◌-◌, ◌*◌, ◌/◌, ◌%◌, ◌^◌, ◌<◌, List, [], ◌∷◌, ◌++◌, length, get_or, take, drop, reverse, refl, ap, ◌∙◌, arith}
+use Rattle.std.proofs.lemmas.List.{length-reverse, get_or-drop, get_or-take, get_or_past, get_or-reverse, length-take, reverse-append}
 use Rattle.std.proofs.lemmas.Bool.{cases_lt}
 use Rattle.std.proofs.Common.{inl, inr}
-use Rattle.std.proofs.Math.Nat.{pow-suc, pow-le-pow_right}
+use Rattle.std.proofs.Math.Nat.{pow-suc}
 use Rattle.dcp_types.specs.Values.{digits}
 use Rattle.byteorder.specs.Endian.{little_from, big_from}
 use Rattle.byteorder.specs.Numbers.{little_from-cons, big_from-cons}

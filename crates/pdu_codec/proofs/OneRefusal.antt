@@ -1,6 +1,6 @@
 -- Bytes that are no message have one refusal.
-use Rattle.std.proofs.Common.{◌≡◌, ◌≢◌, ℕ, suc, ◌+◌, ◌-◌, ◌<◌, ◌≤◌, inl, inr, true, cond, ltb, List, [], ◌∷◌, ◌++◌, length, get_or, take, drop, refl, sym, ap, subst, ◌∙◌, arith, Option, Some, None}
-use Rattle.std.proofs.lemmas.List.{length-append, length-take, length-drop, take-append-drop, take_all, append_assoc, append-nil, nil_from_length}
+use Rattle.std.proofs.Common.{◌≡◌, ℕ, ◌+◌, ◌-◌, ◌<◌, ◌≤◌, inl, inr, true, ltb, List, [], ◌∷◌, ◌++◌, length, get_or, take, drop, refl, sym, ap, subst, ◌∙◌, arith, Option, Some, None}
+use Rattle.std.proofs.lemmas.List.{length-append, length-take, length-drop, take-append-drop, take_all, append_assoc, nil_from_length}
 use Rattle.std.proofs.lemmas.Bool.{cases_lt, lt-ltb, le-ltb, and_parts}
 use Rattle.pdu_layout.specs.declared.fields.FieldKind.{FieldKind}
 use Rattle.pdu_layout.specs.declared.fields.FieldKind.TheVariants.{StateCode, TypeCode, Rest}
@@ -9,8 +9,7 @@ use Rattle.pdu_layout.specs.Table.{kinds_for}
 use Rattle.pdu_layout.specs.Message.{Message, Spells}
 use Rattle.pdu_codec.specs.declared.faults.DecodeWhy.{DecodeWhy}
 use Rattle.pdu_codec.specs.declared.faults.DecodeWhy.TheVariants.{Empty, UnknownType, Short, Long, BadState, BadType, TooLong}
-use Rattle.pdu_codec.specs.Pieces.{IsSized}
-use Rattle.pdu_codec.specs.Refusals.{IsSpelling, NextIsIn, Cause, Refusal}
+use Rattle.pdu_codec.specs.Refusals.{IsSpelling, NextIsIn, Refusal}
 use Rattle.pdu_codec.proofs.Values.{length-bytes_of}
 use Rattle.pdu_codec.proofs.Suffix.{same_cut}
 use Rattle.pdu_codec.proofs.Walk.{rest_is_last, row_passes, sized_or_rest}

@@ -1,23 +1,22 @@
 -- No two messages have the same bytes.
-use Rattle.std.proofs.Common.{◌≡◌, ℕ, suc, ◌<◌, ◌≤◌, ◌^◌, ◌⊎◌, inl, inr, List, [], ◌∷◌, ◌++◌, length, get_or, drop, reverse, refl, sym, ap, subst, ◌∙◌, arith, Option, Some}
-use Rattle.std.specs.Prelude.{ℤ, IsTrue}
+use Rattle.std.proofs.Common.{◌≡◌, ℕ, inl, inr, List, [], ◌∷◌, length, get_or, drop, reverse, refl, sym, ap, subst, ◌∙◌, arith, Option, Some}
+use Rattle.std.specs.Prelude.{ℤ}
 use Rattle.std.proofs.lemmas.List.{reverse-reverse, append-nil}
-use Rattle.dcp_types.specs.Values as values
 use Rattle.dcp_types.specs.Values.{digits}
 use Rattle.dcp_types.specs.declared.data_types.DataType.TheVariants as types
 use Rattle.dcp_types.proofs.Digits.{same_number}
 use Rattle.dcp_types.proofs.Residues.{one_value}
 use Rattle.pdu_layout.specs.declared.fields.FieldKind.{FieldKind}
 use Rattle.pdu_layout.specs.declared.fields.FieldKind.TheVariants.{U8, U16, U32, U64, I64, StateCode, TypeCode, Value, Uuid, Ip, Rest}
-use Rattle.pdu_layout.specs.Fields.{type_from, width, Fits, bytes_of, type_after, spelled, FitEach, FieldValue}
+use Rattle.pdu_layout.specs.Fields.{type_from, Fits, bytes_of, type_after, spelled, FitEach, FieldValue}
 use Rattle.pdu_layout.specs.Fields.FieldValue.{Number, Signed, Bytes}
 use Rattle.pdu_layout.specs.Table.{kinds_for}
 use Rattle.pdu_layout.specs.Message.{Message, Spells}
 use Rattle.pdu_codec.specs.Pieces.{IsSized}
 use Rattle.pdu_codec.proofs.Values.{length-bytes_of}
 use Rattle.pdu_codec.proofs.Suffix.{same_cut}
-use Rattle.pdu_codec.proofs.Walk.{rest_is_last, is_row, row_passes, sized_or_rest}
-use Rattle.std.proofs.Common.{Bool, true}
+use Rattle.pdu_codec.proofs.Walk.{rest_is_last, row_passes, sized_or_rest}
+use Rattle.std.proofs.Common.{true}
 use Rattle.std.proofs.lemmas.Bool.{and_parts}
 use Rattle.std.proofs.Common.{ltb}
 

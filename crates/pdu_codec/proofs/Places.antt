@@ -1,9 +1,9 @@
 -- What stands at each place of a cut.
-use Rattle.std.proofs.Common.{◌≡◌, ℕ, zero, suc, ◌-◌, ◌<◌, ◌≤◌, List, [], ◌∷◌, length, refl, sym, subst, arith, Option, Some, None}
+use Rattle.std.proofs.Common.{◌≡◌, ℕ, zero, suc, ◌-◌, ◌<◌, ◌≤◌, List, [], ◌∷◌, length, sym, subst, arith, Some}
 use Rattle.std.specs.Prelude.{slice_get, slice_index, slice_range}
 use Rattle.std.proofs.lemmas.List.{length-map}
 use Rattle.pdu_layout.specs.declared.fields.FieldKind.{FieldKind}
-use Rattle.pdu_layout.specs.declared.fields.FieldKind.TheVariants.{U8, U16, U32, U64, I64, StateCode, TypeCode, Value, Uuid, Ip, Rest}
+use Rattle.pdu_layout.specs.declared.fields.FieldKind.TheVariants.{TypeCode, Value}
 use Rattle.pdu_layout.specs.declared.fields.Field.{Field}
 use Rattle.pdu_layout.specs.Table.{kinds_of}
 use Rattle.dcp_types.specs.Values as values

@@ -1,10 +1,9 @@
 -- What the rest of the bytes says of the rest of a row's fields: each fault is that of the longest front.
-use Rattle.std.proofs.Common.{◌≡◌, ◌≢◌, ℕ, zero, suc, ◌+◌, ◌-◌, ◌*◌, ◌/◌, ◌%◌, ◌^◌, ◌<◌, ◌≤◌, Bool, true, false, cond, ltb, List, [], ◌∷◌, ◌++◌, length, get_or, take, drop, replicate, refl, sym, ap, subst, ◌∙◌, arith, inl, inr, Option, Some, None, append_assoc}
-use Rattle.std.specs.Prelude.{ℤ, pos, negsuc, slice_index}
-use Rattle.std.proofs.lemmas.List.{length-append, length-take, length-drop, length-replicate, take-append-drop, take_all, take_at, drop_at, append-nil, append_cancel_left, nil_from_length, get_or-append-add, get_or_append_left, get_or-replicate, get_or_past}
-use Rattle.std.proofs.lemmas.Bool.{cases_lt, ltb-false, le-ltb, lt-ltb}
+use Rattle.std.proofs.Common.{◌≡◌, ℕ, zero, suc, ◌+◌, ◌-◌, ◌*◌, ◌%◌, ◌<◌, ◌≤◌, false, ltb, List, [], ◌∷◌, ◌++◌, length, get_or, take, drop, replicate, refl, sym, ap, subst, ◌∙◌, arith, inl, inr, Some, append_assoc}
+use Rattle.std.specs.Prelude.{ℤ, pos}
+use Rattle.std.proofs.lemmas.List.{length-append, length-take, length-replicate, take_all, append-nil, get_or-append-add, get_or_append_left, get_or-replicate, get_or_past}
+use Rattle.std.proofs.lemmas.Bool.{cases_lt, le-ltb}
 use Rattle.std.proofs.Math.Seq.{take-append-add}
-use Rattle.std.proofs.Math.Nat.{pow-le-pow_right, one-le-pow}
 use Rattle.std.proofs.lemmas.List.{length-reverse}
 use Rattle.pdu_layout.specs.declared.fields.FieldKind.{FieldKind}
 use Rattle.pdu_layout.specs.declared.fields.FieldKind.TheVariants.{U8, U16, U32, U64, I64, StateCode, TypeCode, Value, Uuid, Ip, Rest}
@@ -15,7 +14,6 @@ use Rattle.dcp_types.specs.Values as values
 use Rattle.pdu_layout.specs.Fields.{type_from, width, limit, Fits, bytes_of, type_after, spelled, FitEach, kind_at, FieldValue}
 use Rattle.pdu_layout.specs.Fields.FieldValue.{Number, Signed, Bytes}
 use Rattle.pdu_codec.specs.Pieces.{IsPiece, Holds, IsSized}
-use Rattle.pdu_codec.proofs.Digits.{number}
 use Rattle.pdu_codec.proofs.Digits.{IsBytes, IsBytes-take}
 use Rattle.dcp_types.proofs.Digits.{length-digits}
 use Rattle.pdu_codec.proofs.Values.{width-below, zero_fits, length-bytes_of, value_in, holds}

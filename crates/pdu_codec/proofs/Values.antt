@@ -1,13 +1,11 @@
 -- The bytes of a field are those of one value.
-use Rattle.std.proofs.Common.{◌≡◌, ℕ, zero, suc, ◌+◌, ◌-◌, ◌*◌, ◌/◌, ◌%◌, ◌^◌, ◌<◌, ◌≤◌, Bool, true, false, cond, ltb, List, [], ◌∷◌, ◌++◌, length, get_or, take, drop, reverse, refl, sym, ap, subst, ◌∙◌, arith, inl, inr, All}
-use Rattle.std.specs.Prelude.{ℤ, pos, negsuc, MatchBool}
+use Rattle.std.proofs.Common.{◌≡◌, ℕ, ◌^◌, ◌<◌, ◌≤◌, List, [], ◌∷◌, length, get_or, reverse, refl, ap, subst, ◌∙◌, arith}
+use Rattle.std.specs.Prelude.{ℤ, pos}
 use Rattle.std.proofs.lemmas.List.{length-reverse, reverse-reverse}
-use Rattle.std.proofs.Math.Nat.{pow-le-pow_right}
-use Rattle.std.proofs.lemmas.Bool.{cases_lt, ltb-false, le-ltb, lt-ltb}
 use Rattle.pdu_layout.specs.declared.fields.FieldKind.{FieldKind}
 use Rattle.pdu_layout.specs.declared.fields.FieldKind.TheVariants.{U8, U16, U32, U64, I64, StateCode, TypeCode, Value, Uuid, Ip, Rest}
 use Rattle.dcp_types.specs.Values.{digits, residue}
-use Rattle.pdu_layout.specs.Fields.{type_from, width, limit, Fits, bytes_of, type_after, FieldValue}
+use Rattle.pdu_layout.specs.Fields.{type_from, width, Fits, bytes_of, FieldValue}
 use Rattle.pdu_layout.specs.Fields.FieldValue.{Number, Signed, Bytes}
 use Rattle.std.specs.Prelude.{IsTrue}
 use Rattle.std.proofs.lemmas.Bool.Decides.{nat_tests}

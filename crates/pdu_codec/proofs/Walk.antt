@@ -1,11 +1,11 @@
 -- One field after the other: what the walk keeps.
-use Rattle.std.proofs.Common.{◌≡◌, ℕ, zero, suc, ◌+◌, ◌-◌, ◌*◌, ◌<◌, ◌≤◌, Bool, true, false, cond, ltb, eqb, ◌&&◌, List, [], ◌∷◌, ◌++◌, length, get_or, take, drop, set, refl, sym, ap, subst, ◌∙◌, arith, inl, inr, Option, Some, None}
+use Rattle.std.proofs.Common.{◌≡◌, ℕ, suc, ◌+◌, ◌-◌, ◌*◌, ◌<◌, ◌≤◌, Bool, true, false, cond, ltb, eqb, ◌&&◌, List, [], ◌∷◌, ◌++◌, length, get_or, take, drop, set, refl, sym, ap, subst, ◌∙◌, arith, inl, inr, Some}
 use Rattle.std.specs.Prelude.{◌⊎◌, slice_get, slice_range, slice_index, map}
 use Rattle.std.specs.List.{list_all}
 use Rattle.std.proofs.lemmas.Bool.{and_parts, ltb-true, cases_Bool}
-use Rattle.std.proofs.lemmas.List.{append-nil, append_assoc, drop_more, drop-map, length-map, take-append-drop, drop_all, drop-drop, length-take, length-drop, take_more_set, take_all, length-set}
+use Rattle.std.proofs.lemmas.List.{append-nil, append_assoc, drop_more, drop-map, take-append-drop, drop_all, drop-drop, length-take, length-drop, take_more_set, take_all}
 use Rattle.pdu_layout.specs.declared.fields.FieldKind.{FieldKind}
-use Rattle.pdu_layout.specs.declared.fields.FieldKind.TheVariants.{U8, U16, U32, U64, I64, StateCode, TypeCode, Value, Uuid, Ip, Rest}
+use Rattle.pdu_layout.specs.declared.fields.FieldKind.TheVariants.{U8, StateCode, TypeCode, Rest}
 use Rattle.pdu_codec.specs.declared.faults.DecodeWhy.{DecodeWhy}
 use Rattle.pdu_codec.specs.declared.faults.DecodeWhy.TheVariants.{Empty, UnknownType, Short, Long, BadState, BadType, TooLong}
 use Rattle.pdu_layout.specs.declared.fields.Field.{Field}

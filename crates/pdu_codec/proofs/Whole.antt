@@ -1,9 +1,9 @@
 -- What a row says of the bytes after the type code is what the table says of all.
-use Rattle.std.proofs.Common.{◌≡◌, ◌≢◌, ℕ, zero, suc, ◌+◌, ◌-◌, ◌*◌, ◌<◌, ◌≤◌, Bool, true, false, cond, eqb, List, [], ◌∷◌, ◌++◌, length, get_or, take, drop, refl, sym, ap, subst, ◌∙◌, arith, add-zero, add-one, Option, Some, None}
+use Rattle.std.proofs.Common.{◌≡◌, ℕ, zero, suc, ◌-◌, ◌<◌, ◌≤◌, List, [], ◌∷◌, ◌++◌, length, get_or, take, drop, refl, sym, ap, subst, ◌∙◌, arith, add-zero, add-one, Option, Some, None}
 use Rattle.std.specs.Prelude.{slice_get, slice_range, slice_index}
-use Rattle.std.proofs.lemmas.List.{take-append-drop, drop_all, append_assoc, append-nil, drop-drop, get_or-drop}
+use Rattle.std.proofs.lemmas.List.{take-append-drop, drop_all, drop-drop, get_or-drop}
 use Rattle.pdu_layout.specs.declared.fields.FieldKind.{FieldKind}
-use Rattle.pdu_layout.specs.declared.fields.FieldKind.TheVariants.{U8, U16, StateCode, TypeCode, Rest}
+use Rattle.pdu_layout.specs.declared.fields.FieldKind.TheVariants.{U8, U16, StateCode, TypeCode}
 use Rattle.pdu_codec.specs.declared.faults.DecodeWhy.{DecodeWhy}
 use Rattle.pdu_codec.specs.declared.faults.DecodeWhy.TheVariants.{Empty, UnknownType, Short, Long, BadState, BadType, TooLong}
 use Rattle.std.proofs.lemmas.Bool.{ne_eqb}

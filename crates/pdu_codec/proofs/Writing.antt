@@ -1,7 +1,7 @@
 -- Writing one field after the other: what has been written, and what is left to write.
-use Rattle.std.proofs.Common.{◌≡◌, ℕ, zero, suc, ◌+◌, ◌-◌, ◌/◌, ◌%◌, ◌^◌, ◌<◌, ◌≤◌, List, [], ◌∷◌, ◌++◌, length, take, drop, set, reverse, refl, sym, ap, subst, ◌∙◌, arith}
+use Rattle.std.proofs.Common.{◌≡◌, ℕ, zero, suc, ◌+◌, ◌/◌, ◌%◌, ◌^◌, ◌<◌, ◌≤◌, List, [], ◌∷◌, ◌++◌, length, take, drop, set, reverse, refl, sym, ap, subst, ◌∙◌, arith}
 use Rattle.std.specs.Int.{byte_at, bytes_high_first}
-use Rattle.std.proofs.Math.Nat.{pow-suc, mul_comm, div-div-eq-div-mul, div-one}
+use Rattle.std.proofs.Math.Nat.{pow-suc, mul_comm, div-div-eq-div-mul}
 use Rattle.std.proofs.lemmas.List.{append_assoc, append-nil, length-append, length-take, length-drop, take_at, drop_at, drop-drop, drop_all, reverse-append}
 use Rattle.dcp_types.specs.Values.{digits}
 use Rattle.pdu_layout.specs.declared.fields.FieldKind.{FieldKind}
@@ -14,7 +14,7 @@ use Rattle.pdu_layout.specs.Parts.{value_of, values_of, AreParts}
 use Rattle.pdu_layout.specs.Table.{kinds_of}
 use Rattle.pdu_layout.specs.Message.{Message, Spells}
 use Rattle.pdu_layout.proofs.Spellings.{kinds_listed}
-use Rattle.pdu_layout.specs.Fields.{width, limit, Fits, bytes_of, type_after, spelled, FitEach, FieldValue}
+use Rattle.pdu_layout.specs.Fields.{width, limit, Fits, bytes_of, type_after, spelled, FieldValue}
 use Rattle.pdu_layout.specs.Ranges.{Fill}
 use Rattle.pdu_layout.proofs.Contents.{length-number, length-signed, Judged, judged_start, judged_more, fit_here, size_here}
 

@@ -1,9 +1,9 @@
 -- The bytes of a message in pieces, one for each field.
-use Rattle.std.specs.Prelude.{◌≡◌, ◌≢◌, ℕ, Option, Some, None, zero, suc, ◌+◌, ◌-◌, ℤ, pos, negsuc, nat_lt, if◌then◌else◌, ◌*◌, ◌<◌, ◌≤◌, List, [], ◌∷◌, ◌++◌, length, slice_index, slice_range}
+use Rattle.std.specs.Prelude.{◌≡◌, ℕ, Option, Some, None, zero, suc, ◌+◌, ◌<◌, ◌≤◌, List, [], ◌∷◌, length, slice_index, slice_range}
 use Rattle.pdu_layout.specs.declared.fields.FieldKind.{FieldKind}
 use Rattle.pdu_layout.specs.declared.fields.FieldKind.TheVariants.{StateCode, TypeCode, Value, Rest}
 use Rattle.pdu_codec.specs.declared.faults.DecodeWhy.{DecodeWhy}
-use Rattle.pdu_codec.specs.declared.faults.DecodeWhy.TheVariants.{Empty, UnknownType, Short, Long, BadState, BadType, TooLong}
+use Rattle.pdu_codec.specs.declared.faults.DecodeWhy.TheVariants.{Short, BadState, BadType, TooLong}
 use Rattle.pdu_layout.specs.Fields.{FieldValue, width, Fits, bytes_of, type_after}
 
 -- these bytes are those of some value of the field

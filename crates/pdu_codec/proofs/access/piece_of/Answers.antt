@@ -1,7 +1,4 @@
-use Rattle.std.proofs.Common.{◌≡◌, arith, sym, ◌∙◌, subst}
-use Rattle.std.specs.Prelude.{slice_get, slice_range}
-use Rattle.pdu_layout.specs.Table.{kinds_of}
-use Rattle.pdu_codec.specs.Pieces.{IsPieceAnyhow}
+use Rattle.std.proofs.Common.{arith}
 use Rattle.pdu_codec.proofs.Places.{place_is}
 use Rattle.pdu_codec.proofs.access.piece_of.Goals as goal
 

@@ -1,5 +1,5 @@
-use Rattle.std.proofs.Common.{arith, length, drop, take, ◌-◌}
-use Rattle.std.proofs.lemmas.List.{length-drop, length-take, take_all}
+use Rattle.std.proofs.Common.{arith, length, drop, ◌-◌}
+use Rattle.std.proofs.lemmas.List.{length-drop, length-take}
 use Rattle.pdu_codec.proofs.encoding.put_field_at.Goals as goal
 
 pub put_field-requires-clause-room : goal.put_field-requires-clause-room

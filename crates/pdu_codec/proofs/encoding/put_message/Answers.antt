@@ -1,9 +1,8 @@
-use Rattle.std.proofs.Common.{◌≡◌, ℕ, ◌≤◌, ◌+◌, length, drop, arith, refl, sym, subst, ◌∙◌}
-use Rattle.std.proofs.lemmas.List.{length-drop}
+use Rattle.std.proofs.Common.{◌≡◌, ℕ, ◌≤◌, length, arith, refl}
 use Rattle.dcp_types.specs.Codes.{type_code}
 use Rattle.pdu_layout.specs.Table.{kinds_of}
 use Rattle.pdu_layout.proofs.Contents.{kinds_here, values_here}
-use Rattle.pdu_codec.proofs.Writing.{written_start, fits_now, room_now, written_more, written_all}
+use Rattle.pdu_codec.proofs.Writing.{written_start, fits_now, room_now, written_more}
 use Rattle.pdu_codec.proofs.encoding.put_message.Goals as goal
 
 less : {m n k : ℕ} → n ≡ k → m ≤ k → m ≤ n

@@ -1,4 +1,4 @@
-use Rattle.std.proofs.Common.{◌≡◌, length, take, map}
+use Rattle.std.proofs.Common.{length, take, map}
 use Rattle.dcp_types.specs.Codes.{type_code}
 use Rattle.pdu_layout.specs.Table.{kinds_of}
 use Rattle.pdu_layout.specs.Parts.{value_of}

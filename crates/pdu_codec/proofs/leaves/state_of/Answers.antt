@@ -2,10 +2,10 @@ use Rattle.std.proofs.Common.{◌≡◌, ℕ, arith, sym, ◌∙◌, subst}
 use Rattle.pdu_layout.specs.Fields.FieldValue.{Number}
 use Rattle.pdu_layout.specs.declared.fields.FieldKind.TheVariants as kinds
 use Rattle.pdu_codec.specs.Pieces.{Holds}
-use Rattle.pdu_codec.proofs.Digits.{number, number-little, number-big}
+use Rattle.pdu_codec.proofs.Digits.{number}
 use Rattle.pdu_codec.proofs.Values.{holds, number-one}
 use Rattle.std.proofs.lemmas.Option.{MatchOption-at_some}
-use Rattle.dcp_types.specs.Codes.{state_code, type_code}
+use Rattle.dcp_types.specs.Codes.{state_code}
 use Rattle.pdu_codec.proofs.leaves.state_of.Goals as goal
 
 pub returns : goal.returns

@@ -1,8 +1,8 @@
-use Rattle.std.proofs.Common.{◌≡◌, ℕ, arith, sym, ◌∙◌, subst}
+use Rattle.std.proofs.Common.{◌≡◌, ℕ, arith, subst}
 use Rattle.pdu_layout.specs.Fields.FieldValue.{Number}
 use Rattle.pdu_layout.specs.declared.fields.FieldKind.TheVariants as kinds
 use Rattle.pdu_codec.specs.Pieces.{Holds}
-use Rattle.pdu_codec.proofs.Digits.{number, number-little, number-big}
+use Rattle.pdu_codec.proofs.Digits.{number}
 use Rattle.pdu_codec.proofs.Values.{holds, number-one}
 use Rattle.pdu_codec.proofs.leaves.u8_of.Goals as goal
 

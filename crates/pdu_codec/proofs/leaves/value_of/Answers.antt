@@ -6,7 +6,6 @@ use Rattle.dcp_types.specs.Codes.{type_code}
 use Rattle.dcp_types.specs.Values.{fits, value_bytes}
 use Rattle.dcp_types.specs.declared.data_types.DataType.{DataType}
 use Rattle.std.specs.Prelude.{ℤ, List, IsTrue}
-use Rattle.pdu_layout.specs.Fields.{type_from}
 use Rattle.pdu_layout.specs.Fields.FieldValue.{Signed}
 use Rattle.pdu_layout.specs.declared.fields.FieldKind.TheVariants as kinds
 use Rattle.pdu_codec.specs.Pieces.{Holds}
