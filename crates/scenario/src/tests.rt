@@ -1,6 +1,8 @@
 //! Texts that read and texts that are refused, with lines and causes from an independent model.
 
-use crate::{Scenario, read_scenario};
+use crate::{Every, Rerun, Scenario, Setting, Wire, read_scenario};
+use dcp_io::{Chaos, NetLine};
+use dcp_types::{Address, Limits, Protocol};
 use std::alloc::{AllocError, Global};
 use std::test::Fail;
 use text_lines::{TextFault, TextRefused, TextWhy};
@@ -268,5 +270,127 @@ fn scenarios_read(rt: HostRuntime) -> Result<(), Fail> {
         let scenario = read_scenario(alloc, text)?;
         assert_eq!(rt; counts_of(&scenario), counts);
     }
+    Ok(())
+}
+
+/// Two slaves, and a line of every key.
+const WHOLE: &[u8] =
+    b"turn_limit 1000\ntries 20\nwatch_turns 21\nstate_limit 201\nretry_turns 22\ndata_turns 23\nstep_tries 2\nruns 3\nprotocol tcp\nsteps 7\nmicro 2\nmaster 10.0.0.1 9000\nslave amp\nuuid 00000000-0000-0000-0000-000000000001\naddress 127.0.0.1 9001\nmodel gain 131072\ninput 1 int32\noutput 2 int32\nslave acc\nuuid 00000000-0000-0000-0000-000000000002\naddress 127.0.0.1 9002\nmodel integrator 10 32768\ninput 1 int32\noutput 2 int32\nwire amp 0 acc 0\nwire acc 0 amp 0\nset acc 1 -5\nset amp 0 65536\nevery acc amp 3\nevery amp acc 1000\nrerun_set 2 acc 0 11\nrerun_set 3 amp 0 -1\ndrop 0 01 0\ncopy 1 F0 5 1000\nhold 2 b0 1000000 1\nchaos 18446744073709551615 0 200 1000\n";
+
+const WIRES: [Wire; 2] = [
+    Wire {
+        from: 1,
+        out: 0,
+        to: 2,
+        into: 0,
+    },
+    Wire {
+        from: 2,
+        out: 0,
+        to: 1,
+        into: 0,
+    },
+];
+
+const SETTINGS: [Setting; 2] = [
+    Setting {
+        slave: 2,
+        index: 1,
+        value: -5,
+    },
+    Setting {
+        slave: 1,
+        index: 0,
+        value: 65_536,
+    },
+];
+
+const INTERVALS: [Every; 2] = [
+    Every {
+        from: 2,
+        to: 1,
+        q: 3,
+    },
+    Every {
+        from: 1,
+        to: 2,
+        q: 1000,
+    },
+];
+
+const RERUNS: [Rerun; 2] = [
+    Rerun {
+        run: 2,
+        slave: 2,
+        index: 0,
+        value: 11,
+    },
+    Rerun {
+        run: 3,
+        slave: 1,
+        index: 0,
+        value: -1,
+    },
+];
+
+const NET_LINES: [NetLine; 3] = [
+    NetLine::Drop {
+        end: 0,
+        type_id: 1,
+        nth: 0,
+    },
+    NetLine::Copy {
+        end: 1,
+        type_id: 0xf0,
+        nth: 5,
+        lag: 1000,
+    },
+    NetLine::Hold {
+        end: 2,
+        type_id: 0xb0,
+        nth: 1_000_000,
+        lag: 1,
+    },
+];
+
+#[test]
+fn every_part_is_read(rt: HostRuntime) -> Result<(), Fail> {
+    let scenario = read_scenario(rt.alloc(), WHOLE)?;
+    assert_eq!(rt; counts_of(&scenario), [7, 2, 3, 2, 2, 2, 2, 2, 3]);
+    assert_eq!(rt; scenario.protocol, Protocol::Tcp);
+    let master = Address {
+        ip: 0x0a00_0001,
+        port: 9000,
+    };
+    assert_eq!(rt; scenario.master, master);
+    let limits = Limits {
+        turn_limit: 1000,
+        tries: 20,
+        watch_turns: 21,
+        state_limit: 201,
+        retry_turns: 22,
+        data_turns: 23,
+        step_tries: 2,
+    };
+    assert_eq!(rt; scenario.limits, limits);
+    assert_eq!(rt; scenario.wires.as_slice(), WIRES.as_slice());
+    assert_eq!(rt; scenario.settings.as_slice(), SETTINGS.as_slice());
+    assert_eq!(rt; scenario.every.as_slice(), INTERVALS.as_slice());
+    assert_eq!(rt; scenario.reruns.as_slice(), RERUNS.as_slice());
+    assert_eq!(rt; scenario.net.lines.as_slice(), NET_LINES.as_slice());
+    let chaos = Chaos {
+        start: u64::MAX,
+        drop: 0,
+        repeat: 200,
+        hold: 1000,
+    };
+    assert_eq!(rt; scenario.net.chaos, Some(chaos));
+    let names: Vec<&str> = scenario
+        .slaves
+        .as_slice()
+        .iter()
+        .map(|slave| slave.name.as_str())
+        .collect(rt.alloc())?;
+    assert_eq!(rt; names.as_slice(), ["amp", "acc"].as_slice());
     Ok(())
 }
