@@ -16,7 +16,7 @@ mod readers;
 mod scenarios;
 mod texts;
 
-pub use lists::{Intervals, Reruns, Settings, Slaves, Wires};
+pub use lists::{Intervals, Items, Reruns, Settings, Slaves, Wires};
 pub use scenarios::{Every, Rerun, Scenario, Setting, Wire};
 pub use texts::{read_scenario, reads_or_refused};
 

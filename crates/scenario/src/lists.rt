@@ -64,216 +64,41 @@ impl Slaves {
     }
 }
 
-/// Wires in order.
+/// Items in order. Contracts see the list of them.
 #[derive(Debug, Drop)]
-pub struct Wires {
-    items: Vec<Wire>,
+pub struct Items<T> {
+    items: Vec<T>,
 }
 
-impl Model for Wires {
+impl<T> Model for Items<T> {
     ghost use Rattle.std.specs.Prelude.{List};
-    ghost use Rattle.scenario.specs.declared.scenarios.Wire.{Wire};
 
-    ghost Value = { List Wire };
+    ghost Value = { List T };
 
     ghost view = { λ n. n.items.items };
 }
 
-impl Wires {
+impl<T> Items<T> {
     /// The empty list. It takes no memory.
-    pub fn new(alloc: Global) -> Wires
+    pub fn new(alloc: Global) -> Items<T>
         ensures { result ≡ [] }
     {
-        Wires {
+        Items {
             items: Vec::new(alloc),
         }
     }
 
     /// The items in order.
-    pub fn as_slice(&self) -> &[Wire]
+    pub fn as_slice(&self) -> &[T]
         ensures { result.now ≡ self.now }
     {
         self.items.as_slice()
     }
+}
 
+impl<T: Drop> Items<T> {
     /// Adds one at the end; where memory is short, the list stays as it was.
-    pub fn push(&mut self, wire: Wire) -> Result<(), OutOfMemory>
-        ensures ok { OnOk result (self.new ≡ self.old ++ wire ∷ []) }
-        ensures err { IfErr result (λ _. self.new ≡ self.old) }
-    {
-        match self.items.push(wire) {
-            Ok(()) => Ok(()),
-            Err(_) => Err(OutOfMemory),
-        }
-    }
-}
-
-/// Settings in the order in which they are made.
-#[derive(Debug, Drop)]
-pub struct Settings {
-    items: Vec<Setting>,
-}
-
-impl Model for Settings {
-    ghost use Rattle.std.specs.Prelude.{List};
-    ghost use Rattle.scenario.specs.declared.scenarios.Setting.{Setting};
-
-    ghost Value = { List Setting };
-
-    ghost view = { λ n. n.items.items };
-}
-
-impl Settings {
-    /// The empty list. It takes no memory.
-    pub fn new(alloc: Global) -> Settings
-        ensures { result ≡ [] }
-    {
-        Settings {
-            items: Vec::new(alloc),
-        }
-    }
-
-    /// The items in order.
-    pub fn as_slice(&self) -> &[Setting]
-        ensures { result.now ≡ self.now }
-    {
-        self.items.as_slice()
-    }
-
-    /// Adds one at the end; where memory is short, the list stays as it was.
-    pub fn push(&mut self, setting: Setting) -> Result<(), OutOfMemory>
-        ensures ok { OnOk result (self.new ≡ self.old ++ setting ∷ []) }
-        ensures err { IfErr result (λ _. self.new ≡ self.old) }
-    {
-        match self.items.push(setting) {
-            Ok(()) => Ok(()),
-            Err(_) => Err(OutOfMemory),
-        }
-    }
-}
-
-/// Intervals in order.
-#[derive(Debug, Drop)]
-pub struct Intervals {
-    items: Vec<Every>,
-}
-
-impl Model for Intervals {
-    ghost use Rattle.std.specs.Prelude.{List};
-    ghost use Rattle.scenario.specs.declared.scenarios.Every.{Every};
-
-    ghost Value = { List Every };
-
-    ghost view = { λ n. n.items.items };
-}
-
-impl Intervals {
-    /// The empty list. It takes no memory.
-    pub fn new(alloc: Global) -> Intervals
-        ensures { result ≡ [] }
-    {
-        Intervals {
-            items: Vec::new(alloc),
-        }
-    }
-
-    /// The items in order.
-    pub fn as_slice(&self) -> &[Every]
-        ensures { result.now ≡ self.now }
-    {
-        self.items.as_slice()
-    }
-
-    /// Adds one at the end; where memory is short, the list stays as it was.
-    pub fn push(&mut self, every: Every) -> Result<(), OutOfMemory>
-        ensures ok { OnOk result (self.new ≡ self.old ++ every ∷ []) }
-        ensures err { IfErr result (λ _. self.new ≡ self.old) }
-    {
-        match self.items.push(every) {
-            Ok(()) => Ok(()),
-            Err(_) => Err(OutOfMemory),
-        }
-    }
-}
-
-/// Settings before later runs, in the order in which they are made.
-#[derive(Debug, Drop)]
-pub struct Reruns {
-    items: Vec<Rerun>,
-}
-
-impl Model for Reruns {
-    ghost use Rattle.std.specs.Prelude.{List};
-    ghost use Rattle.scenario.specs.declared.scenarios.Rerun.{Rerun};
-
-    ghost Value = { List Rerun };
-
-    ghost view = { λ n. n.items.items };
-}
-
-impl Reruns {
-    /// The empty list. It takes no memory.
-    pub fn new(alloc: Global) -> Reruns
-        ensures { result ≡ [] }
-    {
-        Reruns {
-            items: Vec::new(alloc),
-        }
-    }
-
-    /// The items in order.
-    pub fn as_slice(&self) -> &[Rerun]
-        ensures { result.now ≡ self.now }
-    {
-        self.items.as_slice()
-    }
-
-    /// Adds one at the end; where memory is short, the list stays as it was.
-    pub fn push(&mut self, rerun: Rerun) -> Result<(), OutOfMemory>
-        ensures ok { OnOk result (self.new ≡ self.old ++ rerun ∷ []) }
-        ensures err { IfErr result (λ _. self.new ≡ self.old) }
-    {
-        match self.items.push(rerun) {
-            Ok(()) => Ok(()),
-            Err(_) => Err(OutOfMemory),
-        }
-    }
-}
-
-/// What the lines of a head say, in order.
-#[derive(Debug, Drop)]
-pub struct HeadItems {
-    items: Vec<HeadItem>,
-}
-
-impl Model for HeadItems {
-    ghost use Rattle.std.specs.Prelude.{List};
-    ghost use Rattle.scenario.specs.declared.heads.HeadItem.{HeadItem};
-
-    ghost Value = { List HeadItem };
-
-    ghost view = { λ n. n.items.items };
-}
-
-impl HeadItems {
-    /// The empty list. It takes no memory.
-    pub fn new(alloc: Global) -> HeadItems
-        ensures { result ≡ [] }
-    {
-        HeadItems {
-            items: Vec::new(alloc),
-        }
-    }
-
-    /// The items in order.
-    pub fn as_slice(&self) -> &[HeadItem]
-        ensures { result.now ≡ self.now }
-    {
-        self.items.as_slice()
-    }
-
-    /// Adds one at the end; where memory is short, the list stays as it was.
-    pub fn push(&mut self, item: HeadItem) -> Result<(), OutOfMemory>
+    pub fn push(&mut self, item: T) -> Result<(), OutOfMemory>
         ensures ok { OnOk result (self.new ≡ self.old ++ item ∷ []) }
         ensures err { IfErr result (λ _. self.new ≡ self.old) }
     {
@@ -283,3 +108,18 @@ impl HeadItems {
         }
     }
 }
+
+/// Wires in order.
+pub type Wires = Items<Wire>;
+
+/// Settings in the order in which they are made.
+pub type Settings = Items<Setting>;
+
+/// Intervals in order.
+pub type Intervals = Items<Every>;
+
+/// Settings before later runs, in the order in which they are made.
+pub type Reruns = Items<Rerun>;
+
+/// What the lines of a head say, in order.
+pub type HeadItems = Items<HeadItem>;
