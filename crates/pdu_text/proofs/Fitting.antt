@@ -61,17 +61,17 @@ at_most m n e = grind (arith, nat_tests)
 
 -- ---- a value stands in its field
 
-record Stands (k : FieldKind) (t : ℕ) (v : FieldValue) : Type 0 where
+pub record Stands (k : FieldKind) (t : ℕ) (v : FieldValue) : Type 0 where
   pub fits : Fits k t v
   pub size : length (bytes_of k t v) ≡ size_of k t v
   pub type : type_after k t (bytes_of k t v) ≡ type_said k t v
 
-number_stands : (k : FieldKind) (t n : ℕ) → n < limit k → Stands k t (Number n)
+pub number_stands : (k : FieldKind) (t n : ℕ) → n < limit k → Stands k t (Number n)
 unfolding digits
 number_stands TypeCode t n small = record { fits = small; size = length-number TypeCode t n; type = omega (arith, small) }
 number_stands k t n small = record { fits = small; size = length-number k t n; type = refl }
 
-signed_stands : (k : FieldKind) (t : ℕ) (z : ℤ) → Fits k t (Signed z) → Stands k t (Signed z)
+pub signed_stands : (k : FieldKind) (t : ℕ) (z : ℤ) → Fits k t (Signed z) → Stands k t (Signed z)
 signed_stands TypeCode t z f = absurd f
 signed_stands k t z f = record { fits = f; size = length-signed k t z f; type = refl }
 
@@ -159,11 +159,11 @@ said_stands f room t w v e =
     let c = within_ok (leb (size_of f.kind t b.0) room) b.0 v b.2 in
     subst (λ (x : FieldValue). Stands f.kind t x × (size_of f.kind t x ≤ room)) c.1 (value_stands f.kind t a.0 b.0 b.1, at_most (size_of f.kind t b.0) room c.0)
 
-abbrev kinds : List FieldRow → List FieldKind
+abbrev pub kinds : List FieldRow → List FieldKind
 kinds fs = map (λ f. f.kind) fs
 
 -- the values fit, and their bytes are not more than the room
-abbrev Room : List FieldRow → ℕ → List FieldValue → ℕ → Type 0
+abbrev pub Room : List FieldRow → ℕ → List FieldValue → ℕ → Type 0
 Room fs t vs room = FitEach (kinds fs) t vs × (length (spelled (kinds fs) t vs) ≤ room)
 
 say_room : (fs : List FieldRow) (room t : ℕ) (ws : List (List ℕ)) (vs : List FieldValue) → SayEach fs room t ws vs → Room fs t vs room

@@ -6,3 +6,5 @@ pub mod Names
 pub mod Once
 pub mod Spelled
 pub mod PrintedLines
+pub mod ReadBackValues
+pub mod ReadBack

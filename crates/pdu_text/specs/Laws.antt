@@ -1,6 +1,7 @@
--- What reading and refusing have in common.
+-- What reading, refusing and printing have in common.
 use Rattle.std.specs.Prelude.{◌≡◌, ◌⊎◌, ℕ, List}
 use Rattle.pdu_layout.specs.Message.{Message, HasSpelling}
+use Rattle.pdu_text.specs.Printed.{line_of}
 use Rattle.pdu_text.specs.Reading.{Reads}
 use Rattle.pdu_text.specs.Refusals.{Refused}
 use Rattle.pdu_text.specs.declared.reasons.PduTextWhy.{PduTextWhy}
@@ -24,3 +25,7 @@ OneCause = (text : List ℕ) (v w : PduTextWhy) → Refused text v → Refused t
 -- what a text reads as is a message with a spelling
 abbrev pub SpelledMessages : Type 0
 SpelledMessages = (text : List ℕ) (p : Message) → Reads text p → HasSpelling p
+
+-- the line of a message that has a spelling reads as the message
+abbrev pub PrintedReads : Type 0
+PrintedReads = (p : Message) → HasSpelling p → Reads (line_of p) p

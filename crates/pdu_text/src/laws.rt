@@ -1,6 +1,6 @@
-//! What follows of reading and refusing for all texts.
+//! What follows of reading, refusing and printing for all texts and messages.
 
-ghost use Rattle.pdu_text.specs.Laws.{ReadsOrBreaks, NeverBoth, OneMessage, OneCause, SpelledMessages};
+ghost use Rattle.pdu_text.specs.Laws.{ReadsOrBreaks, NeverBoth, OneMessage, OneCause, SpelledMessages, PrintedReads};
 
 /// Each text reads as one message, which has a spelling, or else breaks one rule first.
 pub fn texts_are_judged_once()
@@ -9,4 +9,9 @@ pub fn texts_are_judged_once()
     ensures one_message { OneMessage }
     ensures one_cause { OneCause }
     ensures spelled { SpelledMessages }
+{}
+
+/// The line of each message that has a spelling reads as that message.
+pub fn printed_messages_read_back()
+    ensures { PrintedReads }
 {}
