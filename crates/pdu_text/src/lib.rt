@@ -1,7 +1,7 @@
 //! The printed form of a message, one line.
 //!
-//! What it promises: `print_pdu` writes exactly the line that `specs/Printed.antt` gives. The line of a
-//! message that has a spelling reads back as that message.
+//! What it promises: `print_pdu` writes exactly the line that `specs/Printed.antt` gives, and
+//! the line of a message that has a spelling reads back as that message.
 //! `with_pdu_text` hands exactly the message as which a text reads (`specs/Reading.antt`) to its taker,
 //! once, and refuses any other text by the first rule that it breaks (`specs/Refusals.antt`), the taker
 //! not called. Only want of memory has no cause in a contract.

@@ -3,8 +3,9 @@
 ghost use Rattle.std.specs.Prelude.{◌≡◌, ◌++◌, ◌∷◌, ◌≤◌, map, length, IfOk, OnOk, string_bytes};
 ghost use Rattle.pdu_layout.specs.Parts.{value_of, values_of};
 ghost use Rattle.pdu_layout.specs.Table.{rows_of};
-ghost use Rattle.pdu_layout.specs.Message.{message_of};
+ghost use Rattle.pdu_layout.specs.Message.{HasSpelling, message_of};
 ghost use Rattle.pdu_text.specs.Printed.{value_text, row_line, line_of};
+ghost use Rattle.pdu_text.specs.Reading.{Reads};
 
 use crate::value_texts::put_content;
 use dcp_types::OutOfMemory;
@@ -55,9 +56,10 @@ fn print_parts(alloc: Global, parts: &Parts<'_>) -> Result<String, AllocError>
     )
 }
 
-/// The line of a message, with its line feed.
+/// The line of a message, with its line feed. It reads back as the message, where that has a spelling.
 pub fn print_pdu(alloc: Global, pdu: &Pdu<'_>) -> Result<String, OutOfMemory>
-    ensures { IfOk result (λ s. string_bytes s ≡ line_of (message_of pdu.now)) }
+    ensures line { IfOk result (λ s. string_bytes s ≡ line_of (message_of pdu.now)) }
+    ensures back { HasSpelling (message_of pdu.now) → IfOk result (λ s. Reads (string_bytes s) (message_of pdu.now)) }
 {
     let parts = parts_of(pdu);
     let line = print_parts(alloc, &parts)?;

@@ -8,7 +8,7 @@ use Rattle.dcpctl.proofs.decoding.decode_input.Goals as goal
 pub returns-in-Ok-print_pdu-clause-outcome : goal.returns-in-Ok-print_pdu-clause-outcome
 returns-in-Ok-print_pdu-clause-outcome g c = λ old written.
     judged_as (Decodes c.args.input.now) true _
-    (message_of c.in-Ok.pdu, c.in-Ok.ensures.ok, c.as_bytes.ensures.value ∙ c.in-Ok-print_pdu.ensures)
+    (message_of c.in-Ok.pdu, c.in-Ok.ensures.ok, c.as_bytes.ensures.value ∙ c.in-Ok-print_pdu.ensures.line)
     old _ _ _ c.answer.result (c.answer.ensures.outcome old written)
 
 pub returns-in-Err-clause-outcome : goal.returns-in-Err-clause-outcome
