@@ -4,7 +4,7 @@ use Rattle.std.specs.Prelude.{IfOk}
 use Rattle.std.specs.Str.Lines.{lines}
 use Rattle.text_lines.specs.Reasons.{GivesText}
 use Rattle.text_lines.specs.Runs.{at_line, run_of}
-use Rattle.text_lines.proofs.Results.{bind_ok, at_ok, and_ok}
+use Rattle.text_lines.proofs.Results.{bind_ok, at_ok, and_ok, given_same, moved}
 use Rattle.text_lines.proofs.Runs.{one_first}
 use Rattle.text_lines.specs.declared.reasons.TextWhy.{TextWhy}
 use Rattle.text_lines.specs.declared.reasons.TextFault.{TextFault}
@@ -15,7 +15,6 @@ use Rattle.scenario.specs.Scenarios.{scenario_of}
 use Rattle.scenario.specs.Machine.{closes, start, take_line, finished}
 use Rattle.scenario.specs.Judging.{bad, blocks, head_said, slaves_said, why_at, why_end_of, FirstBad}
 use Rattle.scenario.specs.Reads.{scenario_said, Reads, ReadsOrRefused, NeverBoth, OneValue, OneFault}
-use Rattle.scenario.proofs.Results.{given_same, moved}
 use Rattle.scenario.specs.Grammar.{AreSlaves}
 use Rattle.scenario.proofs.Groups.{all_said}
 use Rattle.scenario.proofs.Kept.{text_gives}

@@ -9,7 +9,7 @@ use Rattle.std.proofs.lemmas.List.Quantifiers.{all_pairs_push}
 use Rattle.std.proofs.lemmas.Slice.Eq.{bytes_eq-Decides}
 use Rattle.dcp_types.specs.declared.addresses.Address.{Address}
 use Rattle.text_lines.specs.Reasons.{or_why}
-use Rattle.text_lines.proofs.Results.{bind_ok, some_ok}
+use Rattle.text_lines.proofs.Results.{bind_ok, some_ok, moved}
 use Rattle.text_lines.specs.declared.reasons.TextWhy.{TextWhy}
 use Rattle.text_lines.specs.declared.reasons.TextWhy.TheVariants as why
 use Rattle.fixed_models.specs.Kinds.{has_ports}
@@ -24,7 +24,6 @@ use Rattle.slave_desc.specs.declared.partials.Partial.{Partial}
 use Rattle.slave_desc.specs.declared.descriptions.SlaveDesc.{SlaveDesc}
 use Rattle.scenario.specs.Heads.{master_in, first_said}
 use Rattle.scenario.specs.Scenarios.{same_address, is_master, why_among}
-use Rattle.scenario.proofs.Results.{moved}
 use Rattle.scenario.proofs.LinkSets.{none_at}
 use Rattle.scenario.specs.declared.heads.HeadItem.{HeadItem}
 

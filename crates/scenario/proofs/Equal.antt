@@ -10,7 +10,7 @@ use Rattle.std.proofs.lemmas.Bool.Decides.{nat_tests}
 use Rattle.std.proofs.lemmas.List.Elements.{filter-append}
 use Rattle.std.proofs.lemmas.Option.{slice_get_past, slice_get-get_or}
 use Rattle.text_lines.specs.Texts.{words, is_skipped}
-use Rattle.text_lines.proofs.Results.{bind_ok}
+use Rattle.text_lines.proofs.Results.{bind_ok, moved}
 use Rattle.text_lines.specs.declared.reasons.TextWhy.{TextWhy}
 use Rattle.text_lines.specs.declared.reasons.TextWhy.TheVariants as why
 use Rattle.slave_desc.specs.Items.{key_of, item_of}
@@ -30,7 +30,6 @@ use Rattle.scenario.specs.Scenarios.{steps_said, runs_said, why_head, why_slaves
 use Rattle.scenario.specs.Judging.{key_of_words, key_at, args_of, is_of, lines_in, section_now, opens, onto, is_slave_key, head_said, group, blocks, last_of, front_of, slaves_of, slaves_said, links_said, when, why_block, why_closes, bad, why_item_read, why_link_read, why_acts, why_keyed, why_words, why_line, why_end_of, why_entry}
 use Rattle.scenario.specs.Grammar.{reads_by, IsOrdered, Fits, IsNew, AreSlaves, AreOf}
 use Rattle.scenario.specs.Reads.{scenario_said}
-use Rattle.scenario.proofs.Results.{moved}
 use Rattle.scenario.proofs.Groups.{all_said}
 use Rattle.scenario.proofs.Moves.{slave_key_is, key_said}
 use Rattle.scenario.proofs.Kept.{block_key, line_item}

@@ -8,12 +8,11 @@ use Rattle.dcp_types.specs.declared.addresses.Address.{Address}
 use Rattle.text_lines.specs.Numbers.{number_from}
 use Rattle.text_lines.specs.Addresses.{address}
 use Rattle.text_lines.specs.Counts.{one_word}
-use Rattle.text_lines.proofs.Results.{bind_ok}
+use Rattle.text_lines.proofs.Results.{bind_ok, moved}
+use Rattle.text_lines.proofs.WordRanges.{number_fits, address_fits}
 use Rattle.scenario.specs.Keys.{or_some, head_code}
 use Rattle.scenario.specs.Heads.{least, greatest, number_item, protocol_of, head_item, is_said, number_in, master_in, first_said}
 use Rattle.scenario.specs.Sound.{IsAddress}
-use Rattle.scenario.proofs.Results.{moved, number_fits}
-use Rattle.scenario.proofs.Addresses.{address_fits}
 use Rattle.scenario.specs.declared.keys.HeadKey.{HeadKey}
 use Rattle.scenario.specs.declared.keys.HeadKey.TheVariants as heads
 use Rattle.scenario.specs.declared.heads.HeadItem.{HeadItem}
@@ -77,8 +76,11 @@ number_item_fits k args i other e =
     let n = bind_ok (number_from (least k) (greatest k) w.0) _ i w.2 in
     moved FitsItem (said.Number k n.0) i n.2 (number_fits (least k) (greatest k) w.0 n.0 n.1, other)
 
+address_is : (args : List (List ℕ)) (a : Address) → address args ≡ Ok a → IsAddress a
+address_is args a e = let f = address_fits args a e in record { ip = f.0; port = (f.1, f.2) }
+
 pub head_item_fits : (k : HeadKey) (args : List (List ℕ)) (i : HeadItem) → head_item k args ≡ Ok i → FitsItem i
-head_item_fits heads.Master args i e = let a = bind_ok (address args) _ i e in moved FitsItem (said.Master a.0) i a.2 (address_fits args a.0 a.1)
+head_item_fits heads.Master args i e = let a = bind_ok (address args) _ i e in moved FitsItem (said.Master a.0) i a.2 (address_is args a.0 a.1)
 head_item_fits heads.Protocol args i e =
     let w = bind_ok (one_word args) _ i e in
     let p = bind_ok (protocol_of w.0) _ i w.2 in

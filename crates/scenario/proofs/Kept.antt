@@ -14,7 +14,7 @@ use Rattle.dcp_types.specs.declared.addresses.Address.{Address}
 use Rattle.text_lines.specs.Texts.{words, is_skipped}
 use Rattle.text_lines.specs.Reasons.{◌>>=◌}
 use Rattle.text_lines.specs.Runs.{at_line, run_of}
-use Rattle.text_lines.proofs.Results.{bind_ok, at_ok, and_ok}
+use Rattle.text_lines.proofs.Results.{bind_ok, at_ok, and_ok, given_same, moved}
 use Rattle.text_lines.specs.declared.reasons.TextWhy.{TextWhy}
 use Rattle.text_lines.specs.declared.reasons.TextWhy.TheVariants as why
 use Rattle.slave_desc.specs.Items.{key_of, item_of}
@@ -37,7 +37,6 @@ use Rattle.scenario.specs.Limits.{is_too_much}
 use Rattle.scenario.specs.Scenarios.{steps_said, runs_said, why_head, why_slaves, why_among, is_chaos, scenario_of}
 use Rattle.scenario.specs.Machine.{start, close_head, close_block, close_slaves, closes, take_head, take_block, take_link, act, take_keyed, take_words, take_line, finished}
 use Rattle.scenario.specs.Sound.{IsSlave, IsScenario}
-use Rattle.scenario.proofs.Results.{given_same, moved, all_push}
 use Rattle.scenario.proofs.HeadRanges.{FitsItem, first_fits, head_item_fits, master_fits}
 use Rattle.scenario.proofs.LinkRanges.{link_there}
 use Rattle.scenario.proofs.Apart.{AreNew, none_new, slave_new, item_new, others_differ}
@@ -52,6 +51,10 @@ use Rattle.scenario.specs.declared.heads.HeadItem.{HeadItem}
 use Rattle.scenario.specs.declared.collected.Links.{Links}
 use Rattle.scenario.specs.declared.readers.Reader.{Reader}
 use Rattle.scenario.specs.declared.scenarios.Scenario.{Scenario}
+
+all_push : {X : Type 0} (P : X → Type 0) (xs : List X) (x : X) → AllByRecursion P xs → P x → AllByRecursion P (xs ++ x ∷ [])
+all_push P [] x h k = (k, tt)
+all_push P (y ∷ ys) x h k = (h.0, all_push P ys x h.1 k)
 
 -- what is known of a reader: its block holds what some lines say, and all else is in range
 pub record Sound (r : Reader) : Type 0 where

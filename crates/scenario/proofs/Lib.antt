@@ -1,5 +1,3 @@
-pub mod Results
-pub mod Addresses
 pub mod HeadRanges
 pub mod LinkRanges
 pub mod LinkSets

@@ -12,12 +12,12 @@ use Rattle.text_lines.specs.Numbers.{number, number_from, int64}
 use Rattle.text_lines.specs.Names.{name}
 use Rattle.text_lines.specs.Counts.{three_words, four_words}
 use Rattle.text_lines.proofs.PlainWords.{and_both}
-use Rattle.text_lines.proofs.Results.{bind_ok, some_ok}
+use Rattle.text_lines.proofs.Results.{bind_ok, some_ok, moved, chosen_ok}
+use Rattle.text_lines.proofs.WordRanges.{number_fits}
 use Rattle.text_lines.specs.declared.reasons.TextWhy.TheVariants as why
 use Rattle.slave_desc.specs.declared.descriptions.SlaveDesc.{SlaveDesc}
 use Rattle.scenario.specs.Links.{place_of, slave_of, index_of, end_of, hex_value, type_of, outputs_at, inputs_at, parameters_at, wire_of, setting_of, rerun_of, every_of, message_of, drop_of, copy_of, hold_of, chaos_of, link_of}
 use Rattle.scenario.specs.Sound.{IsSlave, IsSetting, IsRerun, AreMessages, IsNetLine, IsChaos}
-use Rattle.scenario.proofs.Results.{moved, chosen_ok, number_fits}
 use Rattle.scenario.specs.declared.scenarios.Wire.{Wire}
 use Rattle.scenario.specs.declared.scenarios.Setting.{Setting}
 use Rattle.scenario.specs.declared.scenarios.Every.{Every}

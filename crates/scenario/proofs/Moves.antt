@@ -9,7 +9,7 @@ use Rattle.std.proofs.lemmas.Bool.{false≢true}
 use Rattle.std.proofs.lemmas.Bool.Decides.{nat_tests}
 use Rattle.std.proofs.lemmas.List.Elements.{filter-append, filter_map-append}
 use Rattle.text_lines.specs.Texts.{words, is_skipped}
-use Rattle.text_lines.proofs.Results.{bind_ok}
+use Rattle.text_lines.proofs.Results.{bind_ok, moved}
 use Rattle.text_lines.specs.declared.reasons.TextWhy.{TextWhy}
 use Rattle.text_lines.specs.declared.reasons.TextWhy.TheVariants as why
 use Rattle.slave_desc.specs.Items.{key_of, item_of}
@@ -30,7 +30,6 @@ use Rattle.scenario.specs.Checks.{why_link, put_link, wire_in, set_in, rerun_in,
 use Rattle.scenario.specs.Scenarios.{runs_said, why_among, is_chaos}
 use Rattle.scenario.specs.Machine.{closes, take_head, take_block, take_link, act, take_keyed, take_words, take_line, start}
 use Rattle.scenario.specs.Judging.{key_of_words, key_at, args_of, is_of, lines_in, head_by, head_said, is_slave_key, begins_block, group, slaves_of, link_by, links_of}
-use Rattle.scenario.proofs.Results.{moved}
 use Rattle.scenario.proofs.Groups.{at_last, group_new, group_more, at_last_is, AreSlaves, all_said}
 use Rattle.scenario.proofs.Kept.{block_key, line_item}
 use Rattle.scenario.proofs.Stands.{IsOpen, Stands, After, closes_after}

@@ -7,7 +7,7 @@ use Rattle.std.proofs.lemmas.Bool.{false≢true}
 use Rattle.std.proofs.lemmas.Bool.Decides.{nat_tests}
 use Rattle.text_lines.specs.Texts.{words, is_skipped}
 use Rattle.text_lines.specs.Reasons.{◌>>=◌}
-use Rattle.text_lines.proofs.Results.{bind_ok}
+use Rattle.text_lines.proofs.Results.{bind_ok, given_same, moved}
 use Rattle.text_lines.specs.declared.reasons.TextWhy.{TextWhy}
 use Rattle.text_lines.specs.declared.reasons.TextWhy.TheVariants as why
 use Rattle.slave_desc.specs.Items.{item_of}
@@ -29,7 +29,6 @@ use Rattle.scenario.specs.Checks.{why_link, put_link}
 use Rattle.scenario.specs.Scenarios.{runs_said, why_head, why_slaves, why_among, is_chaos}
 use Rattle.scenario.specs.Machine.{close_head, close_block, close_slaves, closes, take_head, take_block, take_link, act, take_keyed, take_words, take_line}
 use Rattle.scenario.specs.Judging.{lines_in, section_now, head_said, group, blocks, last_of, front_of, slaves_of, slaves_said, links_said, when, why_block, why_closes, bad, why_item_read, why_link_read, why_acts, why_keyed, why_words, why_line}
-use Rattle.scenario.proofs.Results.{given_same, moved}
 use Rattle.scenario.proofs.Groups.{last_is, front_is, AreSlaves, slaves_more, all_said}
 use Rattle.scenario.proofs.Kept.{head_same, last_closes}
 use Rattle.scenario.specs.declared.keys.HeadKey.{HeadKey}

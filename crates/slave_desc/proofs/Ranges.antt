@@ -1,23 +1,21 @@
 -- A text gives a description in range.
-use Rattle.std.proofs.Common.{◌≡◌, ℕ, ℤ, pos, neg_ℤ, zero, suc, ◌+◌, ◌*◌, ◌<◌, ◌≤◌, ◌^◌, ◌-◌, Bool, true, false, ◌&&◌, cond, eqb, leb, drop, List, [], ◌∷◌, Option, Some, None, Result, Ok, Err, refl, sym, subst, arith}
+use Rattle.std.proofs.Common.{◌≡◌, ℕ, ℤ, pos, neg_ℤ, zero, suc, ◌<◌, ◌≤◌, ◌^◌, ◌-◌, Bool, true, false, cond, drop, List, [], ◌∷◌, Option, Some, None, Result, Ok, Err, refl, sym, subst, arith}
 use Rattle.std.specs.Prelude.{FitsSigned}
-use Rattle.std.specs.List.{filter_map, cons_option, slice_split, AllByRecursion}
+use Rattle.std.specs.List.{filter_map, cons_option, AllByRecursion}
 use Rattle.std.specs.Int.{w64}
-use Rattle.std.specs.Option.{option_and_then}
 use Rattle.std.specs.Result.{result_ok}
 use Rattle.std.specs.Str.Lines.{lines}
-use Rattle.std.proofs.lemmas.Bool.Decides.{nat_tests}
 use Rattle.std.proofs.lemmas.List.Elements.{All-from_recursion}
 use Rattle.dcp_types.specs.declared.addresses.Address.{Address}
 use Rattle.text_lines.specs.Texts.{words, is_skipped}
 use Rattle.text_lines.specs.Reasons.{◌>>=◌, or_why}
-use Rattle.text_lines.specs.Numbers.{number, number_from, has_minus, int64}
+use Rattle.text_lines.specs.Numbers.{number_from, has_minus, int64}
 use Rattle.text_lines.specs.Names.{is_name, name}
-use Rattle.text_lines.specs.Addresses.{ip_part, ip_of_parts, ip, address}
+use Rattle.text_lines.specs.Addresses.{address}
 use Rattle.text_lines.specs.Identities.{identity}
 use Rattle.text_lines.specs.Counts.{one_word, two_words}
-use Rattle.text_lines.proofs.PlainWords.{and_both}
-use Rattle.text_lines.proofs.Results.{bind_ok, some_ok}
+use Rattle.text_lines.proofs.Results.{bind_ok, moved, chosen_ok}
+use Rattle.text_lines.proofs.WordRanges.{FitsAddress, number_fits, address_fits}
 use Rattle.text_lines.proofs.IdentityRange.{identity_small}
 use Rattle.text_lines.specs.declared.reasons.TextWhy.{TextWhy}
 use Rattle.text_lines.specs.declared.reasons.TextWhy.TheVariants as why
@@ -33,9 +31,6 @@ use Rattle.slave_desc.specs.declared.keys.Key.TheVariants as keys
 use Rattle.slave_desc.specs.declared.items.Item.{Item}
 use Rattle.slave_desc.specs.declared.items.Item.TheVariants as items
 use Rattle.slave_desc.specs.declared.descriptions.SlaveDesc.{SlaveDesc}
-
-abbrev FitsAddress : Address → Type 0
-FitsAddress a = (a.ip < 2 ^ 32) × (1 ≤ a.port) × (a.port < 2 ^ 16)
 
 abbrev FitsPair : ℕ × ℕ → Type 0
 FitsPair r = ((1 ≤ r.0) × (r.0 < 2 ^ 32)) × ((1 ≤ r.1) × (r.1 < 2 ^ 32))
@@ -58,70 +53,8 @@ Fits (items.Resolution n d) = FitsPair (n, d)
 Fits (items.Input p) = FitsPort p
 Fits (items.Output p) = FitsPort p
 
-abbrev given : {X : Type 0} → X → Result X TextWhy
-given x = Ok x
-
-given_same : {X : Type 0} (x y : X) → given x ≡ given y → x ≡ y
-given_same x y e = cc
-
--- a fact of the value that is given
-moved : {X : Type 0} (P : X → Type 0) (x y : X) → given x ≡ given y → P x → P y
-moved P x y e h = subst P (given_same x y e) h
-
-chosen_ok : {X : Type 0} (b : Bool) (x y : X) (w : TextWhy) → cond b (Ok x) (Err w) ≡ Ok y → (b ≡ true) × (x ≡ y)
-chosen_ok true x y w e = (refl, cc)
-chosen_ok false x y w e = cc
-
-number_fits : (low high : ℕ) (w : List ℕ) (n : ℕ) → number_from low high w ≡ Ok n → (low ≤ n) × (n ≤ high)
-number_fits low high w n e =
-    let t = bind_ok (or_why (number w) why.BadNumber) (λ n. cond (leb low n && leb n high) (Ok n) (Err why.Limit)) n e in
-    let c = chosen_ok (leb low t.0 && leb t.0 high) t.0 n why.Limit t.2 in
-    let b = and_both (leb low t.0) (leb t.0 high) c.0 in
-    subst (λ (n : ℕ). (low ≤ n) × (n ≤ high)) c.1 (grind (arith, nat_tests), grind (arith, nat_tests))
-
 name_fits : (w n : List ℕ) → name w ≡ Ok n → is_name n ≡ true
 name_fits w n e = let t = chosen_ok (is_name w) w n why.BadName e in subst (λ (n : List ℕ). is_name n ≡ true) t.1 t.0
-
--- ---- addresses
-
-part_fits : (w : List ℕ) (n : ℕ) → ip_part w ≡ Some n → n ≤ 255
-part_fits w n e = by (number w) e
-  where
-    picked : (b : Bool) (x : ℕ) → (b ≡ true → x ≤ 255) → cond b (Some x) None ≡ Some n → n ≤ 255
-    picked true x h e = let same : x ≡ n = cc in subst (λ (x : ℕ). x ≤ 255) same (h refl)
-    picked false x h e = cc
-
-    small : (x : ℕ) → leb x 255 ≡ true → x ≤ 255
-    small x h = grind (arith, nat_tests)
-
-    by : (o : Option ℕ) → option_and_then (λ n. cond (leb n 255) (Some n) None) o ≡ Some n → n ≤ 255
-    by None e = cc
-    by (Some x) e = picked (leb x 255) x (small x) e
-
-parts_fit : (ws : List (List ℕ)) (n : ℕ) → ip_of_parts ws ≡ Ok n → n < 2 ^ 32
-parts_fit (a ∷ b ∷ c ∷ d ∷ []) n e =
-    let x = bind_ok (or_why (ip_part a) why.BadNumber) _ n e in
-    let y = bind_ok (or_why (ip_part b) why.BadNumber) _ n x.2 in
-    let z = bind_ok (or_why (ip_part c) why.BadNumber) _ n y.2 in
-    let u = bind_ok (or_why (ip_part d) why.BadNumber) _ n z.2 in
-    let hx = part_fits a x.0 (some_ok (ip_part a) why.BadNumber x.0 x.1) in
-    let hy = part_fits b y.0 (some_ok (ip_part b) why.BadNumber y.0 y.1) in
-    let hz = part_fits c z.0 (some_ok (ip_part c) why.BadNumber z.0 z.1) in
-    let hu = part_fits d u.0 (some_ok (ip_part d) why.BadNumber u.0 u.1) in
-    moved (λ (n : ℕ). n < 2 ^ 32) (((x.0 * 256 + y.0) * 256 + z.0) * 256 + u.0) n u.2 (omega (arith, hx, hy, hz, hu))
-parts_fit [] n e = cc
-parts_fit (a ∷ []) n e = cc
-parts_fit (a ∷ b ∷ []) n e = cc
-parts_fit (a ∷ b ∷ c ∷ []) n e = cc
-parts_fit (a ∷ b ∷ c ∷ d ∷ f ∷ more) n e = cc
-
-address_fits : (args : List (List ℕ)) (a : Address) → address args ≡ Ok a → FitsAddress a
-address_fits args a e =
-    let w = bind_ok (two_words args) _ a e in
-    let i = bind_ok (ip w.0.0) _ a w.2 in
-    let p = bind_ok (number_from 1 65535 w.0.1) _ a i.2 in
-    let small = number_fits 1 65535 w.0.1 p.0 p.1 in
-    moved FitsAddress (record { ip = i.0; port = p.0 }) a p.2 (parts_fit (slice_split (λ b. eqb b 46) w.0.0) i.0 i.1, small.0, omega (arith, small.1))
 
 -- ---- numbers in pairs, ports
 

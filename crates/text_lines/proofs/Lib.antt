@@ -7,3 +7,4 @@ pub mod PlainWords
 pub mod NumberWords
 pub mod IdentityWords
 pub mod IdentityRange
+pub mod WordRanges

@@ -1,5 +1,5 @@
 -- Results one after another.
-use Rattle.std.proofs.Common.{◌≡◌, ◌⊎◌, inl, inr, Option, Some, None, Result, Ok, Err, refl, ap, sym, ℕ}
+use Rattle.std.proofs.Common.{◌≡◌, ◌⊎◌, inl, inr, Bool, true, false, cond, Option, Some, None, Result, Ok, Err, refl, ap, sym, subst, ℕ}
 use Rattle.text_lines.specs.Reasons.{◌>>=◌, or_why}
 use Rattle.text_lines.specs.Runs.{at_line, and_then, line_number}
 use Rattle.text_lines.specs.declared.reasons.TextWhy.{TextWhy}
@@ -15,6 +15,20 @@ some_ok (Some y) w x e = cc
 
 pub ok_same : {A : Type 0} (x y : A) (r : Result A TextWhy) → r ≡ Ok x → r ≡ Ok y → x ≡ y
 ok_same x y r e f = cc
+
+abbrev pub given : {X : Type 0} → X → Result X TextWhy
+given x = Ok x
+
+pub given_same : {X : Type 0} (x y : X) → given x ≡ given y → x ≡ y
+given_same x y e = cc
+
+-- a fact of the value that is given
+pub moved : {X : Type 0} (P : X → Type 0) (x y : X) → given x ≡ given y → P x → P y
+moved P x y e h = subst P (given_same x y e) h
+
+pub chosen_ok : {X : Type 0} (b : Bool) (x y : X) (w : TextWhy) → cond b (Ok x) (Err w) ≡ Ok y → (b ≡ true) × (x ≡ y)
+chosen_ok true x y w e = (refl, cc)
+chosen_ok false x y w e = cc
 
 pub at_ok : {X : Type 0} (n : ℕ) (r : Result X TextWhy) (x : X) → at_line n r ≡ Ok x → r ≡ Ok x
 at_ok n (Ok y) x e = cc

@@ -1,5 +1,5 @@
--- An address that reads is in range.
-use Rattle.std.proofs.Common.{◌≡◌, ℕ, ◌+◌, ◌*◌, ◌<◌, ◌≤◌, ◌^◌, Bool, true, false, cond, eqb, leb, List, [], ◌∷◌, Option, Some, None, Ok, refl, subst, arith}
+-- The ranges of what words read as.
+use Rattle.std.proofs.Common.{◌≡◌, ℕ, ◌+◌, ◌*◌, ◌<◌, ◌≤◌, ◌^◌, Bool, true, false, ◌&&◌, cond, eqb, leb, List, [], ◌∷◌, Option, Some, None, Ok, Err, refl, subst, arith}
 use Rattle.std.specs.List.{slice_split}
 use Rattle.std.specs.Option.{option_and_then}
 use Rattle.std.proofs.lemmas.Bool.Decides.{nat_tests}
@@ -8,10 +8,19 @@ use Rattle.text_lines.specs.Reasons.{or_why}
 use Rattle.text_lines.specs.Numbers.{number, number_from}
 use Rattle.text_lines.specs.Addresses.{ip_part, ip_of_parts, ip, address}
 use Rattle.text_lines.specs.Counts.{two_words}
-use Rattle.text_lines.proofs.Results.{bind_ok, some_ok}
+use Rattle.text_lines.proofs.PlainWords.{and_both}
+use Rattle.text_lines.proofs.Results.{bind_ok, some_ok, moved, chosen_ok}
 use Rattle.text_lines.specs.declared.reasons.TextWhy.TheVariants as why
-use Rattle.scenario.specs.Sound.{IsAddress}
-use Rattle.scenario.proofs.Results.{moved, number_fits}
+
+pub number_fits : (low high : ℕ) (w : List ℕ) (n : ℕ) → number_from low high w ≡ Ok n → (low ≤ n) × (n ≤ high)
+number_fits low high w n e =
+    let t = bind_ok (or_why (number w) why.BadNumber) (λ n. cond (leb low n && leb n high) (Ok n) (Err why.Limit)) n e in
+    let c = chosen_ok (leb low t.0 && leb t.0 high) t.0 n why.Limit t.2 in
+    let b = and_both (leb low t.0) (leb t.0 high) c.0 in
+    subst (λ (n : ℕ). (low ≤ n) × (n ≤ high)) c.1 (grind (arith, nat_tests), grind (arith, nat_tests))
+
+abbrev pub FitsAddress : Address → Type 0
+FitsAddress a = (a.ip < 2 ^ 32) × (1 ≤ a.port) × (a.port < 2 ^ 16)
 
 part_fits : (w : List ℕ) (n : ℕ) → ip_part w ≡ Some n → n ≤ 255
 part_fits w n e = by (number w) e
@@ -44,10 +53,10 @@ parts_fit (a ∷ b ∷ []) n e = cc
 parts_fit (a ∷ b ∷ c ∷ []) n e = cc
 parts_fit (a ∷ b ∷ c ∷ d ∷ f ∷ more) n e = cc
 
-pub address_fits : (args : List (List ℕ)) (a : Address) → address args ≡ Ok a → IsAddress a
+pub address_fits : (args : List (List ℕ)) (a : Address) → address args ≡ Ok a → FitsAddress a
 address_fits args a e =
     let w = bind_ok (two_words args) _ a e in
     let i = bind_ok (ip w.0.0) _ a w.2 in
     let p = bind_ok (number_from 1 65535 w.0.1) _ a i.2 in
     let small = number_fits 1 65535 w.0.1 p.0 p.1 in
-    moved IsAddress (record { ip = i.0; port = p.0 }) a p.2 (record { ip = parts_fit (slice_split (λ b. eqb b 46) w.0.0) i.0 i.1; port = (small.0, omega (arith, small.1)) })
+    moved FitsAddress (record { ip = i.0; port = p.0 }) a p.2 (parts_fit (slice_split (λ b. eqb b 46) w.0.0) i.0 i.1, small.0, omega (arith, small.1))
