@@ -17,10 +17,6 @@ use Rattle.lockstep.specs.Parameters.{settings_until, parameters}
 use Rattle.fixed_models.specs.Views.{accepts}
 use Rattle.lockstep.specs.Parts.{types_of}
 
-pub changed-append : (ps : List ℤ) (s : ℕ) (xs ys : List Setting) → changed ps s (xs ++ ys) ≡ changed (changed ps s xs) s ys
-changed-append ps s [] ys = refl
-changed-append ps s (x ∷ xs) ys = changed-append (changed_by ps s x) s xs ys
-
 -- the settings of the runs up to run r
 abbrev pub due : ℕ → List Rerun → List Setting
 due r xs = map setting_in (filter (λ x. nat_le x.run r) xs)

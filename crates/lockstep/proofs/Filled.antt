@@ -1,5 +1,5 @@
 -- A row that is filled slave by slave.
-use Rattle.std.proofs.Common.{◌≡◌, ℕ, zero, suc, ◌+◌, ◌-◌, ◌≤◌, ◌<◌, Bool, true, false, ◌==◌, ◌&&◌, cond, List, [], ◌∷◌, ◌++◌, length, drop, get_or, refl, sym, ◌∙◌, ap, subst, arith, append_assoc, below_more, ℤ, pos, negsuc, ◌^◌, ◌≤ℤ◌, Some, slice_get, Result, Ok, Err}
+use Rattle.std.proofs.Common.{◌≡◌, ℕ, zero, suc, ◌+◌, ◌-◌, ◌≤◌, ◌<◌, Bool, true, false, ◌==◌, cond, List, [], ◌∷◌, ◌++◌, length, drop, get_or, refl, sym, ◌∙◌, ap, subst, arith, append_assoc, below_more, ℤ, pos, negsuc, ◌^◌, ◌≤ℤ◌, Some, slice_get, Result, Ok, Err}
 use Rattle.std.specs.Prelude.{slice_set as set, All, int_le}
 use Rattle.std.specs.Int.Signed.{le_z_yes}
 use Rattle.std.proofs.lemmas.Float.{T_from_true}
@@ -29,7 +29,7 @@ use Rattle.lockstep.specs.Lockstep.{row, row_from, beside, shown, shown_at, show
 use Rattle.lockstep.specs.Parts.{StandsAt, AllStand, types_of}
 use Rattle.lockstep.specs.Filling.{behind, Filled}
 use Rattle.lockstep.proofs.Showing.{length-outputs}
-use Rattle.lockstep.proofs.Serving.{same_count}
+use Rattle.lockstep.proofs.Serving.{same_count, both_first, both_second}
 
 pub same_rows : (g : Grid) → SameRows g g
 same_rows g = record { width = refl; rows = refl }
@@ -134,14 +134,6 @@ filled_all sc rows r k i parts row' le h = (
       ∙ ap (λ (x : List ℤ). Ok x) (append-nil row'),
   record { count = h.count; each = λ j d p at got. let lt : j < length sc.slaves = slice_get_within sc.slaves j d at in h.done j d p (omega arith) at got },
 )
-
-both_first : (a b : Bool) → (a && b) ≡ true → a ≡ true
-both_first true b h = refl
-both_first false b h = cc
-
-both_second : (a b : Bool) → (a && b) ≡ true → b ≡ true
-both_second true b h = h
-both_second false b h = cc
 
 chain : (a b c : ℤ) → a ≤ℤ b → b ≤ℤ c → a ≤ℤ c
 chain a b c h k = grind (arith, ints)

@@ -28,11 +28,11 @@ use Rattle.lockstep.specs.Lockstep.{place, read, inputs, state, state_after, sho
 use Rattle.lockstep.specs.Parts.{types_of, shows, Reaches, Shows, Serves, StandsAt}
 use Rattle.lockstep.proofs.Reading.{All-find, wire_is}
 
-both_first : (a b : Bool) → (a && b) ≡ true → a ≡ true
+pub both_first : (a b : Bool) → (a && b) ≡ true → a ≡ true
 both_first true b h = refl
 both_first false b h = cc
 
-both_second : (a b : Bool) → (a && b) ≡ true → b ≡ true
+pub both_second : (a b : Bool) → (a && b) ≡ true → b ≡ true
 both_second true b h = h
 both_second false b h = cc
 

@@ -35,7 +35,7 @@ use Rattle.pdu_text.specs.declared.reasons.PduTextWhy.{PduTextWhy}
 use Rattle.pdu_text.specs.declared.reasons.PduTextWhy.TheVariants as why
 use Rattle.pdu_text.proofs.Judged.{bind_ok}
 
-abbrev field_ok : FieldValue → Result FieldValue PduTextWhy
+abbrev pub field_ok : FieldValue → Result FieldValue PduTextWhy
 field_ok v = Ok v
 
 same_field : (v w : FieldValue) → field_ok v ≡ field_ok w → v ≡ w

@@ -30,7 +30,7 @@ use Rattle.pdu_text.specs.Reading.{SayEach, Reads}
 use Rattle.pdu_text.specs.declared.reasons.PduTextWhy.{PduTextWhy}
 use Rattle.pdu_text.specs.declared.reasons.PduTextWhy.TheVariants as why
 use Rattle.pdu_text.proofs.Fitting.{Stands, number_stands, signed_stands, kinds, Room}
-use Rattle.pdu_text.proofs.ReadBackValues.{are_plain, value_back}
+use Rattle.pdu_text.proofs.ReadBackValues.{are_plain, value_back, less}
 
 -- ---- the names of the table
 
@@ -80,9 +80,6 @@ name_byte b h = let t = and_both (is_plain_byte b) (not (eqb b 61)) h in (t.0, o
     other : (c : Bool) → not c ≡ true → c ≡ false
     other true e = absurd (false≢true e)
     other false e = refl
-
-less : (m n : ℕ) → m < n → ltb m n ≡ true
-less m n h = grind (arith, nat_tests)
 
 at_most : (m n : ℕ) → m ≤ n → leb m n ≡ true
 at_most m n h = grind (arith, nat_tests)

@@ -30,11 +30,8 @@ use Rattle.pdu_layout.specs.Fields.FieldValue.{Number, Signed, Bytes}
 use Rattle.pdu_text.specs.Reasons.{◌>>=◌, or_why, within}
 use Rattle.pdu_text.specs.Words.{is_signed, state_named, below_said, typed_said, value_said}
 use Rattle.pdu_text.specs.Printed.{state_word, value_text}
-use Rattle.pdu_text.specs.declared.reasons.PduTextWhy.{PduTextWhy}
 use Rattle.pdu_text.specs.declared.reasons.PduTextWhy.TheVariants as why
-
-abbrev field_ok : FieldValue → Result FieldValue PduTextWhy
-field_ok v = Ok v
+use Rattle.pdu_text.proofs.Fitting.{field_ok}
 
 abbrev pub are_plain : List ℕ → Bool
 are_plain w = list_all is_plain_byte w
@@ -47,7 +44,7 @@ pub record Says (k : FieldKind) (t : ℕ) (w : List ℕ) (v : FieldValue) : Type
 plain_bytes : (w : List ℕ) → is_plain w ≡ true → are_plain w ≡ true
 plain_bytes w h = (and_both (ltb 0 (length w)) (are_plain w) h).1
 
-less : (m n : ℕ) → m < n → ltb m n ≡ true
+pub less : (m n : ℕ) → m < n → ltb m n ≡ true
 less m n h = grind (arith, nat_tests)
 
 below : (m n : ℕ) → leb m n ≡ true → m ≤ n

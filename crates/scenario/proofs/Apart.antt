@@ -1,5 +1,5 @@
 -- The names and the addresses of the slaves differ, and those of the open block are new.
-use Rattle.std.proofs.Common.{◌≡◌, ◌≢◌, ℕ, Bool, true, false, not, ◌||◌, cond, eqb, get_or, List, [], ◌∷◌, ◌++◌, length, Option, Some, None, Ok, refl, sym, ap, ◌∙◌, subst, arith}
+use Rattle.std.proofs.Common.{◌≡◌, ◌≢◌, ℕ, Bool, true, false, not, ◌||◌, eqb, get_or, List, [], ◌∷◌, ◌++◌, length, Option, Some, None, Ok, refl, sym, ap, ◌∙◌, subst, arith}
 use Rattle.std.specs.Prelude.{All, AllPairs, IfSome}
 use Rattle.std.specs.List.{list_any}
 use Rattle.std.specs.Str.{bytes_eq}
@@ -10,7 +10,6 @@ use Rattle.std.proofs.lemmas.Slice.Eq.{bytes_eq-Decides}
 use Rattle.dcp_types.specs.declared.addresses.Address.{Address}
 use Rattle.text_lines.specs.Reasons.{or_why}
 use Rattle.text_lines.proofs.Results.{bind_ok, some_ok, moved}
-use Rattle.text_lines.specs.declared.reasons.TextWhy.{TextWhy}
 use Rattle.text_lines.specs.declared.reasons.TextWhy.TheVariants as why
 use Rattle.fixed_models.specs.Kinds.{has_ports}
 use Rattle.slave_desc.specs.Judging.{refused_if}
@@ -26,6 +25,7 @@ use Rattle.scenario.specs.Heads.{master_in, first_said}
 use Rattle.scenario.specs.Scenarios.{same_address, is_master, why_among}
 use Rattle.scenario.proofs.LinkSets.{none_at}
 use Rattle.scenario.specs.declared.heads.HeadItem.{HeadItem}
+use Rattle.scenario.proofs.Refusing.{first_none}
 
 abbrev has_name : List SlaveDesc → List ℕ → Bool
 has_name slaves n = list_any (λ s. bytes_eq s.name n) slaves
@@ -40,10 +40,6 @@ pub record AreNew (master : Option Address) (slaves : List SlaveDesc) (open_bloc
   pub others : All (λ d. is_master master d.address ≡ false) slaves
   pub name : IfSome open_block.name (λ n. has_name slaves n ≡ false)
   pub address : IfSome open_block.address (λ a. (is_master master a || has_address slaves a) ≡ false)
-
-first_none : (b : Bool) (w : TextWhy) (o : Option TextWhy) → cond b (Some w) o ≡ None → b ≡ false
-first_none true w o e = cc
-first_none false w o e = refl
 
 names_differ : (m n : List ℕ) → bytes_eq m n ≡ false → m ≢ n
 names_differ m n e same = false≢true (sym e ∙ (bytes_eq-Decides m n).1 same)
@@ -95,7 +91,7 @@ slave_new master slaves p d h e =
 
 -- an item of the open block
 pub item_new : (head : List HeadItem) (slaves : List SlaveDesc) (p : Partial) (i : Item) → AreNew (first_said master_in head) slaves p → why_among head slaves i ≡ None → AreNew (first_said master_in head) slaves (put p i)
-item_new head slaves p (items.Slave n) h e = record { names = h.names; addresses = h.addresses; others = h.others; name = first_none (has_name slaves n) why.Repeated _ e; address = h.address }
+item_new head slaves p (items.Slave n) h e = record { names = h.names; addresses = h.addresses; others = h.others; name = (first_none (has_name slaves n) why.Repeated _ e).0; address = h.address }
 item_new head slaves p (items.Address a) h e = record { names = h.names; addresses = h.addresses; others = h.others; name = h.name; address = not_refused _ why.SameAddress e }
 item_new head slaves p (items.Uuid n) h e = record { names = h.names; addresses = h.addresses; others = h.others; name = h.name; address = h.address }
 item_new head slaves p (items.Model k ps) h e = record { names = h.names; addresses = h.addresses; others = h.others; name = h.name; address = h.address }

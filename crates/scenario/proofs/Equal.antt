@@ -46,6 +46,7 @@ use Rattle.scenario.specs.declared.link_words.Link.{Link}
 use Rattle.scenario.specs.declared.link_words.Link.TheVariants as link
 use Rattle.scenario.specs.declared.collected.Links.{Links}
 use Rattle.scenario.specs.declared.scenarios.Scenario.{Scenario}
+use Rattle.scenario.proofs.Refusing.{none_refused}
 
 when_none : (b : Bool) (o : Option TextWhy) → o ≡ None → when b o ≡ None
 when_none true o e = e
@@ -54,9 +55,6 @@ when_none false o e = refl
 or_nones : (a b : Option TextWhy) → a ≡ None → b ≡ None → or_else a b ≡ None
 or_nones None b e f = f
 or_nones (Some w) b e f = cc
-
-none_refused : (b : Bool) (w : TextWhy) → b ≡ false → refused_if b w ≡ None
-none_refused b w e = ap (λ (b : Bool). cond b (Some w) None) e
 
 and_none : (b : Bool) (o : Option TextWhy) → when (b && false) o ≡ None
 and_none true o = refl
@@ -68,10 +66,6 @@ not_less m n h = grind (arith, nat_tests)
 some_of : {X : Type 0} (x : Result X TextWhy) → is_some (result_ok x) ≡ true → (y : X) × (x ≡ Ok y)
 some_of (Ok y) e = (y, refl)
 some_of (Err w) e = absurd (false≢true e)
-
-and_both : (a b : Bool) → (a && b) ≡ true → (a ≡ true) × (b ≡ true)
-and_both true b e = (refl, e)
-and_both false b e = absurd (false≢true e)
 
 -- ---- blocks are there where the section of the slaves is
 

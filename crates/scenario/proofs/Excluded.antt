@@ -1,7 +1,6 @@
 -- A text of the grammar has no line that is refused.
 use Rattle.std.proofs.Common.{◌≡◌, ℕ, suc, ◌<◌, Bool, true, false, cond, leb, ◌⊎◌, inl, inr, List, [], ◌∷◌, ◌++◌, length, Option, Some, None, refl, sym, ap, ◌∙◌, subst, arith, append-nil, append_assoc}
 use Rattle.std.specs.List.{filter_map, cons_option}
-use Rattle.std.proofs.lemmas.Bool.Decides.{nat_tests}
 use Rattle.std.proofs.lemmas.List.Elements.{filter_map-append}
 use Rattle.text_lines.specs.declared.reasons.TextWhy.{TextWhy}
 use Rattle.text_lines.specs.declared.reasons.TextWhy.TheVariants as why
@@ -18,6 +17,7 @@ use Rattle.scenario.specs.Scenarios.{why_among}
 use Rattle.scenario.specs.Grammar.{AreSlaves, IsNew}
 use Rattle.scenario.proofs.Groups.{at_last, group_new, group_more, at_last_is}
 use Rattle.scenario.specs.declared.heads.HeadItem.{HeadItem}
+use Rattle.scenario.proofs.Refusing.{none_refused, is_few}
 
 -- ---- the blocks of a front of the lines, among all blocks
 
@@ -110,15 +110,9 @@ key_none before i after d says = none_by _ (λ w e. not_key before i after d w s
 pub item_none : (before : List Item) (i : Item) (after : List Item) (d : SlaveDesc) → Describes (before ++ i ∷ after) d → why_item before i ≡ None
 item_none before i after d says = none_by _ (λ w e. not_item before i after d w says e)
 
-none_refused : (b : Bool) (w : TextWhy) → b ≡ false → refused_if b w ≡ None
-none_refused b w e = ap (λ (b : Bool). cond b (Some w) None) e
-
-is_below : (n : ℕ) → n < 16 → leb 16 n ≡ false
-is_below n h = grind (arith, nat_tests)
-
 -- what is new among the slaves before is not refused, where there is room for a name
 pub among_none : (head : List HeadItem) (slaves : List SlaveDesc) (i : Item) → IsNew head slaves i → (key_in i ≡ keys.Slave → length slaves < 16) → why_among head slaves i ≡ None
-among_none head slaves (items.Slave n) new room = ap (λ (b : Bool). cond b (Some why.Repeated) (refused_if (leb 16 (length slaves)) why.Limit)) new ∙ none_refused (leb 16 (length slaves)) why.Limit (is_below (length slaves) (room refl))
+among_none head slaves (items.Slave n) new room = ap (λ (b : Bool). cond b (Some why.Repeated) (refused_if (leb 16 (length slaves)) why.Limit)) new ∙ none_refused (leb 16 (length slaves)) why.Limit (is_few (length slaves) (room refl))
 among_none head slaves (items.Address a) new room = none_refused _ why.SameAddress new
 among_none head slaves (items.Uuid n) new room = refl
 among_none head slaves (items.Model k ps) new room = refl

@@ -1,13 +1,12 @@
 -- What the reader takes is of the grammar.
-use Rattle.std.proofs.Common.{◌≡◌, ℕ, ◌+◌, ◌<◌, ◌≤◌, Bool, true, false, ◌&&◌, ◌||◌, cond, eqb, ltb, ◌⊎◌, inl, inr, ⊎_elim, List, [], ◌∷◌, ◌++◌, length, Option, Some, None, Result, Ok, Err, is_some, refl, sym, ap, ◌∙◌, subst, arith, append-nil, append_assoc, length-append}
-use Rattle.std.specs.Result.{result_ok}
+use Rattle.std.proofs.Common.{◌≡◌, ℕ, ◌+◌, ◌<◌, ◌≤◌, Bool, true, false, ◌&&◌, ◌||◌, cond, eqb, ltb, ◌⊎◌, inl, inr, ⊎_elim, List, [], ◌∷◌, ◌++◌, length, Option, Some, None, Result, Ok, is_some, refl, sym, ap, ◌∙◌, subst, arith, append-nil, append_assoc, length-append}
 use Rattle.std.proofs.lemmas.Bool.Decides.{nat_tests}
 use Rattle.text_lines.specs.Texts.{words, is_skipped}
 use Rattle.text_lines.specs.declared.reasons.TextWhy.{TextWhy}
 use Rattle.text_lines.specs.declared.reasons.TextWhy.TheVariants as why
 use Rattle.slave_desc.specs.Items.{item_of}
 use Rattle.slave_desc.specs.Judging.{came, why_item, or_else, refused_if}
-use Rattle.slave_desc.proofs.Held.{not_refused, not_not}
+use Rattle.slave_desc.proofs.Held.{not_refused, not_not, none_first}
 use Rattle.slave_desc.specs.declared.keys.Key.{Key}
 use Rattle.slave_desc.specs.declared.items.Item.{Item}
 use Rattle.slave_desc.specs.declared.descriptions.SlaveDesc.{SlaveDesc}
@@ -16,7 +15,7 @@ use Rattle.scenario.specs.Heads.{head_item, is_said}
 use Rattle.scenario.specs.Links.{link_of}
 use Rattle.scenario.specs.Checks.{why_link}
 use Rattle.scenario.specs.Scenarios.{runs_said, why_head, why_among, is_chaos, scenario_of}
-use Rattle.scenario.specs.Judging.{key_of_words, key_at, args_of, lines_in, section_now, head_said, group, blocks, slaves_of, slaves_said, links_said, when, why_closes, block_for, slaves_for, bad, why_item_read, why_link_read, why_acts, why_line, why_at, why_end_of}
+use Rattle.scenario.specs.Judging.{key_of_words, key_at, args_of, lines_in, section_now, head_said, group, blocks, slaves_of, slaves_said, links_said, when, why_closes, block_for, slaves_for, why_item_read, why_link_read, why_acts, why_line, why_at, why_end_of}
 use Rattle.scenario.specs.Grammar.{reads_by, is_read, IsOrdered, Fits, IsNew, AreSlaves, AreOf}
 use Rattle.scenario.proofs.Orders.{earlier_lines, earlier_head, same_now}
 use Rattle.scenario.proofs.Passing.{PassedKey, passed, new_item, fits_if}
@@ -34,6 +33,7 @@ use Rattle.scenario.specs.declared.heads.HeadItem.{HeadItem}
 use Rattle.scenario.specs.declared.link_words.Link.{Link}
 use Rattle.scenario.specs.declared.collected.Links.{Links}
 use Rattle.scenario.specs.declared.scenarios.Scenario.{Scenario}
+use Rattle.scenario.proofs.Refusing.{item_none, bad_none, link_none}
 
 is_less : (m n : ℕ) → m < n → ltb m n ≡ true
 is_less m n h = grind (arith, nat_tests)
@@ -48,25 +48,9 @@ some_same x y e = cc
 none_some : {X : Type 0} (o : Option X) (x : X) → o ≡ None → o ≡ Some x → ⊥
 none_some o x e f = cc
 
-none_first : (a b : Option TextWhy) → or_else a b ≡ None → (a ≡ None) × (b ≡ None)
-none_first None b e = (refl, e)
-none_first (Some w) b e = cc
-
 or_true : (b c : Bool) → c ≡ true → (b || c) ≡ true
 or_true true c e = refl
 or_true false c e = e
-
-bad_none : {X : Type 0} (x : Result X TextWhy) → bad x ≡ None → is_some (result_ok x) ≡ true
-bad_none (Ok x) e = refl
-bad_none (Err w) e = cc
-
-item_none : (all : List Item) (head : List HeadItem) (slaves : List SlaveDesc) (x : Result Item TextWhy) → why_item_read all head slaves x ≡ None → is_some (result_ok x) ≡ true
-item_none all head slaves (Ok i) e = refl
-item_none all head slaves (Err w) e = cc
-
-link_none : (slaves : List SlaveDesc) (links : Links) (x : Result Link TextWhy) → why_link_read slaves links x ≡ None → is_some (result_ok x) ≡ true
-link_none slaves links (Ok l) e = refl
-link_none slaves links (Err w) e = cc
 
 item_right : (all : List Item) (head : List HeadItem) (slaves : List SlaveDesc) (x : Result Item TextWhy) (i : Item) → x ≡ Ok i → why_item_read all head slaves x ≡ None → why_among head slaves i ≡ None
 item_right all head slaves x i e h = (none_first (why_item all i) (why_among head slaves i) (ap (why_item_read all head slaves) (sym e) ∙ h)).1

@@ -1,9 +1,8 @@
 -- The numbers of a head are in range.
-use Rattle.std.proofs.Common.{◌≡◌, ℕ, ◌≤◌, Bool, true, false, ◌||◌, cond, eqb, List, [], ◌∷◌, Option, Some, None, Ok, refl, sym, ap, ◌∙◌, subst, arith}
+use Rattle.std.proofs.Common.{◌≡◌, ℕ, ◌≤◌, Bool, true, false, ◌||◌, cond, eqb, List, [], ◌∷◌, Option, Some, None, Ok, refl, sym, ap, ◌∙◌, subst}
 use Rattle.std.specs.List.{AllByRecursion}
 use Rattle.std.specs.Option.{unwrap_or}
 use Rattle.std.proofs.lemmas.Bool.{false≢true}
-use Rattle.std.proofs.lemmas.Bool.Decides.{nat_tests}
 use Rattle.dcp_types.specs.declared.addresses.Address.{Address}
 use Rattle.text_lines.specs.Numbers.{number_from}
 use Rattle.text_lines.specs.Addresses.{address}
@@ -17,6 +16,7 @@ use Rattle.scenario.specs.declared.keys.HeadKey.{HeadKey}
 use Rattle.scenario.specs.declared.keys.HeadKey.TheVariants as heads
 use Rattle.scenario.specs.declared.heads.HeadItem.{HeadItem}
 use Rattle.scenario.specs.declared.heads.HeadItem.TheVariants as said
+use Rattle.text_lines.proofs.NumberTests.{equal_numbers}
 
 abbrev of_code : ℕ → HeadKey
 of_code n =
@@ -37,9 +37,6 @@ code_back heads.StateLimit = refl
 code_back heads.RetryTurns = refl
 code_back heads.DataTurns = refl
 code_back heads.StepTries = refl
-
-equal_numbers : (m n : ℕ) → eqb m n ≡ true → m ≡ n
-equal_numbers m n e = grind (arith, nat_tests)
 
 same_key : (j k : HeadKey) → eqb (head_code j) (head_code k) ≡ true → j ≡ k
 same_key j k e = sym (code_back j) ∙ ap of_code (equal_numbers (head_code j) (head_code k) e) ∙ code_back k

@@ -8,14 +8,13 @@ use Rattle.std.specs.Str.{is_utf8}
 use Rattle.std.proofs.str.Laws.{order}
 use Rattle.std.proofs.lemmas.Bool.{false≢true, and_parts, and_from}
 use Rattle.std.proofs.lemmas.Bool.Decides.{nat_tests}
-use Rattle.std.proofs.lemmas.List.Elements.{All-push}
+use Rattle.std.proofs.lemmas.List.Elements.{All-push, All-nil}
 use Rattle.std.proofs.lemmas.Option.{slice_get-get_or}
 use Rattle.dcp_types.specs.declared.addresses.Address.{Address}
 use Rattle.text_lines.specs.Texts.{words, is_skipped}
 use Rattle.text_lines.specs.Reasons.{◌>>=◌}
 use Rattle.text_lines.specs.Runs.{at_line, run_of}
 use Rattle.text_lines.proofs.Results.{bind_ok, at_ok, and_ok, given_same, moved}
-use Rattle.text_lines.specs.declared.reasons.TextWhy.{TextWhy}
 use Rattle.text_lines.specs.declared.reasons.TextWhy.TheVariants as why
 use Rattle.slave_desc.specs.Items.{key_of, item_of}
 use Rattle.slave_desc.specs.Canonical.{IsDesc}
@@ -51,6 +50,8 @@ use Rattle.scenario.specs.declared.heads.HeadItem.{HeadItem}
 use Rattle.scenario.specs.declared.collected.Links.{Links}
 use Rattle.scenario.specs.declared.readers.Reader.{Reader}
 use Rattle.scenario.specs.declared.scenarios.Scenario.{Scenario}
+use Rattle.text_lines.proofs.NumberTests.{not_above, is_below, is_equal}
+use Rattle.scenario.proofs.Refusing.{first_none, has_room}
 
 all_push : {X : Type 0} (P : X → Type 0) (xs : List X) (x : X) → AllByRecursion P xs → P x → AllByRecursion P (xs ++ x ∷ [])
 all_push P [] x h k = (k, tt)
@@ -74,27 +75,11 @@ pub record Sound (r : Reader) : Type 0 where
 
 -- ---- tests
 
-first_none : (b : Bool) (w : TextWhy) (o : Option TextWhy) → cond b (Some w) o ≡ None → (b ≡ false) × (o ≡ None)
-first_none true w o e = cc
-first_none false w o e = (refl, e)
-
 not_zero : (n : ℕ) → eqb n 0 ≡ false → 1 ≤ n
 not_zero n e = grind (arith, nat_tests)
 
-has_room : (n : ℕ) → leb 16 n ≡ false → n < 16
-has_room n e = grind (arith, nat_tests)
-
-not_above : (m n : ℕ) → ltb m n ≡ false → n ≤ m
-not_above m n e = grind (arith, nat_tests)
-
 is_zero : (n : ℕ) → 1 ≤ n → eqb n 0 ≡ false
 is_zero n e = grind (arith, nat_tests)
-
-is_below : (m n : ℕ) → m < n → ltb m n ≡ true
-is_below m n e = grind (arith, nat_tests)
-
-is_equal : (m n : ℕ) → m ≡ n → eqb m n ≡ true
-is_equal m n e = grind (arith, nat_tests)
 
 -- ---- each kind takes the parameters of its description
 
@@ -123,7 +108,7 @@ slaves_same : (b : Bool) (r c : Reader) → cond b (close_slaves r) (Ok r) ≡ O
 slaves_same true r c e = let u = unless_ok (why_slaves r.head r.slaves) (Ok r) c e in (given_same r c u.1, λ _. u.0)
 slaves_same false r c e = (given_same r c e, λ t. absurd (false≢true t))
 
-abbrev closed_with : Reader → SlaveDesc → Reader
+abbrev pub closed_with : Reader → SlaveDesc → Reader
 closed_with r d = record r { slaves = r.slaves ++ d ∷ []; block = nothing }
 
 with_slave : (r : Reader) (d : SlaveDesc) → Sound r → IsDesc d → block.finished r.block ≡ Ok d → 1 ≤ r.section → r.section < 2 → length r.slaves < 16 → Sound (closed_with r d)
@@ -372,17 +357,14 @@ end_gives r s h e =
       net = k.links.net;
     })
 
-nothing_at : {X : Type 0} (P : X → Type 0) → All P []
-nothing_at P k d below = absurd (omega arith)
-
 start_sound : Sound start
 start_sound = record {
   lines = [];
   block = holds_nothing;
   head = tt;
-  slaves = nothing_at (λ d. IsDesc d);
+  slaves = All-nil (λ d. IsDesc d);
   few = omega arith;
-  links = none_sound [] 1 (takes_own [] (nothing_at (λ d. IsDesc d)));
+  links = none_sound [] 1 (takes_own [] (All-nil (λ d. IsDesc d)));
   unlinked = λ _. refl;
   shut = λ _. refl;
   ready = λ two. absurd (omega arith);

@@ -1,3 +1,4 @@
+pub mod Refusing
 pub mod HeadRanges
 pub mod LinkRanges
 pub mod LinkSets

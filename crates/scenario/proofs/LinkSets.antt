@@ -1,17 +1,16 @@
 -- One more line keeps what is known of the links.
-use Rattle.std.proofs.Common.{◌≡◌, ℕ, ℤ, ◌<◌, ◌≤◌, Bool, true, false, not, ◌&&◌, ◌||◌, cond, eqb, ltb, get_or, take, ⊎_elim, List, [], ◌∷◌, ◌++◌, map, length, Option, Some, None, refl, sym, ap, ◌∙◌, subst, arith, append-nil, append_assoc, length-append}
+use Rattle.std.proofs.Common.{◌≡◌, ℕ, ℤ, ◌<◌, ◌≤◌, Bool, true, false, not, ◌&&◌, ◌||◌, eqb, ltb, get_or, take, ⊎_elim, List, [], ◌∷◌, ◌++◌, map, length, None, refl, sym, ap, ◌∙◌, subst, arith, append-nil, append_assoc, length-append}
 use Rattle.std.specs.Prelude.{All, AllPairs}
 use Rattle.std.specs.List.{list_any}
 use Rattle.std.proofs.str.Laws.{order}
 use Rattle.std.proofs.lemmas.Bool.{false≢true, leb-false}
 use Rattle.std.proofs.lemmas.Bool.Decides.{nat_tests}
 use Rattle.std.proofs.lemmas.List.{map-append, take-append-le, take_all}
-use Rattle.std.proofs.lemmas.List.Elements.{All-push}
+use Rattle.std.proofs.lemmas.List.Elements.{All-push, All-nil}
 use Rattle.std.proofs.lemmas.List.Folds.{list_any_at, list_any-append}
 use Rattle.std.proofs.lemmas.List.Quantifiers.{all_pairs_push}
 use Rattle.dcp_io.specs.declared.net_plans.NetLine.{NetLine}
 use Rattle.dcp_io.specs.declared.net_plans.Chaos.{Chaos}
-use Rattle.text_lines.specs.declared.reasons.TextWhy.{TextWhy}
 use Rattle.text_lines.specs.declared.reasons.TextWhy.TheVariants as why
 use Rattle.slave_desc.specs.Judging.{refused_if}
 use Rattle.slave_desc.proofs.Held.{not_refused, not_not}
@@ -27,6 +26,8 @@ use Rattle.scenario.specs.declared.scenarios.Rerun.{Rerun}
 use Rattle.scenario.specs.declared.link_words.Link.{Link}
 use Rattle.scenario.specs.declared.link_words.Link.TheVariants as link
 use Rattle.scenario.specs.declared.collected.Links.{Links}
+use Rattle.text_lines.proofs.NumberTests.{equal_numbers}
+use Rattle.scenario.proofs.Refusing.{first_none}
 
 -- what is known of links
 pub record AreSound (slaves : List SlaveDesc) (runs : ℕ) (links : Links) : Type 0 where
@@ -41,13 +42,6 @@ pub record AreSound (slaves : List SlaveDesc) (runs : ℕ) (links : Links) : Typ
   pub net : IsPlan slaves links.net
 
 -- ---- tests
-
-first_none : (b : Bool) (w : TextWhy) (o : Option TextWhy) → cond b (Some w) o ≡ None → (b ≡ false) × (o ≡ None)
-first_none true w o e = cc
-first_none false w o e = (refl, e)
-
-equal_numbers : (m n : ℕ) → eqb m n ≡ true → m ≡ n
-equal_numbers m n e = grind (arith, nat_tests)
 
 no_more : (n : ℕ) → ltb 0 n ≡ false → n ≡ 0
 no_more n e = grind (arith, nat_tests)
@@ -214,9 +208,6 @@ module _ (slaves : List SlaveDesc) (runs : ℕ) (links : Links) (h : AreSound sl
   links_more (link.Net l) there e = net_more l there e
   links_more (link.Chaos c) there e = chaos_more c there
 
-nothing_at : {X : Type 0} (P : X → Type 0) → All P []
-nothing_at P k d below = absurd (omega arith)
-
 no_pairs : {X : Type 0} (R : X → X → Type 0) → AllPairs R []
 no_pairs R i j d h k = absurd (omega arith)
 
@@ -226,13 +217,13 @@ take_nothing n = take_all n [] (omega arith)
 -- no links, where each kind takes the parameters of its description
 pub none_sound : (slaves : List SlaveDesc) (runs : ℕ) → ((s : ℕ) → IsSlave slaves s → takes_at slaves s (parameters_at slaves s) ≡ true) → AreSound slaves runs no_links
 none_sound slaves runs takes = record {
-  wires = nothing_at (λ w. IsWire slaves w);
+  wires = All-nil (λ w. IsWire slaves w);
   one_wire = no_pairs (λ v w. same_input v w ≡ false);
-  settings = nothing_at (λ x. IsSetting slaves x);
-  reruns = nothing_at (λ r. IsRerun slaves runs r);
+  settings = All-nil (λ x. IsSetting slaves x);
+  reruns = All-nil (λ r. IsRerun slaves runs r);
   in_order = no_pairs (λ q r. q.run ≤ r.run);
   taken = λ n s is. subst (λ (l : List Setting). takes_at slaves s (changed (parameters_at slaves s) s l) ≡ true) (sym (take_nothing n)) (takes s is);
-  every = nothing_at (λ e. IsEvery slaves [] e);
+  every = All-nil (λ e. IsEvery slaves [] e);
   one_interval = no_pairs (λ e f. same_pair e f ≡ false);
-  net = record { few = omega arith; lines = nothing_at (λ l. IsNetLine slaves l); chaos = tt };
+  net = record { few = omega arith; lines = All-nil (λ l. IsNetLine slaves l); chaos = tt };
 }

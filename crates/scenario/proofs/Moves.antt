@@ -6,7 +6,6 @@ use Rattle.std.specs.Option.{option_to_list}
 use Rattle.std.specs.Result.{result_ok}
 use Rattle.std.specs.Str.{is_utf8}
 use Rattle.std.proofs.lemmas.Bool.{false≢true}
-use Rattle.std.proofs.lemmas.Bool.Decides.{nat_tests}
 use Rattle.std.proofs.lemmas.List.Elements.{filter-append, filter_map-append}
 use Rattle.text_lines.specs.Texts.{words, is_skipped}
 use Rattle.text_lines.proofs.Results.{bind_ok, moved}
@@ -15,7 +14,7 @@ use Rattle.text_lines.specs.declared.reasons.TextWhy.TheVariants as why
 use Rattle.slave_desc.specs.Items.{key_of, item_of}
 use Rattle.slave_desc.specs.Judging.{came, begins, why_key, refused_if, item_in, items_in}
 use Rattle.slave_desc.specs.Machine.{newer, longer, has, put, why_held, nothing}
-use Rattle.slave_desc.proofs.Held.{Holds, holds_nothing, key_in, holds_more, may_come, not_refused}
+use Rattle.slave_desc.proofs.Held.{Holds, holds_nothing, key_in, holds_more, may_come, not_refused, lengthened}
 use Rattle.slave_desc.proofs.Judged.{item_key, unless_ok, items_push}
 use Rattle.slave_desc.specs.declared.keys.Key.{Key}
 use Rattle.slave_desc.specs.declared.keys.Key.TheVariants as keys
@@ -43,6 +42,8 @@ use Rattle.scenario.specs.declared.link_words.Link.{Link}
 use Rattle.scenario.specs.declared.link_words.Link.TheVariants as link
 use Rattle.scenario.specs.declared.collected.Links.{Links}
 use Rattle.scenario.specs.declared.readers.Reader.{Reader}
+use Rattle.text_lines.proofs.NumberTests.{not_above}
+use Rattle.scenario.proofs.Refusing.{has_room}
 
 -- ---- the lines by section, and what they say, apart
 
@@ -88,10 +89,6 @@ came_push [] x = refl
 came_push (y ∷ ys) x = refl
 
 -- ---- the links with one more
-
-lengthened : {X : Type 0} (old : List X) (new : Option X) → old ++ cons_option new [] ≡ longer old new
-lengthened old None = append-nil old
-lengthened old (Some x) = refl
 
 listed : {X : Type 0} (f : Link → Option X) (all : List Link) (l : Link) → filter_map f (all ++ l ∷ []) ≡ longer (filter_map f all) (f l)
 listed f all l = filter_map-append f all (l ∷ []) ∙ lengthened (filter_map f all) (f l)
@@ -139,9 +136,6 @@ slave_key_is keys.Heartbeat = refl
 slave_key_is keys.Resolution = refl
 slave_key_is keys.Input = refl
 slave_key_is keys.Output = refl
-
-has_room : (n : ℕ) → leb 16 n ≡ false → n < 16
-has_room n e = grind (arith, nat_tests)
 
 second_none : (b : Bool) (w : TextWhy) (o : Option TextWhy) → cond b (Some w) o ≡ None → o ≡ None
 second_none true w o e = cc
@@ -371,9 +365,6 @@ closes_is keys.Heartbeat = refl
 closes_is keys.Resolution = refl
 closes_is keys.Input = refl
 closes_is keys.Output = refl
-
-not_above : (m n : ℕ) → ltb m n ≡ false → n ≤ m
-not_above m n e = grind (arith, nat_tests)
 
 act_by : (ls : List (List ℕ)) (r q t : Reader) (h : Stands ls r) (line w : List ℕ) (args : List (List ℕ)) → words line ≡ w ∷ args → is_skipped (w ∷ args) ≡ false → (key : AnyKey) → any_key w ≡ Some key → After ls r q (closes_block key) (section_of key) → r.section ≤ section_of key → act q key args ≡ Ok t → Stands (ls ++ line ∷ []) t
 act_by ls r q t h line w args said skip (any.Head key) k after up e = act_head ls r q t h line w args said skip key k after up e

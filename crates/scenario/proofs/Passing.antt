@@ -1,15 +1,13 @@
 -- What a line that passes shows.
-use Rattle.std.proofs.Common.{◌≡◌, ℕ, suc, ◌<◌, ◌≤◌, Bool, true, false, not, ◌&&◌, cond, eqb, ltb, leb, ◌⊎◌, inl, inr, List, [], ◌∷◌, length, Option, Some, None, Result, Ok, Err, is_some, refl, sym, ap, ◌∙◌, subst, arith}
+use Rattle.std.proofs.Common.{◌≡◌, ℕ, suc, ◌<◌, ◌≤◌, Bool, true, false, not, ◌&&◌, cond, eqb, ltb, leb, ◌⊎◌, inl, inr, List, [], ◌∷◌, length, Option, Some, None, is_some, refl, sym, ap, ◌∙◌, subst, arith}
 use Rattle.std.specs.List.{list_any}
-use Rattle.std.specs.Result.{result_ok}
 use Rattle.std.specs.Str.{is_utf8, bytes_eq}
 use Rattle.std.proofs.lemmas.Bool.{false≢true}
 use Rattle.std.proofs.lemmas.Bool.Decides.{nat_tests}
 use Rattle.text_lines.specs.Texts.{words, is_skipped}
-use Rattle.text_lines.specs.declared.reasons.TextWhy.{TextWhy}
 use Rattle.text_lines.specs.declared.reasons.TextWhy.TheVariants as why
 use Rattle.slave_desc.specs.Judging.{or_else, refused_if}
-use Rattle.slave_desc.proofs.Held.{not_refused, not_not}
+use Rattle.slave_desc.proofs.Held.{not_refused, not_not, none_first}
 use Rattle.slave_desc.specs.declared.items.Item.{Item}
 use Rattle.slave_desc.specs.declared.items.Item.TheVariants as items
 use Rattle.slave_desc.specs.declared.descriptions.SlaveDesc.{SlaveDesc}
@@ -17,7 +15,7 @@ use Rattle.scenario.specs.Keys.{any_key, section_of, closes_block}
 use Rattle.scenario.specs.Links.{outputs_at, inputs_at}
 use Rattle.scenario.specs.Checks.{type_at, same_input, changed_by, takes_at, parameters_now, why_change, why_link, setting_in, chaos_in}
 use Rattle.scenario.specs.Scenarios.{why_among}
-use Rattle.scenario.specs.Judging.{key_of_words, key_at, args_of, section_now, why_closes, why_order, bad, why_item_read, why_link_read, why_acts, why_keyed, why_words, why_line}
+use Rattle.scenario.specs.Judging.{key_of_words, key_at, args_of, section_now, why_closes, why_order, why_acts, why_keyed, why_words, why_line}
 use Rattle.scenario.specs.Grammar.{Fits, IsNew}
 use Rattle.scenario.specs.declared.keys.AnyKey.{AnyKey}
 use Rattle.scenario.specs.declared.heads.HeadItem.{HeadItem}
@@ -28,13 +26,8 @@ use Rattle.scenario.specs.declared.scenarios.Setting.{Setting}
 use Rattle.scenario.specs.declared.scenarios.Wire.{Wire}
 use Rattle.scenario.specs.declared.scenarios.Every.{Every}
 use Rattle.scenario.specs.declared.scenarios.Rerun.{Rerun}
-
-none_first : (a b : Option TextWhy) → or_else a b ≡ None → (a ≡ None) × (b ≡ None)
-none_first None b e = (refl, e)
-none_first (Some w) b e = cc
-
-not_above : (m n : ℕ) → ltb m n ≡ false → n ≤ m
-not_above m n e = grind (arith, nat_tests)
+use Rattle.text_lines.proofs.NumberTests.{equal_numbers, not_above, is_equal}
+use Rattle.scenario.proofs.Refusing.{first_none, none_refused}
 
 pub record PassedKey (before : List (List ℕ)) (l : List ℕ) : Type 0 where
   pub key : AnyKey
@@ -73,25 +66,6 @@ pub passed : (before : List (List ℕ)) (l : List ℕ) → why_line before l ≡
 passed before l e = passed_by before l (is_utf8 l) (is_skipped (words l)) refl refl e
 
 -- ---- what it says
-
-bad_none : {X : Type 0} (x : Result X TextWhy) → bad x ≡ None → is_some (result_ok x) ≡ true
-bad_none (Ok x) e = refl
-bad_none (Err w) e = cc
-
-item_none : (all : List Item) (head : List HeadItem) (slaves : List SlaveDesc) (x : Result Item TextWhy) → why_item_read all head slaves x ≡ None → is_some (result_ok x) ≡ true
-item_none all head slaves (Ok i) e = refl
-item_none all head slaves (Err w) e = cc
-
-link_none : (slaves : List SlaveDesc) (links : Links) (x : Result Link TextWhy) → why_link_read slaves links x ≡ None → is_some (result_ok x) ≡ true
-link_none slaves links (Ok l) e = refl
-link_none slaves links (Err w) e = cc
-
-first_none : (b : Bool) (w : TextWhy) (o : Option TextWhy) → cond b (Some w) o ≡ None → (b ≡ false) × (o ≡ None)
-first_none true w o e = cc
-first_none false w o e = (refl, e)
-
-equal_numbers : (m n : ℕ) → eqb m n ≡ true → m ≡ n
-equal_numbers m n e = grind (arith, nat_tests)
 
 below : (n : ℕ) → leb 64 n ≡ false → n < 64
 below n e = grind (arith, nat_tests)
@@ -136,14 +110,8 @@ fits_if slaves before (link.Every x) fresh e =
 fits_if slaves before (link.Net l) fresh e = below (length before.net.lines) (not_refused _ why.Limit e)
 fits_if slaves before (link.Chaos c) fresh e = none_of before.net.chaos (fresh refl)
 
-is_equal : (m n : ℕ) → m ≡ n → eqb m n ≡ true
-is_equal m n e = grind (arith, nat_tests)
-
 not_full : (n : ℕ) → n < 64 → leb 64 n ≡ false
 not_full n h = grind (arith, nat_tests)
-
-none_refused : (b : Bool) (w : TextWhy) → b ≡ false → refused_if b w ≡ None
-none_refused b w e = ap (λ (b : Bool). cond b (Some w) None) e
 
 takes_none : (slaves : List SlaveDesc) (before : Links) (x : Setting) → takes_at slaves x.slave (changed_by (parameters_now slaves before x.slave) x.slave x) ≡ true → why_change slaves before x ≡ None
 takes_none slaves before x e = none_refused _ why.Parameters (ap not e)

@@ -4,7 +4,6 @@ use Rattle.std.specs.List.{filter_map}
 use Rattle.std.specs.Option.{option_to_list}
 use Rattle.std.specs.Str.{is_utf8}
 use Rattle.std.proofs.lemmas.Bool.{false≢true}
-use Rattle.std.proofs.lemmas.Bool.Decides.{nat_tests}
 use Rattle.text_lines.specs.Texts.{words, is_skipped}
 use Rattle.text_lines.specs.Reasons.{◌>>=◌}
 use Rattle.text_lines.proofs.Results.{bind_ok, given_same, moved}
@@ -30,7 +29,7 @@ use Rattle.scenario.specs.Scenarios.{runs_said, why_head, why_slaves, why_among,
 use Rattle.scenario.specs.Machine.{close_head, close_block, close_slaves, closes, take_head, take_block, take_link, act, take_keyed, take_words, take_line}
 use Rattle.scenario.specs.Judging.{lines_in, section_now, head_said, group, blocks, last_of, front_of, slaves_of, slaves_said, links_said, when, why_block, why_closes, bad, why_item_read, why_link_read, why_acts, why_keyed, why_words, why_line}
 use Rattle.scenario.proofs.Groups.{last_is, front_is, AreSlaves, slaves_more, all_said}
-use Rattle.scenario.proofs.Kept.{head_same, last_closes}
+use Rattle.scenario.proofs.Kept.{head_same, last_closes, closed_with}
 use Rattle.scenario.specs.declared.keys.HeadKey.{HeadKey}
 use Rattle.scenario.specs.declared.keys.LinkKey.{LinkKey}
 use Rattle.scenario.specs.declared.keys.AnyKey.{AnyKey}
@@ -39,6 +38,8 @@ use Rattle.scenario.specs.declared.heads.HeadItem.{HeadItem}
 use Rattle.scenario.specs.declared.link_words.Link.{Link}
 use Rattle.scenario.specs.declared.collected.Links.{Links}
 use Rattle.scenario.specs.declared.readers.Reader.{Reader}
+use Rattle.text_lines.proofs.NumberTests.{equal_numbers, not_above}
+use Rattle.scenario.proofs.Refusing.{is_few}
 
 -- the open block holds what its lines say
 abbrev pub IsOpen : Option (List (List ℕ)) → Partial → Type 0
@@ -77,18 +78,6 @@ seq_bad : {A B : Type 0} (x : Result A TextWhy) (f : A → Result B TextWhy) (re
 seq_bad (Ok a) f rest h = h a refl
 seq_bad (Err w) f rest h = refl
 
-has_room : (n : ℕ) → leb 16 n ≡ false → n < 16
-has_room n e = grind (arith, nat_tests)
-
-is_below : (n : ℕ) → n < 16 → leb 16 n ≡ false
-is_below n h = grind (arith, nat_tests)
-
-not_above : (m n : ℕ) → ltb m n ≡ false → n ≤ m
-not_above m n e = grind (arith, nat_tests)
-
-equal_numbers : (m n : ℕ) → eqb m n ≡ true → m ≡ n
-equal_numbers m n e = grind (arith, nat_tests)
-
 and_false : (b : Bool) → (b && false) ≡ false
 and_false true = refl
 and_false false = refl
@@ -99,9 +88,6 @@ abbrev why_open : Option (List (List ℕ)) → Option TextWhy
 why_open None = None
 why_open (Some g) = why_end (items_in g)
 
-abbrev closed_with : Reader → SlaveDesc → Reader
-closed_with r d = record r { slaves = r.slaves ++ d ∷ []; block = nothing }
-
 abbrev finishing : Reader → Result Reader TextWhy
 finishing r = block.finished r.block >>= λ d. Ok (closed_with r d)
 
@@ -111,7 +97,7 @@ unnamed_same r e = ap (λ b. cond b (unless (refused_if (leb 16 (length r.slaves
 named_same : (r : Reader) → is_some r.block.name ≡ true → length r.slaves < 16 → close_block r ≡ finishing r
 named_same r e room =
     ap (λ b. cond b (unless (refused_if (leb 16 (length r.slaves)) why.Limit) (finishing r)) (Ok r)) e
-    ∙ ap (λ b. unless (refused_if b why.Limit) (finishing r)) (is_below (length r.slaves) room)
+    ∙ ap (λ b. unless (refused_if b why.Limit) (finishing r)) (is_few (length r.slaves) room)
 
 end_bad : (g : List (List ℕ)) (p : Partial) (x : Result SlaveDesc TextWhy) → Holds (items_in g) p → block.finished p ≡ x → bad x ≡ why_end (items_in g)
 end_bad g p (Ok d) h e = sym (end_none (items_in g) d (end_ok (items_in g) p h d e))

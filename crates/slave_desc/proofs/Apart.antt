@@ -29,6 +29,7 @@ use Rattle.slave_desc.specs.declared.keys.Key.{Key}
 use Rattle.slave_desc.specs.declared.items.Item.{Item}
 use Rattle.slave_desc.specs.declared.items.Item.TheVariants as items
 use Rattle.slave_desc.specs.declared.descriptions.SlaveDesc.{SlaveDesc}
+use Rattle.text_lines.proofs.NumberTests.{equal_numbers}
 
 -- a value before, and one here: two
 some_length : {X : Type 0} (xs : List X) → came xs ≡ true → 1 ≤ length xs
@@ -67,9 +68,6 @@ left_or_right : (again b : Bool) (v v' w : TextWhy) → cond again (Some v) (ref
 left_or_right true b v v' w e = inl refl
 left_or_right false true v v' w e = inr refl
 left_or_right false false v v' w e = cc
-
-equal_numbers : (m n : ℕ) → eqb m n ≡ true → m ≡ n
-equal_numbers m n e = grind (arith, nat_tests)
 
 -- a port that is refused stands in no list of at most eight ports apart
 no_port : (before after : List Port) (q : Port) (w : TextWhy) → AreApart (before ++ q ∷ after) → length (before ++ q ∷ after) ≤ 8 → why_port before q ≡ Some w → ⊥

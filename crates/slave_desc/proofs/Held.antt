@@ -78,7 +78,7 @@ joined (Some y) (Some x) fresh = absurd (false≢true (sym (fresh refl)))
 grown : {X : Type 0} (f : Item → Option X) (all : List Item) (i : Item) (old : Option X) → filter_map f all ≡ option_to_list old → (is_some (f i) ≡ true → is_some old ≡ false) → filter_map f (all ++ i ∷ []) ≡ option_to_list (newer old (f i))
 grown f all i old h fresh = filter_map-append f all (i ∷ []) ∙ ap (λ l. l ++ cons_option (f i) []) h ∙ joined old (f i) fresh
 
-lengthened : {X : Type 0} (old : List X) (new : Option X) → old ++ cons_option new [] ≡ longer old new
+pub lengthened : {X : Type 0} (old : List X) (new : Option X) → old ++ cons_option new [] ≡ longer old new
 lengthened old None = append-nil _
 lengthened old (Some x) = refl
 
@@ -120,7 +120,7 @@ pub not_refused : (b : Bool) (w : TextWhy) → refused_if b w ≡ None → b ≡
 not_refused true w e = absurd (false≢true (sym (ap is_some e)))
 not_refused false w e = refl
 
-none_first : (a b : Option TextWhy) → or_else a b ≡ None → (a ≡ None) × (b ≡ None)
+pub none_first : (a b : Option TextWhy) → or_else a b ≡ None → (a ≡ None) × (b ≡ None)
 none_first None b e = (refl, e)
 none_first (Some w) b e = absurd (false≢true (sym (ap is_some e)))
 

@@ -12,12 +12,10 @@ use Rattle.text_lines.specs.declared.reasons.TextWhy.{TextWhy}
 use Rattle.text_lines.specs.declared.reasons.TextWhy.TheVariants.{BadUuid}
 use Rattle.text_lines.proofs.PlainWords.{and_both}
 use Rattle.text_lines.proofs.Results.{bind_ok, some_ok}
+use Rattle.text_lines.proofs.NumberTests.{equal_numbers}
 
 hex_small : (c : ℕ) → is_hex_digit c ≡ true → value_of c < 16
 hex_small c e = grind (arith, nat_tests)
-
-equal_numbers : (m n : ℕ) → eqb m n ≡ true → m ≡ n
-equal_numbers m n e = grind (arith, nat_tests)
 
 abbrev HasBytes : List ℕ → Type 0
 HasBytes bytes = (i : ℕ) → i < 16 → slice_index bytes i < 256

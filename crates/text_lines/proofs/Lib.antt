@@ -2,6 +2,7 @@ pub mod Digits
 pub mod LineLemmas
 pub mod NameLemmas
 pub mod Results
+pub mod NumberTests
 pub mod Runs
 pub mod PlainWords
 pub mod NumberWords

@@ -2,7 +2,8 @@ use Rattle.std.proofs.Common.{◌≡◌, ◌≤◌, List, length, sym, ◌∙◌
 use Rattle.std.proofs.lemmas.List.{at_drop_all}
 use Rattle.scenario.specs.declared.scenarios.Setting.{Setting}
 use Rattle.scenario.specs.Checks.{changed}
-use Rattle.lockstep.proofs.Due.{due, changed-append}
+use Rattle.scenario.proofs.LinkSets.{changed-append}
+use Rattle.lockstep.proofs.Due.{due}
 use Rattle.lockstep.proofs.settings.parameters.Goals as goal
 
 pub loop-rerun-init : goal.loop-rerun-init
