@@ -1,5 +1,5 @@
 -- Numbers and their bytes.
-use Rattle.std.proofs.Common.{◌≡◌, ℕ, zero, suc, ◌+◌, ◌-◌, ◌*◌, ◌/◌, ◌%◌, ◌^◌, ◌<◌, List, [], ◌∷◌, ◌++◌, length, get_or, take, drop, reverse, refl, ap, ◌∙◌, arith}
+use Rattle.std.proofs.Common.{◌≡◌, ℕ, zero, suc, ◌+◌, ◌-◌, ◌*◌, ◌/◌, ◌%◌, ◌^◌, ◌<◌, List, [], ◌∷◌, ◌++◌, length, take, drop, reverse, refl, ap, ◌∙◌, arith}
 use Rattle.std.proofs.lemmas.List.{length-reverse, get_or-drop, get_or-take, get_or_past, get_or-reverse, length-take, reverse-append}
 use Rattle.std.proofs.lemmas.Bool.{cases_lt}
 use Rattle.std.proofs.Common.{inl, inr}
@@ -7,9 +7,7 @@ use Rattle.std.proofs.Math.Nat.{pow-suc}
 use Rattle.dcp_types.specs.Values.{digits}
 use Rattle.byteorder.specs.Endian.{little_from, big_from}
 use Rattle.byteorder.specs.Numbers.{little_from-cons, big_from-cons}
-
-abbrev pub IsBytes : List ℕ → Type 0
-IsBytes bytes = (i : ℕ) → get_or bytes i 0 < 256
+use Rattle.dcp_types.proofs.Digits.{IsBytes}
 
 -- the number in these bytes, the lowest first
 abbrev pub number : List ℕ → ℕ

@@ -13,7 +13,8 @@ use Rattle.pdu_codec.specs.Refusals.{IsSpelling, NextIsIn, Refusal}
 use Rattle.pdu_codec.proofs.Values.{length-bytes_of}
 use Rattle.pdu_codec.proofs.Suffix.{same_cut}
 use Rattle.pdu_codec.proofs.Walk.{rest_is_last, row_passes, sized_or_rest}
-use Rattle.pdu_codec.proofs.OneSpelling.{rest_after, same_kinds}
+use Rattle.pdu_codec.proofs.OneSpelling.{rest_after}
+use Rattle.pdu_layout.proofs.Spellings.{same_kinds}
 
 pub one_place : (b : List ℕ) (m n : ℕ) (v w : DecodeWhy) → Refusal b m v → Refusal b n w → m ≡ n
 one_place b m n v w r s =

@@ -1,5 +1,5 @@
 -- No two messages have the same bytes.
-use Rattle.std.proofs.Common.{◌≡◌, ℕ, inl, inr, List, [], ◌∷◌, length, get_or, drop, reverse, refl, sym, ap, subst, ◌∙◌, arith, Option, Some}
+use Rattle.std.proofs.Common.{◌≡◌, ℕ, inl, inr, List, [], ◌∷◌, length, get_or, drop, reverse, refl, sym, ap, subst, ◌∙◌, arith, Some}
 use Rattle.std.specs.Prelude.{ℤ}
 use Rattle.std.proofs.lemmas.List.{reverse-reverse, append-nil}
 use Rattle.dcp_types.specs.Values.{digits}
@@ -19,6 +19,7 @@ use Rattle.pdu_codec.proofs.Walk.{rest_is_last, row_passes, sized_or_rest}
 use Rattle.std.proofs.Common.{true}
 use Rattle.std.proofs.lemmas.Bool.{and_parts}
 use Rattle.std.proofs.Common.{ltb}
+use Rattle.pdu_layout.proofs.Spellings.{same_kinds}
 
 number_once : (k : FieldKind) (t m n : ℕ) → Fits k t (Number m) → Fits k t (Number n) → bytes_of k t (Number m) ≡ bytes_of k t (Number n) → m ≡ n
 number_once U8 t m n f g e = same_number 1 m n f g e
@@ -120,9 +121,6 @@ values_once (k ∷ ks) t (v ∷ vs) (w ∷ ws) r f g e =
       | inl s ↦ sized_once k ks t v w vs ws s (λ u a b c. values_once ks u vs ws (rest_after k ks s r) a b c) f g e
       | inr is ↦ subst (λ (j : FieldKind). rest_is_last (j ∷ ks) ≡ true → FitEach (j ∷ ks) t (v ∷ vs) → FitEach (j ∷ ks) t (w ∷ ws) → spelled (j ∷ ks) t (v ∷ vs) ≡ spelled (j ∷ ks) t (w ∷ ws) → v ∷ vs ≡ w ∷ ws) (sym is) (rest_once ks t v w vs ws) r f g e
     ]
-
-pub same_kinds : (x y : List FieldKind) (o : Option (List FieldKind)) → o ≡ Some x → o ≡ Some y → x ≡ y
-same_kinds x y o e f = cc
 
 pub one_message : (p q : Message) (b : List ℕ) → Spells p b → Spells q b → p ≡ q
 one_message p q b s u =

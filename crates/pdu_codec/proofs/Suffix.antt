@@ -14,8 +14,8 @@ use Rattle.dcp_types.specs.Values as values
 use Rattle.pdu_layout.specs.Fields.{type_from, width, limit, Fits, bytes_of, type_after, spelled, FitEach, kind_at, FieldValue}
 use Rattle.pdu_layout.specs.Fields.FieldValue.{Number, Signed, Bytes}
 use Rattle.pdu_codec.specs.Pieces.{IsPiece, Holds, IsSized}
-use Rattle.pdu_codec.proofs.Digits.{IsBytes, IsBytes-take}
-use Rattle.dcp_types.proofs.Digits.{length-digits}
+use Rattle.pdu_codec.proofs.Digits.{IsBytes-take}
+use Rattle.dcp_types.proofs.Digits.{length-digits, IsBytes}
 use Rattle.pdu_codec.proofs.Values.{width-below, zero_fits, length-bytes_of, value_in, holds}
 
 -- Values of the fields whose bytes begin with x, and are at most m.
@@ -281,7 +281,7 @@ next_here k ks t m s one room =
 
 bad_refused : (k : FieldKind) (ks : List FieldKind) (t m c : ℕ) (r : List ℕ) (why : DecodeWhy) → IsSized k → width k t ≡ 1 → ((v : FieldValue) → Fits k t v → bytes_of k t v ≡ c ∷ [] → ⊥) → 16 * length (k ∷ ks) ≤ m → Why (k ∷ ks) t m (c ∷ r) 0 why → Refused (k ∷ ks) t m (c ∷ r) 0 why
 bad_refused k ks t m c r why s one none room w = record {
-  unspelled = λ b. let f = begun_first k ks t m c r one s (record { values = b.values; more = []; fits = b.fits; bytes = append-nil (c ∷ r) ∙ b.bytes; at_most = omega (arith, b.at_most, append-nil (c ∷ r), ap length (append-nil (c ∷ r))) }) in none f.0 f.1 f.2;
+  unspelled = λ b. let f = begun_first k ks t m c r one s (record { values = b.values; more = []; fits = b.fits; bytes = append-nil (c ∷ r) ∙ b.bytes; at_most = omega (arith, b.at_most, ap length (append-nil (c ∷ r))) }) in none f.0 f.1 f.2;
   within = omega arith;
   begun = begun_nothing (k ∷ ks) t m room;
   longest = λ n above below b. at_front n above b;

@@ -11,14 +11,13 @@ use Rattle.std.specs.Prelude.{IsTrue}
 use Rattle.std.proofs.lemmas.Bool.Decides.{nat_tests}
 use Rattle.dcp_types.specs.declared.data_types.DataType.{DataType}
 use Rattle.dcp_types.specs.declared.data_types.DataType.TheVariants as types
-use Rattle.dcp_types.specs.Codes.{type_code}
 use Rattle.dcp_types.specs.Values as values
 use Rattle.dcp_types.specs.Values.{fits, value_bytes}
 use Rattle.dcp_types.proofs.Residues.{value_of}
 use Rattle.pdu_codec.specs.Pieces.{IsPiece, Holds, IsSized}
 use Rattle.pdu_codec.proofs.Digits.{number}
-use Rattle.pdu_codec.proofs.Digits.{IsBytes, IsBytes-reverse, digits-number, number_below}
-use Rattle.dcp_types.proofs.Digits.{length-digits}
+use Rattle.pdu_codec.proofs.Digits.{IsBytes-reverse, digits-number, number_below}
+use Rattle.dcp_types.proofs.Digits.{length-digits, IsBytes}
 
 pub length-bytes_of : (k : FieldKind) (t : ℕ) (v : FieldValue) → IsSized k → Fits k t v → length (bytes_of k t v) ≡ width k t
 length-bytes_of Uuid t (Number n) s f = rw length-reverse (length-digits 16 n)
@@ -49,16 +48,6 @@ residue-value_of types.I8 n lt = grind (arith, nat_tests)
 residue-value_of types.I16 n lt = grind (arith, nat_tests)
 residue-value_of types.I32 n lt = grind (arith, nat_tests)
 residue-value_of types.I64 n lt = grind (arith, nat_tests)
-
-pub type_from-code : (kind : DataType) → type_from (type_code kind) ≡ kind
-type_from-code types.U8 = refl
-type_from-code types.U16 = refl
-type_from-code types.U32 = refl
-type_from-code types.U64 = refl
-type_from-code types.I8 = refl
-type_from-code types.I16 = refl
-type_from-code types.I32 = refl
-type_from-code types.I64 = refl
 
 type_width : (kind : DataType) → values.width kind ≤ 8
 type_width types.U8 = omega arith

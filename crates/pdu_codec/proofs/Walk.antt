@@ -13,10 +13,11 @@ use Rattle.pdu_layout.specs.Table.{kinds_of, kinds_in, Row, table, row_in, kinds
 use Rattle.pdu_layout.specs.Fields.{width, type_after}
 use Rattle.pdu_codec.specs.Refusals.{Refusal}
 use Rattle.pdu_codec.specs.Pieces.{AreEnds, IsPiece, IsSized, FieldFault}
-use Rattle.pdu_codec.proofs.Digits.{IsBytes, IsBytes-drop, IsBytes-take}
+use Rattle.pdu_codec.proofs.Digits.{IsBytes-drop, IsBytes-take}
 use Rattle.pdu_codec.proofs.Values.{value_in, holds}
 use Rattle.pdu_codec.proofs.Suffix.{Spelled, Refused, refused_after, short_refused, bad_state_refused, bad_type_refused, long_refused, too_long_refused, width-at_most}
 use Rattle.pdu_codec.proofs.Whole.{refusal_from}
+use Rattle.dcp_types.proofs.Digits.{IsBytes}
 
 -- ---- what holds of each row of the table
 

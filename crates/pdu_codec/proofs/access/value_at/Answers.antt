@@ -2,7 +2,7 @@ use Rattle.std.proofs.Common.{sym, ap, ◌∙◌, length}
 use Rattle.std.proofs.Common.{ℕ}
 use Rattle.dcp_types.specs.Values.{width}
 use Rattle.pdu_layout.specs.Fields.{type_from}
-use Rattle.pdu_codec.proofs.Values.{type_from-code}
+use Rattle.pdu_layout.proofs.Contents.{type_from-code}
 use Rattle.pdu_codec.proofs.Places.{value_is}
 use Rattle.pdu_codec.proofs.access.value_at.Goals as goal
 

@@ -9,7 +9,7 @@ use Rattle.std.specs.Prelude.{ℤ, List, IsTrue}
 use Rattle.pdu_layout.specs.Fields.FieldValue.{Signed}
 use Rattle.pdu_layout.specs.declared.fields.FieldKind.TheVariants as kinds
 use Rattle.pdu_codec.specs.Pieces.{Holds}
-use Rattle.pdu_codec.proofs.Values.{type_from-code}
+use Rattle.pdu_layout.proofs.Contents.{type_from-code}
 use Rattle.pdu_codec.proofs.leaves.value_of.Goals as goal
 
 held : (kind : DataType) (z : ℤ) (x : List ℕ) (t : ℕ) → IsTrue (fits kind z) → value_bytes kind z ≡ x → t ≡ type_code kind → Holds kinds.Value t (Signed z) x
