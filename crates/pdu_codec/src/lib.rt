@@ -15,6 +15,7 @@ mod laws;
 mod leaves;
 mod notices;
 mod questions;
+mod reading;
 mod state_requests;
 mod walker;
 
@@ -22,6 +23,7 @@ pub use decoding::decode;
 pub use encoding::{encode, put_message};
 pub use faults::{DecodeFault, DecodeWhy};
 pub use laws::{refusals_are_unique, spellings_are_one_to_one, written_and_read};
+pub use reading::read;
 
 #[cfg(test)]
 mod tests;

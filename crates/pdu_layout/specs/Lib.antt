@@ -3,3 +3,4 @@ pub mod Table
 pub mod Message
 pub mod Parts
 pub mod Ranges
+pub mod Reading
