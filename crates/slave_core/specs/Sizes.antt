@@ -1,0 +1,10 @@
+-- Messages that are to be sent have 1 to 1,024 bytes.
+use Rattle.std.specs.Prelude.{ℕ, ◌≤◌, List, length, All}
+use Rattle.dcp_ends.specs.Events.{Send}
+
+pub record IsSized (bytes : List ℕ) : Type 0 where
+  pub low : 1 ≤ length bytes
+  pub high : length bytes ≤ 1024
+
+abbrev pub AreSized : List Send → Type 0
+AreSized sends = All (λ s. IsSized s.bytes) sends
