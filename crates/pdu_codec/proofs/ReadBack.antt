@@ -1,5 +1,5 @@
 -- The message in bytes is the one that they spell.
-use Rattle.std.proofs.Common.{◌≡◌, ℕ, zero, suc, ◌+◌, ◌-◌, ◌*◌, ◌/◌, ◌%◌, ◌^◌, ◌<◌, ◌≤◌, nat_lt, nat_le, Bool, true, false, ◌&&◌, List, [], ◌∷◌, ◌++◌, length, take, drop, get_or, reverse, Option, Some, None, refl, ap, sym, subst, ◌∙◌, inl, inr, arith, append-nil, length-append, if◌then◌else◌}
+use Rattle.std.proofs.Common.{◌≡◌, ℕ, zero, suc, ◌+◌, ◌*◌, ◌/◌, ◌%◌, ◌^◌, ◌<◌, ◌≤◌, nat_lt, nat_le, Bool, true, false, ◌&&◌, List, [], ◌∷◌, ◌++◌, length, take, drop, get_or, reverse, Option, Some, None, refl, ap, sym, subst, ◌∙◌, inl, inr, arith, append-nil, length-append, if◌then◌else◌}
 use Rattle.std.specs.Prelude.{ℤ, option_map, IsTrue}
 use Rattle.std.specs.List.{list_all}
 use Rattle.std.proofs.Math.Seq.{take-append_seam, drop-append_seam}
@@ -10,7 +10,7 @@ use Rattle.dcp_types.specs.declared.data_types.DataType.{DataType}
 use Rattle.dcp_types.specs.declared.data_types.DataType.TheVariants as types
 use Rattle.dcp_types.specs.Values as values
 use Rattle.dcp_types.specs.Values.{digits, residue, fits, value_bytes}
-use Rattle.dcp_types.proofs.Digits.{IsBytes, length-digits}
+use Rattle.dcp_types.proofs.Digits.{IsBytes}
 use Rattle.dcp_types.proofs.Residues.{value_of, value_of-residue, residue_below}
 use Rattle.pdu_layout.specs.declared.fields.FieldKind.{FieldKind}
 use Rattle.pdu_layout.specs.declared.fields.FieldKind.TheVariants.{U8, U16, U32, U64, I64, StateCode, TypeCode, Value, Uuid, Ip, Rest}
@@ -119,7 +119,7 @@ fields_read (k ∷ ks) t (v ∷ vs) r f =
       | inr is ↦ subst (λ (j : FieldKind). rest_is_last (j ∷ ks) ≡ true → FitEach (j ∷ ks) t (v ∷ vs) → fields_in (j ∷ ks) t (spelled (j ∷ ks) t (v ∷ vs)) ≡ Some (v ∷ vs)) (sym is) (rest_read ks t v vs) r f
     ]
 
-all_bytes : (x : List ℕ) → IsBytes x → list_all (λ b. nat_lt b 256) x ≡ true
+pub all_bytes : (x : List ℕ) → IsBytes x → list_all (λ b. nat_lt b 256) x ≡ true
 all_bytes [] h = refl
 all_bytes (b ∷ x) h = rw (lt-ltb b 256 (h 0), all_bytes x (IsBytes-tail b x h)) refl
 
@@ -135,7 +135,7 @@ read_back m b h s =
 
 -- ---- what is read is spelled
 
-cond_some : {A : Type 0} → (b : Bool) (o : Option A) (v : A) → (if b then o else None) ≡ Some v → (b ≡ true) × (o ≡ Some v)
+pub cond_some : {A : Type 0} → (b : Bool) (o : Option A) (v : A) → (if b then o else None) ≡ Some v → (b ≡ true) × (o ≡ Some v)
 cond_some true o v e = (refl, e)
 cond_some false o v e = absurd cc
 

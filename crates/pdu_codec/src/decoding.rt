@@ -1,7 +1,8 @@
 //! Reading a message from its bytes.
 
-ghost use Rattle.std.specs.Prelude.{◌≡◌, IfOk, IfErr};
+ghost use Rattle.std.specs.Prelude.{◌≡◌, IfOk, IfErr, MatchResult, Some, None};
 ghost use Rattle.pdu_layout.specs.Message.{Spells, message_of};
+ghost use Rattle.pdu_layout.specs.Reading.{message_in};
 ghost use Rattle.pdu_codec.specs.Refusals.{Refusal};
 
 use crate::answers::read_answer;
@@ -22,6 +23,7 @@ use pdu_layout::Pdu;
 pub fn decode(bytes: &[u8]) -> Result<Pdu<'_>, DecodeFault>
     ensures ok { IfOk result (λ p. Spells (message_of p) bytes.now) }
     ensures err { IfErr result (λ fault. Refusal bytes.now fault.at fault.why) }
+    ensures told { MatchResult result (λ p. message_in bytes.now ≡ Some (message_of p)) (λ fault. message_in bytes.now ≡ None) }
 {
     if bytes.is_empty() {
         return Err(DecodeFault {

@@ -8,6 +8,7 @@ ghost use Rattle.pdu_layout.specs.Fields.{width, limit, Fits, bytes_of, spelled}
 ghost use Rattle.pdu_layout.specs.Fields.FieldValue.{Number, Signed, Bytes};
 ghost use Rattle.pdu_layout.specs.Table.{kinds_of};
 ghost use Rattle.pdu_layout.specs.Message.{message_of, Spells, HasSpelling};
+ghost use Rattle.pdu_layout.specs.Reading.{spelling};
 ghost use Rattle.pdu_layout.specs.Parts.{value_of};
 ghost use Rattle.pdu_layout.specs.Ranges.{Fill};
 
@@ -182,6 +183,7 @@ pub fn encode(pdu: &Pdu<'_>, room: &mut [u8; 1024]) -> usize
     requires { HasSpelling (message_of pdu.now) }
     ensures at_most { result ≤ 1024 }
     ensures spelled { Spells (message_of pdu.now) (take result room.new) }
+    ensures told { take result room.new ≡ spelling (message_of pdu.now) }
     ensures rest { drop result room.new ≡ drop result room.old }
 {
     let parts = parts_of(pdu);

@@ -2,7 +2,7 @@
 
 ghost use Rattle.std.specs.Prelude.{◌≡◌, IfOk, IfErr};
 ghost use Rattle.pdu_layout.specs.Message.{message_of, HasSpelling};
-ghost use Rattle.pdu_codec.specs.Laws.{OneToOne, OneRefusal};
+ghost use Rattle.pdu_codec.specs.Laws.{OneToOne, OneRefusal, ReadAsSpelled, SpelledOnce, SpellingSpells};
 
 use crate::decoding::decode;
 use crate::encoding::encode;
@@ -17,6 +17,17 @@ pub fn spellings_are_one_to_one()
 /// Bytes that are no message have one refusal: one place and one cause.
 pub fn refusals_are_unique()
     ensures { OneRefusal }
+{}
+
+/// What bytes say as a function of them is what they spell, where they spell anything, and nothing elsewhere.
+pub fn bytes_say_what_they_spell()
+    ensures { ReadAsSpelled }
+{}
+
+/// The spelling as a function of the message is the one list of bytes that spells it.
+pub fn messages_have_one_spelling()
+    ensures once { SpelledOnce }
+    ensures spells { SpellingSpells }
 {}
 
 /// Writes a message into the room and reads it back: it is the same message.

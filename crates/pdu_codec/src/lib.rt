@@ -22,7 +22,10 @@ mod walker;
 pub use decoding::decode;
 pub use encoding::{encode, put_message};
 pub use faults::{DecodeFault, DecodeWhy};
-pub use laws::{refusals_are_unique, spellings_are_one_to_one, written_and_read};
+pub use laws::{
+    bytes_say_what_they_spell, messages_have_one_spelling, refusals_are_unique,
+    spellings_are_one_to_one, written_and_read,
+};
 pub use reading::read;
 
 #[cfg(test)]

@@ -11,8 +11,5 @@ use pdu_layout::Pdu;
 pub fn read(bytes: &[u8]) -> Option<Pdu<'_>>
     ensures { MatchOption result (message_in bytes.now ≡ None) (λ p. message_in bytes.now ≡ Some (message_of p)) }
 {
-    match decode(bytes) {
-        Ok(message) => Some(message),
-        Err(_) => None,
-    }
+    decode(bytes).ok()
 }
