@@ -1,0 +1,4 @@
+pub mod Nets
+pub mod Waits
+pub mod Firsts
+pub mod Scripts
