@@ -1,0 +1,16 @@
+use Rattle.std.proofs.Common.{◌-◌, ◌≤◌, take, length, IsTrue}
+use Rattle.dcp_ends.specs.Logs.{sent_by}
+use Rattle.rounds.specs.Steps.{Added}
+use Rattle.rounds.proofs.one_end.send_outgoing.Given as goal
+
+abbrev pub invariant-sends : goal.invariant-sends
+invariant-sends g l =
+    record {
+      in_range : l.i ≤ length (g.E.Seat.outs l.end);
+      is_open : IsTrue (g.N.Net.is_open l.net);
+      added : Added g.N.Net.calls l.fn.net l.net l.fn.log.items l.log.items (sent_by (g.E.Seat.rules l.end).place (take l.i (g.E.Seat.outs l.end)));
+      later : g.N.Net.count l.fn.net ≤ g.N.Net.count l.net;
+    }
+
+abbrev pub decreases-sends : goal.decreases-sends
+decreases-sends g l = length (g.E.Seat.outs l.end) - l.i

@@ -1,0 +1,239 @@
+//! A round of several ends: each is looked at for its datagrams, and then each has its turn.
+
+ghost use Rattle.std.specs.Prelude.{◌≡◌, ◌≤◌, ◌<◌, ◌^◌, [], ◌∷◌, length, map, IsTrue, OnOk, OnErr, IfOk, IfSome, List, ℕ};
+ghost use Rattle.std.specs.List.{All};
+ghost use Rattle.std.specs.Option.{option_map};
+ghost use Rattle.dcp_ends.specs.Events.{Rules};
+ghost use Rattle.dcp_ends.specs.declared.entries.LogEntry.{LogEntry};
+ghost use Rattle.rounds.specs.Steps.{Added, Caused, Part};
+ghost use Rattle.rounds.specs.Rounds.{IsLook, IsLookPart, IsTurn, IsTurnPart, Each, EachPart, IfFirst, IsLooks, IsLooksPart, IsTurns, IsTurnsPart, IsRound, IsRoundPart, hosted, has_report, places_of};
+ghost use Rattle.rounds.specs.Told.{IsTold, IsCut, AllTold, AllCut, Apart};
+
+use crate::one_end::{HostFault, look, turn};
+use crate::rooms::Room;
+use crate::seats::Seat;
+use dcp_ends::LogEntry;
+use dcp_net::Net;
+use std::alloc::Global;
+
+/// Looks at each of these ends, in order.
+fn look_each<E: Seat, N: Net>(
+    alloc: Global,
+    ends: &mut [E],
+    net: &mut N,
+    log: &mut Vec<LogEntry>,
+    room: &mut Room,
+) -> Result<(), HostFault>
+    requires is_open { IsTrue (N.is_open net.old) }
+    requires apart { Apart (map E.rules ends.old) }
+    requires quiet { All (λ end. E.outs end ≡ []) ends.old }
+    requires told { AllTold E.stands E.rules ends.old log.old.items }
+    ensures is_open { IsTrue (N.is_open net.new) }
+    ensures rules { map E.rules ends.new ≡ map E.rules ends.old }
+    ensures quiet { OnOk result (All (λ end. E.outs end ≡ []) ends.new) }
+    ensures told { OnOk result (AllTold E.stands E.rules ends.new log.new.items) }
+    ensures cut { OnErr result (AllCut E.stands E.rules ends.new log.new.items) }
+    ensures ok { OnOk result (Part N.calls (Each IsLook (places_of (map E.rules ends.old))) net.old net.new log.old.items log.new.items) }
+    ensures err { OnErr result (Part N.calls (EachPart IsLook IsLookPart (places_of (map E.rules ends.old))) net.old net.new log.old.items log.new.items) }
+    ensures cause { Caused (N.count net.old) (N.count net.new) result }
+{
+    for end in ends.iter_mut() {
+        look(alloc, end, net, log, room)?;
+    }
+    Ok(())
+}
+
+/// Gives each of these ends its turn, in order.
+fn turn_each<E: Seat, N: Net>(
+    alloc: Global,
+    ends: &mut [E],
+    net: &mut N,
+    log: &mut Vec<LogEntry>,
+) -> Result<(), HostFault>
+    requires is_open { IsTrue (N.is_open net.old) }
+    requires apart { Apart (map E.rules ends.old) }
+    requires quiet { All (λ end. E.outs end ≡ []) ends.old }
+    requires told { AllTold E.stands E.rules ends.old log.old.items }
+    ensures is_open { IsTrue (N.is_open net.new) }
+    ensures rules { map E.rules ends.new ≡ map E.rules ends.old }
+    ensures quiet { OnOk result (All (λ end. E.outs end ≡ []) ends.new) }
+    ensures told { OnOk result (AllTold E.stands E.rules ends.new log.new.items) }
+    ensures cut { OnErr result (AllCut E.stands E.rules ends.new log.new.items) }
+    ensures ok { OnOk result (Part N.calls (Each IsTurn (places_of (map E.rules ends.old))) net.old net.new log.old.items log.new.items) }
+    ensures err { OnErr result (Part N.calls (EachPart IsTurn IsTurnPart (places_of (map E.rules ends.old))) net.old net.new log.old.items log.new.items) }
+    ensures cause { Caused (N.count net.old) (N.count net.new) result }
+{
+    for end in ends.iter_mut() {
+        turn(alloc, end, net, log)?;
+    }
+    Ok(())
+}
+
+/// Looks at the first end, where there is one.
+fn look_first<E: Seat, N: Net>(
+    alloc: Global,
+    first: &mut Option<E>,
+    net: &mut N,
+    log: &mut Vec<LogEntry>,
+    room: &mut Room,
+) -> Result<(), HostFault>
+    requires is_open { IsTrue (N.is_open net.old) }
+    requires quiet { IfSome first.old (λ end. E.outs end ≡ []) }
+    requires told { IfSome first.old (λ end. IsTold E.stands (E.rules end) end log.old.items) }
+    ensures is_open { IsTrue (N.is_open net.new) }
+    ensures rules { option_map E.rules first.new ≡ option_map E.rules first.old }
+    ensures quiet { OnOk result (IfSome first.new (λ end. E.outs end ≡ [])) }
+    ensures told { OnOk result (IfSome first.new (λ end. IsTold E.stands (E.rules end) end log.new.items)) }
+    ensures cut { OnErr result (IfSome first.new (λ end. IsCut E.stands (E.rules end) end log.new.items)) }
+    ensures ok { OnOk result (Part N.calls (IfFirst IsLook (option_map E.rules first.old)) net.old net.new log.old.items log.new.items) }
+    ensures err { OnErr result (Part N.calls (IfFirst IsLookPart (option_map E.rules first.old)) net.old net.new log.old.items log.new.items) }
+    ensures cause { Caused (N.count net.old) (N.count net.new) result }
+{
+    let Some(end) = first else {
+        return Ok(());
+    };
+    look(alloc, end, net, log, room)?;
+    Ok(())
+}
+
+/// Gives the first end its turn, where there is one.
+fn turn_first<E: Seat, N: Net>(
+    alloc: Global,
+    first: &mut Option<E>,
+    net: &mut N,
+    log: &mut Vec<LogEntry>,
+) -> Result<(), HostFault>
+    requires is_open { IsTrue (N.is_open net.old) }
+    requires quiet { IfSome first.old (λ end. E.outs end ≡ []) }
+    requires told { IfSome first.old (λ end. IsTold E.stands (E.rules end) end log.old.items) }
+    ensures is_open { IsTrue (N.is_open net.new) }
+    ensures rules { option_map E.rules first.new ≡ option_map E.rules first.old }
+    ensures quiet { OnOk result (IfSome first.new (λ end. E.outs end ≡ [])) }
+    ensures told { OnOk result (IfSome first.new (λ end. IsTold E.stands (E.rules end) end log.new.items)) }
+    ensures cut { OnErr result (IfSome first.new (λ end. IsCut E.stands (E.rules end) end log.new.items)) }
+    ensures ok { OnOk result (Part N.calls (IfFirst IsTurn (option_map E.rules first.old)) net.old net.new log.old.items log.new.items) }
+    ensures err { OnErr result (Part N.calls (IfFirst IsTurnPart (option_map E.rules first.old)) net.old net.new log.old.items log.new.items) }
+    ensures cause { Caused (N.count net.old) (N.count net.new) result }
+{
+    let Some(end) = first else {
+        return Ok(());
+    };
+    turn(alloc, end, net, log)?;
+    Ok(())
+}
+
+/// Looks at the master, where it is hosted, and then at each slave.
+fn look_all<M: Seat, S: Seat, N: Net>(
+    alloc: Global,
+    master: &mut Option<M>,
+    slaves: &mut [S],
+    net: &mut N,
+    log: &mut Vec<LogEntry>,
+    room: &mut Room,
+) -> Result<(), HostFault>
+    requires is_open { IsTrue (N.is_open net.old) }
+    requires apart { Apart (hosted (option_map M.rules master.old) (map S.rules slaves.old)) }
+    requires quiet_master { IfSome master.old (λ end. M.outs end ≡ []) }
+    requires quiet_slaves { All (λ end. S.outs end ≡ []) slaves.old }
+    requires told_master { IfSome master.old (λ end. IsTold M.stands (M.rules end) end log.old.items) }
+    requires told_slaves { AllTold S.stands S.rules slaves.old log.old.items }
+    ensures is_open { IsTrue (N.is_open net.new) }
+    ensures rules_master { option_map M.rules master.new ≡ option_map M.rules master.old }
+    ensures rules_slaves { map S.rules slaves.new ≡ map S.rules slaves.old }
+    ensures quiet_master { OnOk result (IfSome master.new (λ end. M.outs end ≡ [])) }
+    ensures quiet_slaves { OnOk result (All (λ end. S.outs end ≡ []) slaves.new) }
+    ensures told_master { OnOk result (IfSome master.new (λ end. IsTold M.stands (M.rules end) end log.new.items)) }
+    ensures told_slaves { OnOk result (AllTold S.stands S.rules slaves.new log.new.items) }
+    ensures cut_master { OnErr result (IfSome master.new (λ end. IsCut M.stands (M.rules end) end log.new.items)) }
+    ensures cut_slaves { OnErr result (AllCut S.stands S.rules slaves.new log.new.items) }
+    ensures ok { OnOk result (Part N.calls (IsLooks (option_map M.rules master.old) (map S.rules slaves.old)) net.old net.new log.old.items log.new.items) }
+    ensures err { OnErr result (Part N.calls (IsLooksPart (option_map M.rules master.old) (map S.rules slaves.old)) net.old net.new log.old.items log.new.items) }
+    ensures cause { Caused (N.count net.old) (N.count net.new) result }
+{
+    look_first(alloc, master, net, log, room)?;
+    look_each(alloc, slaves, net, log, room)?;
+    Ok(())
+}
+
+/// Whether the master is hosted and has its report.
+fn reports<M: Seat>(master: &Option<M>) -> bool
+    ensures { (log : List LogEntry) → IfSome master.now (λ end. IsTold M.stands (M.rules end) end log) → result ≡ has_report (option_map M.rules master.now) log }
+{
+    match master {
+        Some(end) => end.is_over(),
+        None => false,
+    }
+}
+
+/// Gives the master its turn, and then each slave, but no slave where the master then has its report.
+/// The answer says whether it has.
+fn turn_all<M: Seat, S: Seat, N: Net>(
+    alloc: Global,
+    master: &mut Option<M>,
+    slaves: &mut [S],
+    net: &mut N,
+    log: &mut Vec<LogEntry>,
+) -> Result<bool, HostFault>
+    requires is_open { IsTrue (N.is_open net.old) }
+    requires apart { Apart (hosted (option_map M.rules master.old) (map S.rules slaves.old)) }
+    requires quiet_master { IfSome master.old (λ end. M.outs end ≡ []) }
+    requires quiet_slaves { All (λ end. S.outs end ≡ []) slaves.old }
+    requires told_master { IfSome master.old (λ end. IsTold M.stands (M.rules end) end log.old.items) }
+    requires told_slaves { AllTold S.stands S.rules slaves.old log.old.items }
+    ensures is_open { IsTrue (N.is_open net.new) }
+    ensures rules_master { option_map M.rules master.new ≡ option_map M.rules master.old }
+    ensures rules_slaves { map S.rules slaves.new ≡ map S.rules slaves.old }
+    ensures quiet_master { OnOk result (IfSome master.new (λ end. M.outs end ≡ [])) }
+    ensures quiet_slaves { OnOk result (All (λ end. S.outs end ≡ []) slaves.new) }
+    ensures told_master { OnOk result (IfSome master.new (λ end. IsTold M.stands (M.rules end) end log.new.items)) }
+    ensures told_slaves { OnOk result (AllTold S.stands S.rules slaves.new log.new.items) }
+    ensures cut_master { OnErr result (IfSome master.new (λ end. IsCut M.stands (M.rules end) end log.new.items)) }
+    ensures cut_slaves { OnErr result (AllCut S.stands S.rules slaves.new log.new.items) }
+    ensures ok { OnOk result (Part N.calls (IsTurns (option_map M.rules master.old) (map S.rules slaves.old) log.old.items) net.old net.new log.old.items log.new.items) }
+    ensures report { IfOk result (λ over. over ≡ has_report (option_map M.rules master.old) log.new.items) }
+    ensures err { OnErr result (Part N.calls (IsTurnsPart (option_map M.rules master.old) (map S.rules slaves.old) log.old.items) net.old net.new log.old.items log.new.items) }
+    ensures cause { Caused (N.count net.old) (N.count net.new) result }
+{
+    turn_first(alloc, master, net, log)?;
+    if reports(master) {
+        return Ok(true);
+    }
+    turn_each(alloc, slaves, net, log)?;
+    Ok(false)
+}
+
+/// Runs one round of the hosted ends: each is looked at for its datagrams, and then each has its turn,
+/// the master first and the slaves in order. The answer says whether the master is hosted and has its
+/// report. After a refusal the log is what was done up to then.
+pub fn run_round<M: Seat, S: Seat, N: Net>(
+    alloc: Global,
+    master: &mut Option<M>,
+    slaves: &mut [S],
+    net: &mut N,
+    log: &mut Vec<LogEntry>,
+    room: &mut Room,
+) -> Result<bool, HostFault>
+    requires is_open { IsTrue (N.is_open net.old) }
+    requires apart { Apart (hosted (option_map M.rules master.old) (map S.rules slaves.old)) }
+    requires quiet_master { IfSome master.old (λ end. M.outs end ≡ []) }
+    requires quiet_slaves { All (λ end. S.outs end ≡ []) slaves.old }
+    requires told_master { IfSome master.old (λ end. IsTold M.stands (M.rules end) end log.old.items) }
+    requires told_slaves { AllTold S.stands S.rules slaves.old log.old.items }
+    ensures is_open { IsTrue (N.is_open net.new) }
+    ensures rules_master { option_map M.rules master.new ≡ option_map M.rules master.old }
+    ensures rules_slaves { map S.rules slaves.new ≡ map S.rules slaves.old }
+    ensures quiet_master { OnOk result (IfSome master.new (λ end. M.outs end ≡ [])) }
+    ensures quiet_slaves { OnOk result (All (λ end. S.outs end ≡ []) slaves.new) }
+    ensures told_master { OnOk result (IfSome master.new (λ end. IsTold M.stands (M.rules end) end log.new.items)) }
+    ensures told_slaves { OnOk result (AllTold S.stands S.rules slaves.new log.new.items) }
+    ensures cut_master { OnErr result (IfSome master.new (λ end. IsCut M.stands (M.rules end) end log.new.items)) }
+    ensures cut_slaves { OnErr result (AllCut S.stands S.rules slaves.new log.new.items) }
+    ensures ok { OnOk result (Part N.calls (IsRound (option_map M.rules master.old) (map S.rules slaves.old) log.old.items) net.old net.new log.old.items log.new.items) }
+    ensures report { IfOk result (λ over. over ≡ has_report (option_map M.rules master.old) log.new.items) }
+    ensures err { OnErr result (Part N.calls (IsRoundPart (option_map M.rules master.old) (map S.rules slaves.old) log.old.items) net.old net.new log.old.items log.new.items) }
+    ensures cause { Caused (N.count net.old) (N.count net.new) result }
+{
+    look_all(alloc, master, slaves, net, log, room)?;
+    let over = turn_all(alloc, master, slaves, net, log)?;
+    Ok(over)
+}
