@@ -1,0 +1,18 @@
+-- What is promised: the words and the statuses, what is taken of a source and written to a sink, what each command says of an input, and which answer comes why.
+pub mod CommandWords
+pub mod Statuses
+pub mod Inputs
+pub mod Outputs
+pub mod Rows
+pub mod Said
+pub mod Refusals
+pub mod SaysDecoded
+pub mod SaysEncoded
+pub mod SaysDescribed
+pub mod SaysReference
+pub mod Says
+pub mod Answers
+-- The code's own bookkeeping, which no promise of the program names: a message that was handed over, and a text that is put piece by piece.
+pub mod Taken
+pub mod Waiting
+pub mod Spools

@@ -1,0 +1,16 @@
+-- What `describe` says of a text.
+use Rattle.std.specs.Prelude.{◌≡◌, ℕ, List}
+use Rattle.text_lines.specs.declared.reasons.TextWhy.{TextWhy}
+use Rattle.text_lines.specs.Reasons.{why_word}
+use Rattle.slave_desc.specs.declared.descriptions.SlaveDesc.{SlaveDesc}
+use Rattle.slave_desc.specs.Reads.{Reads}
+use Rattle.slave_desc.specs.Judging.{FirstBad}
+use Rattle.slave_desc.specs.Canonical.{canonical}
+use Rattle.commands.specs.declared.statuses.Verdict.{Verdict}
+use Rattle.commands.specs.declared.statuses.Verdict.TheVariants as verdict
+use Rattle.commands.specs.Refusals.{line_refusal}
+
+-- the canonical text of the description that it is, or the first line that is refused
+abbrev pub SaysDescribed : List ℕ → Verdict → List ℕ → Type 0
+SaysDescribed input verdict.Good text = (desc : SlaveDesc) × Reads input desc × (text ≡ canonical desc)
+SaysDescribed input verdict.Refused text = (line : ℕ) × (why : TextWhy) × FirstBad input line why × (text ≡ line_refusal line (why_word why))

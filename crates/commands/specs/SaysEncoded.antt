@@ -1,0 +1,15 @@
+-- What `encode` says of a text.
+use Rattle.std.specs.Prelude.{◌≡◌, ℕ, List}
+use Rattle.pdu_layout.specs.Message.{Message, Spells}
+use Rattle.pdu_text.specs.declared.reasons.PduTextWhy.{PduTextWhy}
+use Rattle.pdu_text.specs.Reasons.{why_word}
+use Rattle.pdu_text.specs.Reading.{Reads}
+use Rattle.pdu_text.specs.Refusals.{Refused}
+use Rattle.commands.specs.declared.statuses.Verdict.{Verdict}
+use Rattle.commands.specs.declared.statuses.Verdict.TheVariants as verdict
+use Rattle.commands.specs.Refusals.{line_refusal}
+
+-- the bytes of the message that the one line says, or the first rule that it breaks
+abbrev pub SaysEncoded : List ℕ → Verdict → List ℕ → Type 0
+SaysEncoded input verdict.Good text = (message : Message) × Reads input message × Spells message text
+SaysEncoded input verdict.Refused text = (why : PduTextWhy) × Refused input why × (text ≡ line_refusal 1 (why_word why))

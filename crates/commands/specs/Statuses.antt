@@ -1,0 +1,26 @@
+-- The exit status of each answer, and which answer follows a verdict and its delivery.
+use Rattle.std.specs.Prelude.{ℕ}
+use Rattle.commands.specs.declared.statuses.Status.{Status}
+use Rattle.commands.specs.declared.statuses.Status.TheVariants.{Done, Usage, BadInput, RunFailed, ReadFault, WriteFault, NetFault, OutOfMemory, Differs}
+use Rattle.commands.specs.declared.statuses.Verdict.{Verdict}
+use Rattle.commands.specs.declared.statuses.Verdict.TheVariants.{Good, Refused}
+use Rattle.commands.specs.declared.statuses.Delivery.{Delivery}
+use Rattle.commands.specs.declared.statuses.Delivery.TheVariants.{Whole, Cut}
+
+abbrev pub status_code : Status → ℕ
+status_code Done = 0
+status_code Usage = 1
+status_code BadInput = 2
+status_code RunFailed = 3
+status_code ReadFault = 4
+status_code WriteFault = 5
+status_code NetFault = 6
+status_code OutOfMemory = 7
+status_code Differs = 8
+
+-- a refusal stays one where its line could not be written
+abbrev pub status_after : Verdict → Delivery → Status
+status_after Good Whole = Done
+status_after Good Cut = WriteFault
+status_after Refused Whole = BadInput
+status_after Refused Cut = BadInput

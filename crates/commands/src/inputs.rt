@@ -1,0 +1,44 @@
+//! Reading an input to its end, or to one byte past its limit.
+
+ghost use Rattle.commands.specs.Inputs.{Gathers};
+
+use bytes::BytesMut;
+use dcp_io::{Read, Source};
+use std::alloc::Global;
+
+/// The most bytes of an input.
+pub const LIMIT: usize = 1_048_576;
+
+/// How many bytes are asked for at once.
+const PIECE: usize = 4_096;
+
+/// How the reading of an input ended.
+#[derive(Drop)]
+pub enum Gathered {
+    /// All bytes of the source, or its bytes up to one past the limit.
+    Bytes(BytesMut),
+    /// The source failed.
+    Failed,
+    OutOfMemory,
+}
+
+/// Reads what is left, up to one byte past the limit.
+pub fn read_input<S: Source>(alloc: Global, source: &mut S) -> Gathered
+    ensures { Gathers (S.left source.old) (S.left source.new) (S.faults source.old) (S.faults source.new) result }
+{
+    let mut gathered = BytesMut::new(alloc);
+    let mut room = [0u8; PIECE];
+    while gathered.len() <= LIMIT {
+        let size = (LIMIT + 1 - gathered.len()).min(PIECE);
+        match source.read(&mut room[..size]) {
+            Read::End => return Gathered::Bytes(gathered),
+            Read::Failed => return Gathered::Failed,
+            Read::Bytes(count) => {
+                if gathered.extend_from_slice(&room[..count]).is_err() {
+                    return Gathered::OutOfMemory;
+                }
+            }
+        }
+    }
+    Gathered::Bytes(gathered)
+}

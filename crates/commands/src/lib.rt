@@ -1,0 +1,26 @@
+//! The commands of the program as values, and the one call that does what the words say.
+//!
+//! `run_words` reads an input from a source, has the command judge it, and writes what it says to a
+//! sink. It promises of each answer why it came, what of the source was taken, and the exact bytes
+//! that were written. `run_program` is the same call over a reader and a writer of the standard
+//! library, and gives the exit status.
+#![tactic(auto)]
+
+mod command_words;
+mod inputs;
+mod outputs;
+mod refusals;
+mod row_texts;
+mod said;
+mod says;
+mod spellings;
+mod spools;
+mod statuses;
+mod top_calls;
+mod word_lists;
+
+pub use command_words::Command;
+pub use inputs::LIMIT;
+pub use statuses::Status;
+pub use top_calls::run_words;
+pub use word_lists::Words;

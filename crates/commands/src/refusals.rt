@@ -1,0 +1,43 @@
+//! The lines that say why an input is refused.
+
+ghost use Rattle.std.specs.Prelude.{◌≡◌, IfOk};
+ghost use Rattle.commands.specs.Refusals.{Refuses, byte_refusal, line_refusal, past_limit};
+
+use crate::said::{Said, Text};
+use crate::statuses::Verdict;
+use dcp_types::OutOfMemory;
+use std::alloc::Global;
+
+/// A refusal, said by this line.
+fn refused(line: Vec<u8>) -> Said
+    ensures { Refuses line.items result }
+{
+    Said {
+        verdict: Verdict::Refused,
+        text: Text::Whole(line),
+    }
+}
+
+/// Refuses a text at this line of it, from 1, for the reason that the word names.
+pub fn refuse_line(alloc: Global, line: u32, word: &str) -> Result<Said, OutOfMemory>
+    ensures { IfOk result (Refuses (line_refusal line word.now)) }
+{
+    let text = format!(in alloc; "input: line {line} {word}\n")?;
+    Ok(refused(text.into_bytes()))
+}
+
+/// Refuses bytes at this place of them, from 0, for the reason that the word names.
+pub fn refuse_byte(alloc: Global, at: usize, word: &str) -> Result<Said, OutOfMemory>
+    ensures { IfOk result (Refuses (byte_refusal at word.now)) }
+{
+    let text = format!(in alloc; "input: byte {at} {word}\n")?;
+    Ok(refused(text.into_bytes()))
+}
+
+/// Refuses a text that is longer than an input may be.
+pub fn refuse_past_limit(alloc: Global) -> Result<Said, OutOfMemory>
+    ensures { IfOk result (Refuses past_limit) }
+{
+    let text = b"input: line 0 LIMIT\n".to_vec(alloc)?;
+    Ok(refused(text))
+}

@@ -1,0 +1,52 @@
+//! What a command says, and the writing of it.
+
+ghost use Rattle.std.specs.Prelude.{◌≡◌};
+ghost use Rattle.commands.specs.Outputs.{Delivers};
+ghost use Rattle.commands.specs.Rows.{run_text};
+ghost use Rattle.commands.specs.Said.{text_of};
+
+use crate::outputs::write_all;
+use crate::row_texts::{put_closing, put_rows};
+use crate::spools::Spool;
+use crate::statuses::{Delivery, Verdict};
+use dcp_io::Sink;
+use lockstep::Reference;
+
+/// What a command says of an input.
+#[derive(Drop)]
+pub struct Said {
+    /// What the command makes of the input.
+    pub verdict: Verdict,
+    /// What is to be written.
+    pub text: Text,
+}
+
+/// What is to be written.
+#[derive(Drop)]
+pub enum Text {
+    /// Bytes that stand in memory: a text, a line, or a message.
+    Whole(Vec<u8>),
+    /// The rows of a run over so many steps and the line after them, which are printed while they are
+    /// written.
+    Rows { steps: u32, reference: Reference },
+}
+
+/// Writes what is to be written.
+pub fn write_text<K: Sink>(out: &mut K, text: &Text) -> Delivery
+    ensures { Delivers (K.written out.old) (K.written out.new) (K.faults out.old) (K.faults out.new) (text_of text.now) result }
+{
+    match text {
+        Text::Whole(bytes) => write_all(out, bytes.as_slice()),
+        Text::Rows { steps, reference } => write_rows(out, *steps, reference),
+    }
+}
+
+/// Writes the rows and the line after them.
+fn write_rows<K: Sink>(out: &mut K, steps: u32, reference: &Reference) -> Delivery
+    ensures { Delivers (K.written out.old) (K.written out.new) (K.faults out.old) (K.faults out.new) (run_text steps reference.now.rows reference.now.fault) result }
+{
+    let mut spool = Spool::new();
+    put_rows(&mut spool, out, &reference.rows);
+    put_closing(&mut spool, out, steps, reference.fault);
+    spool.finish(out)
+}

@@ -1,0 +1,33 @@
+//! The command `describe`: a description in its canonical text.
+
+ghost use Rattle.std.specs.Prelude.{IfOk};
+ghost use Rattle.commands.specs.Refusals.{OfText};
+ghost use Rattle.commands.specs.Said.{text_of};
+ghost use Rattle.commands.specs.SaysDescribed.{SaysDescribed};
+
+use crate::inputs::LIMIT;
+use crate::refusals::{refuse_line, refuse_past_limit};
+use crate::said::{Said, Text};
+use crate::statuses::Verdict;
+use dcp_types::OutOfMemory;
+use slave_desc::{TextRefused, print_desc, read_desc};
+use std::alloc::Global;
+
+/// The canonical text of the description, or the first line that is refused.
+pub fn say_described(alloc: Global, input: &[u8]) -> Result<Said, OutOfMemory>
+    ensures { IfOk result (λ said. OfText SaysDescribed input.now said.verdict (text_of said.text)) }
+{
+    if input.len() > LIMIT {
+        return refuse_past_limit(alloc);
+    }
+    let desc = match read_desc(alloc, input) {
+        Ok(desc) => desc,
+        Err(TextRefused::Fault(fault)) => return refuse_line(alloc, fault.line, fault.why.word()),
+        Err(TextRefused::OutOfMemory) => return Err(OutOfMemory),
+    };
+    let text = print_desc(alloc, &desc)?;
+    Ok(Said {
+        verdict: Verdict::Good,
+        text: Text::Whole(text.into_bytes()),
+    })
+}

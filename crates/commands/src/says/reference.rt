@@ -1,0 +1,36 @@
+//! The command `reference`: what a correct run of a scenario prints.
+
+ghost use Rattle.std.specs.Prelude.{IfOk};
+ghost use Rattle.commands.specs.Refusals.{OfText};
+ghost use Rattle.commands.specs.Said.{text_of};
+ghost use Rattle.commands.specs.SaysReference.{SaysReference};
+
+use crate::inputs::LIMIT;
+use crate::refusals::{refuse_line, refuse_past_limit};
+use crate::said::{Said, Text};
+use crate::statuses::Verdict;
+use dcp_types::OutOfMemory;
+use lockstep::reference;
+use scenario::read_scenario;
+use slave_desc::TextRefused;
+use std::alloc::Global;
+
+/// The rows of the scenario and the line after them, or the first line that is refused.
+pub fn say_reference(alloc: Global, input: &[u8]) -> Result<Said, OutOfMemory>
+    ensures { IfOk result (λ said. OfText SaysReference input.now said.verdict (text_of said.text)) }
+{
+    if input.len() > LIMIT {
+        return refuse_past_limit(alloc);
+    }
+    let scenario = match read_scenario(alloc, input) {
+        Ok(scenario) => scenario,
+        Err(TextRefused::Fault(fault)) => return refuse_line(alloc, fault.line, fault.why.word()),
+        Err(TextRefused::OutOfMemory) => return Err(OutOfMemory),
+    };
+    let steps = scenario.steps;
+    let reference = reference(alloc, &scenario)?;
+    Ok(Said {
+        verdict: Verdict::Good,
+        text: Text::Rows { steps, reference },
+    })
+}

@@ -1,0 +1,47 @@
+//! The call of the program over its objects.
+
+ghost use Rattle.std.specs.Prelude.{◌≡◌};
+ghost use Rattle.dcp_io.specs.Faults.{Rose};
+ghost use Rattle.commands.specs.Answers.{ComesBeforeWriting, IsFree, Outcome};
+ghost use Rattle.commands.specs.CommandWords.{IsCommand};
+
+use crate::inputs::{Gathered, read_input};
+use crate::outputs::write_all;
+use crate::said::write_text;
+use crate::says::say;
+use crate::statuses::Status;
+use crate::word_lists::Words;
+use dcp_io::{Sink, Source};
+use dcp_types::OutOfMemory;
+use std::alloc::Global;
+
+/// Does what the words say: reads the source to its end or to one byte past the limit, judges the
+/// input, and writes the result. The first failure in this order decides the status. Words that name no
+/// command are answered by `usage`, and then the source is not read.
+pub fn run_words<S: Source, K: Sink>(
+    alloc: Global,
+    words: &Words,
+    source: &mut S,
+    out: &mut K,
+) -> Status
+    ensures outcome { Outcome words.now (S.left source.old) (S.left source.new) (S.faults source.old) (S.faults source.new)
+        (K.written out.old) (K.written out.new) (K.faults out.old) (K.faults out.new) result }
+    ensures unread { result ≡ Status.Usage → source.new ≡ source.old }
+    ensures unwritten { ComesBeforeWriting result → out.new ≡ out.old }
+    ensures complete { IsCommand words.now → (Rose (S.faults source.old) (S.faults source.new) → ⊥)
+        → (Rose (K.faults out.old) (K.faults out.new) → ⊥) → IsFree result }
+{
+    let Some(command) = words.command() else {
+        let _ = write_all(out, b"usage\n");
+        return Status::Usage;
+    };
+    let input = match read_input(alloc, source) {
+        Gathered::Bytes(input) => input,
+        Gathered::Failed => return Status::ReadFault,
+        Gathered::OutOfMemory => return Status::OutOfMemory,
+    };
+    match say(alloc, command, input.as_slice()) {
+        Ok(said) => said.verdict.status(write_text(out, &said.text)),
+        Err(OutOfMemory) => Status::OutOfMemory,
+    }
+}
