@@ -1,14 +1,15 @@
 //! One slave.
 
-ghost use Rattle.std.specs.Prelude.{◌≡◌, ◌<◌, ◌++◌, ◌∷◌, [], List, length, IfOk};
-ghost use Rattle.dcp_ends.specs.Events.{Event, Gram, Tick};
+ghost use Rattle.std.specs.Prelude.{◌≡◌, ◌++◌, ◌∷◌, [], List, length, IfOk};
+ghost use Rattle.dcp_ends.specs.Events.{Event};
 ghost use Rattle.slave_spec.specs.Heard.{Asks, Brings};
-ghost use Rattle.slave_spec.specs.Transport.{Slave, Exchange, fate_in, is_register, placed, placed_late, same_address, send, answer_message, Nack, after_request, request_sends, after_heard, heard_sends, after_turn, turn_sends, expected};
+ghost use Rattle.slave_spec.specs.Transport.{Slave, Exchange, fate_in, send, answer_message, Nack, after_request, request_sends, after_heard, heard_sends, after_turn, turn_sends, expected};
 ghost use Rattle.slave_spec.specs.Plants.{Plant, start};
-ghost use Rattle.slave_spec.specs.Slaves.{machine, state_after, steps_after, fault_after, quiet_after, has_ended};
-ghost use Rattle.slave_core.specs.Standing.{session_with};
+ghost use Rattle.slave_spec.specs.Slaves.{machine, state_after, steps_after, fault_after, quiet_after};
+ghost use Rattle.slave_spec.specs.Sound.{IsSound};
 ghost use Rattle.slave_core.specs.Core.{Stands, StandsFor, bytes_again};
 
+use crate::fates::{is_register, placed, placed_late, same_address, session_with};
 use crate::hearing::{Hearing, hear};
 use crate::inner::Inner;
 use crate::kept::Kept;
@@ -16,79 +17,44 @@ use crate::messages::put_nack;
 use crate::outbox::Outbox;
 use dcp_ends::End;
 use dcp_types::{Address, ErrorCode, FaultCode, OutOfMemory, State};
-use seq_window::{Place, next, place};
+use seq_window::{next, place};
 use slave_spec::{Asked, Fate, Request, Session};
 use std::alloc::Global;
 
-/// A slave in its rest after an error is over after so many quiet turns.
+/// A slave whose error is resolved is over after so many turns without a request.
 const RESTED: u32 = 1000;
 
-/// One slave, as an end: the transport over a machine. Its readers tell the state, the steps taken
-/// since the last reset, the fault, and the turns since the last request.
+/// One slave: an end of the protocol, made of the transport and of the machine under it. The transport
+/// drops what is not for it, places each request by its number, gives the kept answer to a repeated
+/// one, and counts the turns without a request; the machine does all else.
+///
+/// Its methods have three roles:
+///
+/// - events in: `on_gram` for a datagram that came, `on_turn` for a turn of the slave. Each wants that
+///   nothing is outgoing;
+/// - polling out: `outgoing` reads what is to be sent after the event, from number 0 on until it answers
+///   None, and `clear_outgoing` gives it up;
+/// - readers, at any time and without effect: `state`, `steps_taken`, `fault`, `quiet_turns`, `is_over`,
+///   `address`.
+///
+/// So a loop calls `on_gram` or `on_turn`, then `outgoing` with 0, 1, 2, .., then `clear_outgoing`, and
+/// so on until `is_over`. Only `new` takes memory.
 #[derive(Drop)]
 pub struct SlaveCore<M: Inner> {
     inner: M,
     session: Session,
+    /// The number of the next request.
     expected: u16,
+    /// The answer to the newest request that was taken.
     kept: Kept,
+    /// The turns since that request.
     quiet: u32,
     out: Outbox,
 }
 
-fn same_address(a: Address, b: Address) -> bool
-    ensures { result ≡ same_address a b }
-{
-    a.ip == b.ip && a.port == b.port
-}
-
-fn is_register(asked: &Asked) -> bool
-    ensures { result ≡ is_register asked.now }
-{
-    matches!(
-        asked,
-        Asked::Change {
-            request: pdu_layout::Stc::Register { .. },
-            ..
-        }
-    )
-}
-
-fn placed(place: Place) -> Fate
-    ensures { result ≡ placed place }
-{
-    match place {
-        Place::Next => Fate::Taken,
-        Place::Repeat => Fate::Repeated,
-        Place::Old => Fate::Dropped,
-        Place::Ahead => Fate::Refused(ErrorCode::Sequence),
-    }
-}
-
-fn placed_late(place: Place) -> Fate
-    ensures { result ≡ placed_late place }
-{
-    match place {
-        Place::Repeat => Fate::Repeated,
-        _ => Fate::Dropped,
-    }
-}
-
-/// The session after a request that was taken; `ends` tells whether it was the last one.
-fn session_with(session: Session, from: Address, receiver: u8, ends: bool) -> Session
-    ensures { result ≡ session_with session from receiver ends }
-{
-    match session {
-        Session::Before => Session::During {
-            master: from,
-            id: receiver,
-        },
-        Session::During { master, id } if ends => Session::After { master, id },
-        _ => session,
-    }
-}
-
 impl<M: Inner> SlaveCore<M> {
-    /// A slave that stands for no events. It takes all the memory that it needs.
+    /// A slave to which nothing has come, over a machine at its start. It takes all the memory that it
+    /// needs.
     pub fn new(alloc: Global, inner: M) -> Result<SlaveCore<M>, OutOfMemory>
         requires { M.stands inner (start (M.setup inner)) }
         ensures stands { IfOk result (λ s. StandsFor M.setup M.stands s []) }
@@ -165,7 +131,7 @@ impl<M: Inner> SlaveCore<M> {
         }
     }
 
-    /// Takes a request.
+    /// Takes a request: answers it, keeps the answer, and expects the next one.
     fn take(&mut self, from: Address, request: &Request)
         requires { self.old.out ≡ [] }
         ensures stands { (x : Slave Plant) → Stands M.stands self.old x → Stands M.stands self.new (after_request (machine (M.setup self.old.inner)) x from request.now Fate.Taken) }
@@ -182,6 +148,7 @@ impl<M: Inner> SlaveCore<M> {
         }
     }
 
+    /// A request has come.
     fn on_request(&mut self, from: Address, request: &Request)
         requires { self.old.out ≡ [] }
         ensures stands { (x : Slave Plant) → Stands M.stands self.old x → Stands M.stands self.new (after_heard (machine (M.setup self.old.inner)) x from (Asks request.now)) }
@@ -196,6 +163,7 @@ impl<M: Inner> SlaveCore<M> {
         }
     }
 
+    /// A data message has come; it is heeded while the session lasts.
     fn on_data(&mut self, from: Address, number: u16, id: u16, payload: &[u8])
         requires { self.old.out ≡ [] }
         ensures stands { (x : Slave Plant) → Stands M.stands self.old x → Stands M.stands self.new (after_heard (machine (M.setup self.old.inner)) x from (Brings number id payload.now)) }
@@ -211,7 +179,7 @@ impl<M: Inner> SlaveCore<M> {
     fn pass(&mut self)
         requires { self.old.out ≡ [] }
         ensures stands { (x : Slave Plant) → Stands M.stands self.old x → Stands M.stands self.new (after_turn (machine (M.setup self.old.inner)) x) }
-        ensures sends { (x : Slave Plant) → Stands M.stands self.old x → self.new.out ≡ turn_sends (machine (M.setup self.old.inner)) x.session x }
+        ensures sends { (x : Slave Plant) → Stands M.stands self.old x → IsSound x.inner → self.new.out ≡ turn_sends (machine (M.setup self.old.inner)) x.session x }
         ensures setup { M.setup self.new.inner ≡ M.setup self.old.inner }
     {
         match self.session {
@@ -224,6 +192,7 @@ impl<M: Inner> SlaveCore<M> {
         }
     }
 
+    /// The state of the slave: ALIVE before it is registered and after its session.
     pub fn state(&self) -> State
         ensures { (events : List Event) → StandsFor M.setup M.stands self.now events → result ≡ state_after (M.setup self.now.inner) events }
     {
@@ -237,13 +206,14 @@ impl<M: Inner> SlaveCore<M> {
         self.inner.steps_taken()
     }
 
+    /// The newest fault; none where there was none.
     pub fn fault(&self) -> Option<FaultCode>
         ensures { (events : List Event) → StandsFor M.setup M.stands self.now events → result ≡ fault_after (M.setup self.now.inner) events }
     {
         self.inner.fault()
     }
 
-    /// The turns since the last request that was taken.
+    /// The turns since the last request that was taken. The count stands still at its last number.
     pub fn quiet_turns(&self) -> u32
         ensures { (events : List Event) → StandsFor M.setup M.stands self.now events → result ≡ quiet_after (M.setup self.now.inner) events }
     {

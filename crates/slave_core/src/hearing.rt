@@ -4,8 +4,8 @@ ghost use Rattle.std.specs.Prelude.{◌≡◌};
 ghost use Rattle.slave_spec.specs.Heard.{heard};
 ghost use Rattle.slave_core.specs.Hearing.{as_heard, heard_of};
 
-use pdu_layout::Pdu;
 use pdu_codec::read;
+use pdu_layout::Pdu;
 use slave_spec::{Asked, Request};
 
 /// A request, a data message, or nothing that a slave heeds.

@@ -17,7 +17,7 @@ use std::marker::Model;
 /// of the log.
 pub const ROOM: usize = 21;
 
-/// The messages that are to be sent after one event.
+/// The messages that are to be sent after one event, in order; `ROOM` of them have room.
 #[derive(Drop)]
 pub struct Outbox {
     slots: Vec<Slot>,
@@ -79,6 +79,7 @@ impl Outbox {
         }
     }
 
+    /// Gives up all messages.
     pub fn clear(&mut self)
         ensures { self.new ≡ [] }
     {

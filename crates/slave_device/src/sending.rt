@@ -1,0 +1,90 @@
+//! Outputs, and the data messages that carry them.
+
+ghost use Rattle.std.specs.Prelude.{ℕ, ◌≡◌, ◌<◌, ◌≤◌, ◌+◌, ◌++◌, ◌∷◌, [], map, length, take, true, false, slice_get, Some, MatchResult};
+ghost use Rattle.fixed_models.specs.Steps.{all_fit};
+ghost use Rattle.slave_wiring.specs.Changes.{output, ids};
+ghost use Rattle.slave_wiring.specs.Payloads as payloads;
+ghost use Rattle.slave_spec.specs.Transport.{parcel_send};
+ghost use Rattle.slave_spec.specs.Plants.{Plant};
+ghost use Rattle.slave_spec.specs.Sound.{IsSound};
+ghost use Rattle.slave_spec.specs.Turns.{values, data_parcels, parcels};
+ghost use Rattle.slave_device.specs.Devices.{DeviceFor};
+ghost use Rattle.slave_device.specs.Sending.{data_sends};
+
+use crate::devices::Device;
+use dcp_types::{FaultCode, State};
+use slave_core::Outbox;
+use slave_wiring::Wired;
+
+impl<W: Wired> Device<W> {
+    /// The outputs, where each lies in its type.
+    pub(crate) fn outputs(&self, room: &mut [i128; 8]) -> Result<usize, FaultCode>
+        ensures { MatchResult result
+            (λ n. (all_fit self.now.works.model.types (values self.now.works.model) ≡ true) × (take n room.new ≡ values self.now.works.model) × (n ≤ 8))
+            (λ e. (all_fit self.now.works.model.types (values self.now.works.model) ≡ false) × (e ≡ FaultCode.OutOfRange)) }
+    {
+        let count = self.works.setup.desc.outputs.as_slice().len();
+        for port in 0..count {
+            match self.works.model.output(port as u8) {
+                Ok(value) => room[port] = value,
+                Err(code) => return Err(code),
+            }
+        }
+        Ok(count)
+    }
+
+    /// Puts the data message of an output id, by its place among them, where it is due.
+    fn send_one(&self, target: usize, values: &[i128], out: &mut Outbox)
+        requires room { length out.old < 21 }
+        ensures out { (p : Plant) → DeviceFor W.stands self.now p → (id : ℕ) → slice_get (ids output p.wires.changes) target ≡ Some id
+            → payloads.all_fit self.now.works.setup.desc.outputs values.now ≡ true
+            → out.new ≡ out.old ++ data_sends self.now.works.setup.desc p.wires.changes p.steps values.now (id ∷ []) }
+        ensures few { length out.new ≤ length out.old + 1 }
+    {
+        if self.wiring.is_due(target, self.steps) {
+            let mut room = [0; 1024];
+            if let Some((to, length)) = self.wiring.build(target, self.steps, values, &mut room) {
+                out.put_bytes(to, &room[..length]);
+            }
+        }
+    }
+
+    /// Puts the data messages that are due, of these outputs.
+    fn send_values(&self, values: &[i128], out: &mut Outbox)
+        requires out { out.old ≡ [] }
+        requires fit { payloads.all_fit self.now.works.setup.desc.outputs values.now ≡ true }
+        ensures out { (p : Plant) → DeviceFor W.stands self.now p
+            → out.new ≡ map parcel_send (data_parcels self.now.works.setup.desc p.wires.changes p.steps values.now) }
+        ensures few { length out.new ≤ 17 }
+    {
+        for target in 0..self.wiring.targets() {
+            self.send_one(target, values, out);
+        }
+    }
+
+    /// Puts the data messages that are due, where the outputs lie in their types.
+    fn send_data(&self, out: &mut Outbox)
+        requires { out.old ≡ [] }
+        ensures out { (p : Plant) → DeviceFor W.stands self.now p → all_fit p.model.types (values p.model) ≡ true
+            → out.new ≡ map parcel_send (data_parcels self.now.works.setup.desc p.wires.changes p.steps (values p.model)) }
+        ensures few { length out.new ≤ 17 }
+    {
+        let mut values = [0; 8];
+        if let Ok(count) = self.outputs(&mut values) {
+            self.send_values(&values[..count], out);
+        }
+    }
+
+    /// Puts the data messages of a sending state.
+    pub(crate) fn send_outputs(&self, out: &mut Outbox)
+        requires { out.old ≡ [] }
+        ensures out { (p : Plant) → DeviceFor W.stands self.now p → IsSound p → out.new ≡ map parcel_send (parcels self.now.works.setup p) }
+        ensures few { length out.new ≤ 17 }
+    {
+        match self.state {
+            State::SendingI => self.send_data(out),
+            State::SendingD => self.send_data(out),
+            _ => {}
+        }
+    }
+}
