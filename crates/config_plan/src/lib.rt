@@ -13,4 +13,3 @@ mod setups;
 pub use plan_spec::DataLink;
 pub use planning::plan;
 pub use plans::Plan;
-

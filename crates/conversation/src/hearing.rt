@@ -12,8 +12,8 @@ ghost use Rattle.conversation.specs.Standing.{Stands, HasList, CanSendAfter, due
 ghost use Rattle.conversation.specs.Hearing.{IsWith, news_for, taken};
 
 use crate::records::Conversation;
-use pdu_layout::{Cfg, Pdu};
 use pdu_codec::read;
+use pdu_layout::{Cfg, Pdu};
 
 /// A message comes from the slave that the conversation is with. `size` is the length of all its
 /// outputs, `setup` the list of the present task. Where the message brings the outputs that the task

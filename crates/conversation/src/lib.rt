@@ -15,4 +15,3 @@ mod tables;
 pub use hearing::hear;
 pub use master_spec::{Awaited, Cause, Reaction, Task, Verdict};
 pub use records::Conversation;
-
