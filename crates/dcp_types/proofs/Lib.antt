@@ -1,2 +1,3 @@
 pub mod Digits
 pub mod Residues
+pub mod OneToOne

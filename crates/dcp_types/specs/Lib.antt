@@ -1,3 +1,5 @@
+-- what is promised
 pub mod Codes
 pub mod Words
 pub mod Values
+pub mod Laws

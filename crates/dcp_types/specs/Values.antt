@@ -1,5 +1,5 @@
 -- The range of a type, and the bytes of a value.
-use Rattle.std.specs.Prelude.{◌≡◌, ℕ, zero, suc, ◌-◌, ◌+◌, ◌/◌, ◌%◌, ◌^◌, Bool, true, false, IsTrue, ◌&&◌, List, [], ◌∷◌, ℤ, pos, negsuc, int_le}
+use Rattle.std.specs.Prelude.{ℕ, zero, suc, ◌-◌, ◌+◌, ◌/◌, ◌%◌, ◌^◌, Bool, true, false, ◌&&◌, List, [], ◌∷◌, ℤ, pos, negsuc, int_le}
 use Rattle.dcp_types.specs.declared.data_types.DataType.{DataType}
 use Rattle.dcp_types.specs.declared.data_types.DataType.TheVariants.{U8, U16, U32, U64, I8, I16, I32, I64}
 
@@ -61,7 +61,3 @@ residue w (negsuc n) = 256 ^ w - (n + 1)
 -- the bytes of a value: two's complement, the lowest byte first
 abbrev pub value_bytes : DataType → ℤ → List ℕ
 value_bytes kind z = digits (width kind) (residue (width kind) z)
-
--- no two values of a type have the same bytes
-abbrev pub OneToOne : Type 0
-OneToOne = (kind : DataType) (a b : ℤ) → IsTrue (fits kind a) → IsTrue (fits kind b) → value_bytes kind a ≡ value_bytes kind b → a ≡ b

@@ -8,13 +8,21 @@ ghost use Rattle.dcp_types.specs.Values.{width, fits};
 /// The type of a variable.
 #[derive(Clone, Copy, Debug, PartialEq, Eq)]
 pub enum DataType {
+    /// 0 to 255, in one byte.
     U8,
+    /// 0 to 65,535, in two bytes.
     U16,
+    /// 0 to 4,294,967,295, in four bytes.
     U32,
+    /// 0 to 2^64 - 1, in eight bytes.
     U64,
+    /// -128 to 127, in one byte.
     I8,
+    /// -32,768 to 32,767, in two bytes.
     I16,
+    /// -2^31 to 2^31 - 1, in four bytes.
     I32,
+    /// -2^63 to 2^63 - 1, in eight bytes.
     I64,
 }
 

@@ -1,7 +1,7 @@
 //! The words of the protocol: data types, states, codes, addresses and limits, and the bytes of a
 //! value. Every other crate stands on this one.
 //!
-//! What it promises: codes and names are one to one, and the bytes of a value are its little-endian
+//! What it promises: codes, words and names are one to one, and the bytes of a value are its little-endian
 //! two's complement, written and read back exactly. No call takes memory.
 #![tactic(auto)]
 
@@ -9,6 +9,7 @@ mod addresses;
 mod data_types;
 mod error_codes;
 mod fault_codes;
+mod laws;
 mod limits;
 mod memory;
 mod protocols;
@@ -19,11 +20,12 @@ pub use addresses::Address;
 pub use data_types::{DataType, fits};
 pub use error_codes::ErrorCode;
 pub use fault_codes::FaultCode;
+pub use laws::{codes_and_words_are_one_to_one, value_bytes_are_one_to_one};
 pub use limits::Limits;
 pub use memory::OutOfMemory;
 pub use protocols::Protocol;
 pub use states::State;
-pub use values::{get_value, put_value, value_bytes_are_one_to_one};
+pub use values::{get_value, put_value};
 
 #[cfg(test)]
 mod tests;

@@ -6,7 +6,9 @@ ghost use Rattle.dcp_types.specs.Codes.{protocol_code};
 /// The transport that all ends of a scenario use.
 #[derive(Clone, Copy, Debug, PartialEq, Eq)]
 pub enum Protocol {
+    /// A message is a datagram over UDP and IPv4.
     Udp,
+    /// Messages are frames of a stream over TCP and IPv4.
     Tcp,
 }
 

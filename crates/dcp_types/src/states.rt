@@ -7,24 +7,43 @@ ghost use Rattle.dcp_types.specs.Words.{state_name};
 /// A state of a slave. `Synchronized` has a code and is never entered.
 #[derive(Clone, Copy, Debug, PartialEq, Eq)]
 pub enum State {
+    /// Not registered: the slave waits for a master.
     Alive,
+    /// Registered: the slave takes its configuration.
     Configuration,
+    /// Passing on from `Configuration` to `Prepared`.
     Preparing,
+    /// The configuration is complete and was accepted.
     Prepared,
+    /// Passing on from `Prepared` to `Configured`.
     Configuring,
+    /// Ready to be initialized, and, once the initial outputs were sent, to run.
     Configured,
+    /// Computing the initial outputs, on the way to `Initialized`.
     Initializing,
+    /// The initial outputs are there and not yet sent.
     Initialized,
+    /// Sending the initial outputs, on the way back to `Configured`.
     SendingI,
+    /// Passing on from `Configured` to `Running`.
     Synchronizing,
+    /// Never entered; it has a code only.
     Synchronized,
+    /// Ready for a step.
     Running,
+    /// Computing a step, on the way to `Computed`.
     Computing,
+    /// The step was computed and its outputs are not yet sent.
     Computed,
+    /// Sending the outputs of a step, on the way back to `Running`.
     SendingD,
+    /// Passing on to `Stopped`.
     Stopping,
+    /// No step is taken any more; the session can be ended or reset.
     Stopped,
+    /// A fault came up; it is being handled.
     ErrorHandling,
+    /// The fault was handled; the session can only be ended or reset.
     ErrorResolved,
 }
 

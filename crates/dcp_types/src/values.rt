@@ -1,7 +1,7 @@
 //! The bytes of a value: little-endian two's complement, as wide as the type.
 
 ghost use Rattle.std.specs.Prelude.{◌≡◌, ◌<◌, ◌^◌, ℤ, pos, IsTrue, length};
-ghost use Rattle.dcp_types.specs.Values.{width, is_signed, fits, OneToOne, residue, digits, value_bytes};
+ghost use Rattle.dcp_types.specs.Values.{width, is_signed, fits, residue, digits, value_bytes};
 
 use crate::data_types::DataType;
 use byteorder::{ByteOrder, LittleEndian};
@@ -87,8 +87,3 @@ pub fn get_value(kind: DataType, bytes: &[u8]) -> i128
         number
     }
 }
-
-/// No two values of a type have the same bytes, so what was written is read back.
-pub fn value_bytes_are_one_to_one()
-    ensures { OneToOne }
-{}
