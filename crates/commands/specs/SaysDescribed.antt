@@ -3,9 +3,9 @@ use Rattle.std.specs.Prelude.{◌≡◌, ℕ, List}
 use Rattle.text_lines.specs.declared.reasons.TextWhy.{TextWhy}
 use Rattle.text_lines.specs.Reasons.{why_word}
 use Rattle.slave_desc.specs.declared.descriptions.SlaveDesc.{SlaveDesc}
-use Rattle.slave_desc.specs.Reads.{Reads}
-use Rattle.slave_desc.specs.Judging.{FirstBad}
-use Rattle.slave_desc.specs.Canonical.{canonical}
+use Rattle.desc_text.specs.Reads.{Reads}
+use Rattle.desc_text.specs.Judging.{FirstBad}
+use Rattle.desc_text.specs.Canonical.{canonical}
 use Rattle.commands.specs.declared.statuses.Verdict.{Verdict}
 use Rattle.commands.specs.declared.statuses.Verdict.TheVariants as verdict
 use Rattle.commands.specs.Refusals.{line_refusal}

@@ -3,8 +3,8 @@ use Rattle.std.specs.Prelude.{◌≡◌, ℕ, ℤ, List, Option}
 use Rattle.text_lines.specs.declared.reasons.TextWhy.{TextWhy}
 use Rattle.text_lines.specs.Reasons.{why_word}
 use Rattle.scenario.specs.declared.scenarios.Scenario.{Scenario}
-use Rattle.scenario.specs.Reads.{Reads}
-use Rattle.scenario.specs.Judging.{FirstBad}
+use Rattle.scenario_text.specs.Reads.{Reads}
+use Rattle.scenario_text.specs.Judging.{FirstBad}
 use Rattle.lockstep.specs.declared.references.RefFault.{RefFault}
 use Rattle.lockstep.specs.Lockstep.{IsReference}
 use Rattle.commands.specs.declared.statuses.Verdict.{Verdict}

@@ -1,4 +1,4 @@
-//! The outside: where bytes come from and go to, and the plan of a network in memory.
+//! The outside: where bytes come from and go to.
 //!
 //! What it promises: each object has a count of faults that never falls, a call fails only where that
 //! count rose in it, and where an object tells its bytes, each call moves exactly the bytes that it
@@ -7,7 +7,6 @@
 
 mod memory_sinks;
 mod memory_sources;
-mod net_plans;
 mod reads;
 mod std_sinks;
 mod std_sources;
@@ -17,7 +16,6 @@ mod writes;
 
 pub use memory_sinks::MemorySink;
 pub use memory_sources::MemorySource;
-pub use net_plans::{Chaos, NetLine, NetLines, NetPlan};
 pub use reads::{Read, Source};
 pub use std_sinks::StdSink;
 pub use std_sources::StdSource;

@@ -2,4 +2,5 @@
 pub mod Codes
 pub mod Words
 pub mod Values
+pub mod Names
 pub mod Laws

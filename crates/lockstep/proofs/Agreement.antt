@@ -7,8 +7,8 @@ use Rattle.slave_desc.specs.declared.descriptions.SlaveDesc.{SlaveDesc}
 use Rattle.scenario.specs.declared.scenarios.Scenario.{Scenario}
 use Rattle.scenario.specs.declared.scenarios.Wire.{Wire}
 use Rattle.lockstep.specs.declared.references.RefFault.{RefFault}
-use Rattle.lockstep.specs.Parameters.{parameters}
-use Rattle.lockstep.specs.Wiring.{wire_into, interval, column}
+use Rattle.scenario.specs.Settings.{parameters}
+use Rattle.scenario.specs.Wiring.{wire_into, interval, column}
 use Rattle.lockstep.specs.Lockstep.{place, read, inputs, state, state_after, shown, shown_at, beside, row_from, row}
 
 -- two lists of rows agree below a place

@@ -6,38 +6,15 @@ use Rattle.std.proofs.lemmas.Bool.{leb-false, lt-leb}
 use Rattle.std.proofs.lemmas.List.{at_drop_more, take-map, length-map}
 use Rattle.fixed_models.specs.Kinds.{takes, has_inputs, output_count}
 use Rattle.slave_desc.specs.declared.descriptions.SlaveDesc.{SlaveDesc}
-use Rattle.slave_desc.specs.Canonical.{IsDesc}
+use Rattle.slave_desc.specs.Descriptions.{IsDesc}
 use Rattle.scenario.specs.declared.scenarios.Scenario.{Scenario}
 use Rattle.scenario.specs.declared.scenarios.Setting.{Setting}
 use Rattle.scenario.specs.declared.scenarios.Rerun.{Rerun}
-use Rattle.scenario.specs.Links.{slave_at, parameters_at, parameters_in}
-use Rattle.scenario.specs.Checks.{changed, changed_by, setting_in, taken_by, takes_at}
+use Rattle.scenario.specs.Lookups.{slave_at, parameters_at, parameters_in}
+use Rattle.scenario.specs.Settings.{changed, changed_by, setting_in, taken_by, takes_at, settings_until, parameters}
 use Rattle.scenario.specs.Sound.{IsScenario, changes}
-use Rattle.lockstep.specs.Parameters.{settings_until, parameters}
 use Rattle.fixed_models.specs.Views.{accepts}
 use Rattle.lockstep.specs.Parts.{types_of}
-
--- the settings of the runs up to run r
-abbrev pub due : ℕ → List Rerun → List Setting
-due r xs = map setting_in (filter (λ x. nat_le x.run r) xs)
-
--- a step of the loop over the settings
-pub set_more : (ps : List ℤ) (s : ℕ) (xs : List Setting) (i : ℕ) (x : Setting) → i < length xs → x ≡ get_or xs i x → changed ps s (drop i xs) ≡ changed (changed_by ps s x) s (drop (i + 1) xs)
-set_more ps s xs i x lt is =
-    at_drop_more (λ (ys : List Setting). changed ps s ys) xs i x lt
-    ∙ ap (λ (y : Setting). changed (changed_by ps s y) s (drop (i + 1) xs)) (sym is)
-
-due_cases : (b : Bool) (r : ℕ) (x : Rerun) (xs : List Rerun) (ps : List ℤ) (s : ℕ) → nat_le x.run r ≡ b → changed ps s (due r (x ∷ xs)) ≡ changed (cond b (changed_by ps s (setting_in x)) ps) s (due r xs)
-due_cases true r x xs ps s e = rw e refl
-due_cases false r x xs ps s e = rw e refl
-
--- a step of the loop over the settings of the later runs
-pub rerun_more : (ps : List ℤ) (s r : ℕ) (xs : List Rerun) (i : ℕ) (x : Rerun) → i < length xs → x ≡ get_or xs i x →
-    changed ps s (due r (drop i xs)) ≡ changed (cond (nat_le x.run r) (changed_by ps s (setting_in x)) ps) s (due r (drop (i + 1) xs))
-rerun_more ps s r xs i x lt is =
-    at_drop_more (λ (ys : List Rerun). changed ps s (due r ys)) xs i x lt
-    ∙ ap (λ (y : Rerun). changed ps s (due r (y ∷ drop (i + 1) xs))) (sym is)
-    ∙ due_cases (nat_le x.run r) r x (drop (i + 1) xs) ps s refl
 
 AllPairs-head : {X : Type 0} (R : X → X → Type 0) (x : X) (xs : List X) → AllPairs R (x ∷ xs) → All (R x) xs
 AllPairs-head R x xs h k d lt = h 0 (suc k) d (omega arith) (omega arith)

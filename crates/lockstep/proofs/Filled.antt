@@ -17,14 +17,14 @@ use Rattle.fixed_models.specs.Answers.{IsInput}
 use Rattle.fixed_models.specs.Kinds.{has_inputs, output_count}
 use Rattle.fixed_models.specs.Steps.{outputs, all_fit}
 use Rattle.slave_desc.specs.declared.descriptions.SlaveDesc.{SlaveDesc}
-use Rattle.slave_desc.specs.Canonical.{IsDesc}
+use Rattle.slave_desc.specs.Descriptions.{IsDesc}
 use Rattle.scenario.specs.declared.scenarios.Scenario.{Scenario}
-use Rattle.scenario.specs.Limits.{total_outputs}
+use Rattle.scenario.specs.Totals.{total_outputs}
 use Rattle.scenario.specs.Sound.{IsScenario}
 use Rattle.lockstep.specs.declared.parts.Part.{Part}
 use Rattle.lockstep.specs.declared.references.RefFault.{RefFault}
 use Rattle.lockstep.specs.Cut.{Grid, SameRows}
-use Rattle.lockstep.specs.Parameters.{parameters}
+use Rattle.scenario.specs.Settings.{parameters}
 use Rattle.lockstep.specs.Lockstep.{row, row_from, beside, shown, shown_at, shown_of, state}
 use Rattle.lockstep.specs.Parts.{StandsAt, AllStand, types_of}
 use Rattle.lockstep.specs.Filling.{behind, Filled}

@@ -6,9 +6,9 @@ use Rattle.std.proofs.lemmas.List.Elements.{All-push, All-nil, All-head}
 use Rattle.std.proofs.lemmas.List.Sums.{sum_by-cons}
 use Rattle.fixed_models.specs.Answers.{IsInput}
 use Rattle.slave_desc.specs.declared.descriptions.SlaveDesc.{SlaveDesc}
-use Rattle.slave_desc.specs.Canonical.{IsDesc}
+use Rattle.slave_desc.specs.Descriptions.{IsDesc}
 use Rattle.scenario.specs.declared.scenarios.Scenario.{Scenario}
-use Rattle.scenario.specs.Limits.{total_outputs}
+use Rattle.scenario.specs.Totals.{total_outputs}
 use Rattle.scenario.specs.Sound.{IsScenario}
 use Rattle.lockstep.specs.declared.parts.Part.{Part}
 use Rattle.lockstep.specs.declared.halts.Halt.{Halt}

@@ -8,7 +8,7 @@ use Rattle.scenario.specs.Sound.{IsWire, IsScenario}
 use Rattle.scenario.specs.declared.scenarios.Scenario.{Scenario}
 use Rattle.scenario.specs.declared.scenarios.Wire.{Wire}
 use Rattle.lockstep.specs.declared.wiring.Feed.{Feed}
-use Rattle.lockstep.specs.Wiring.{wire_into}
+use Rattle.scenario.specs.Wiring.{wire_into}
 use Rattle.lockstep.specs.Feeds.{fed, feed_of, feeds_of}
 
 pub last_renewal : (now k q : ℕ) → k ≤ now → now - k % q ≡ now - k + q * (k / q)

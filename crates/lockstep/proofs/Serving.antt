@@ -12,17 +12,17 @@ use Rattle.fixed_models.specs.Kinds.{has_inputs, output_count}
 use Rattle.fixed_models.specs.Steps.{model_step}
 use Rattle.fixed_models.specs.Views.{moved, step_of}
 use Rattle.slave_desc.specs.declared.descriptions.SlaveDesc.{SlaveDesc}
-use Rattle.slave_desc.specs.Canonical.{IsDesc}
+use Rattle.slave_desc.specs.Descriptions.{IsDesc}
 use Rattle.scenario.specs.declared.scenarios.Scenario.{Scenario}
 use Rattle.scenario.specs.declared.scenarios.Wire.{Wire}
 use Rattle.scenario.specs.declared.scenarios.Every.{Every}
-use Rattle.scenario.specs.Links.{slave_at, outputs_at, outputs_in}
-use Rattle.scenario.specs.Limits.{total_outputs}
+use Rattle.scenario.specs.Lookups.{slave_at, outputs_at, outputs_in}
+use Rattle.scenario.specs.Totals.{total_outputs}
 use Rattle.scenario.specs.Sound.{IsWire, IsScenario}
 use Rattle.lockstep.specs.declared.wiring.Feed.{Feed}
 use Rattle.lockstep.specs.declared.parts.Part.{Part}
-use Rattle.lockstep.specs.Parameters.{parameters}
-use Rattle.lockstep.specs.Wiring.{wire_into, every_between, q_of, interval, column}
+use Rattle.scenario.specs.Settings.{parameters}
+use Rattle.scenario.specs.Wiring.{wire_into, every_between, q_of, interval, column}
 use Rattle.lockstep.specs.Feeds.{fed, feed_of, feeds_of, IsFeed}
 use Rattle.lockstep.specs.Lockstep.{place, read, inputs, state, state_after, shown, shown_at}
 use Rattle.lockstep.specs.Parts.{types_of, shows, Reaches, Shows, Serves, StandsAt}

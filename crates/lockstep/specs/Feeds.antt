@@ -4,7 +4,7 @@ use Rattle.std.specs.List.{range_with_len}
 use Rattle.scenario.specs.declared.scenarios.Scenario.{Scenario}
 use Rattle.scenario.specs.declared.scenarios.Wire.{Wire}
 use Rattle.lockstep.specs.declared.wiring.Feed.{Feed}
-use Rattle.lockstep.specs.Wiring.{wire_into, interval, column}
+use Rattle.scenario.specs.Wiring.{wire_into, interval, column}
 
 abbrev pub feed_of : Scenario → Option Wire → Option Feed
 feed_of sc None = None

@@ -3,7 +3,7 @@ use Rattle.std.specs.Prelude.{◌≡◌, ℕ, ◌+◌, ◌-◌, ◌<◌, ◌≤�
 use Rattle.fixed_models.specs.Answers.{IsInput}
 use Rattle.slave_desc.specs.declared.descriptions.SlaveDesc.{SlaveDesc}
 use Rattle.scenario.specs.declared.scenarios.Scenario.{Scenario}
-use Rattle.scenario.specs.Limits.{total_outputs}
+use Rattle.scenario.specs.Totals.{total_outputs}
 use Rattle.lockstep.specs.declared.parts.Part.{Part}
 use Rattle.lockstep.specs.declared.halts.Halt.{Halt}
 use Rattle.lockstep.specs.declared.halts.Halt.TheVariants as halts

@@ -9,8 +9,8 @@ use Rattle.slave_desc.specs.declared.descriptions.SlaveDesc.{SlaveDesc}
 use Rattle.scenario.specs.declared.scenarios.Scenario.{Scenario}
 use Rattle.scenario.specs.declared.scenarios.Wire.{Wire}
 use Rattle.lockstep.specs.declared.references.RefFault.{RefFault}
-use Rattle.lockstep.specs.Parameters.{parameters}
-use Rattle.lockstep.specs.Wiring.{wire_into, interval, column}
+use Rattle.scenario.specs.Settings.{parameters}
+use Rattle.scenario.specs.Wiring.{wire_into, interval, column}
 
 -- The rows of all runs stand in one list: this is where row k of run r stands.
 abbrev pub place : (steps r k : ℕ) → ℕ

@@ -10,7 +10,7 @@ use Rattle.lockstep.specs.declared.parts.Part.{Part}
 use Rattle.lockstep.specs.declared.halts.Halt.{Halt}
 use Rattle.lockstep.specs.declared.halts.Halt.TheVariants as halts
 use Rattle.lockstep.specs.declared.references.RefFault.{RefFault}
-use Rattle.lockstep.specs.Parameters.{parameters}
+use Rattle.scenario.specs.Settings.{parameters}
 use Rattle.lockstep.specs.Feeds.{feeds_of, fed}
 use Rattle.lockstep.specs.Lockstep.{shown_of, state, shown}
 

@@ -3,8 +3,8 @@
 ghost use Rattle.std.specs.Prelude.{◌≡◌, ◌-◌, [], length, All, Ok, IfOk, IfErr, OnOk};
 ghost use Rattle.fixed_models.specs.Answers.{IsInput};
 ghost use Rattle.slave_desc.specs.declared.descriptions.SlaveDesc.{SlaveDesc};
-ghost use Rattle.slave_desc.specs.Canonical.{IsDesc};
-ghost use Rattle.scenario.specs.Limits.{total_outputs};
+ghost use Rattle.slave_desc.specs.Descriptions.{IsDesc};
+ghost use Rattle.scenario.specs.Totals.{total_outputs};
 ghost use Rattle.scenario.specs.Sound.{IsScenario};
 ghost use Rattle.lockstep.specs.Cut.{SameRows};
 ghost use Rattle.lockstep.specs.Lockstep.{place, row, IsMoment};

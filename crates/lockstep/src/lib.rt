@@ -13,10 +13,7 @@ mod parts;
 mod references;
 mod row_lists;
 mod running;
-mod settings;
 mod tables;
-#[cfg(test)]
-mod tests;
 mod wiring;
 
 pub use laws::one_reference;

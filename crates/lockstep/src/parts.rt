@@ -3,20 +3,19 @@
 ghost use Rattle.std.specs.Prelude.{◌≡◌, ◌<◌, ◌≤◌, ◌-◌, List, ℤ, Some, length, map, All, true, IfOk};
 ghost use Rattle.fixed_models.specs.Answers.{IsInput};
 ghost use Rattle.fixed_models.specs.Kinds.{has_inputs, output_count};
-ghost use Rattle.slave_desc.specs.Canonical.{IsDesc};
-ghost use Rattle.scenario.specs.Links.{slave_at};
+ghost use Rattle.slave_desc.specs.Descriptions.{IsDesc};
+ghost use Rattle.scenario.specs.Lookups.{slave_at};
 ghost use Rattle.scenario.specs.Sound.{IsScenario, IsSlave};
 ghost use Rattle.fixed_models.specs.Views.{begun, accepts};
 ghost use Rattle.lockstep.specs.Cut.{SameRows};
 ghost use Rattle.lockstep.specs.Feeds.{fed, IsFeed};
 ghost use Rattle.lockstep.specs.Parts.{StandsAt, Advances, Reaches, Shows};
 
-use crate::settings::parameters;
 use crate::tables::Table;
 use crate::wiring::{Feed, feeds_of, gather};
 use dcp_types::{DataType, FaultCode, OutOfMemory};
 use fixed_models::{Kind, Model, ModelRefused};
-use scenario::Scenario;
+use scenario::{Scenario, parameters};
 use slave_desc::{Port, SlaveDesc};
 use std::alloc::Global;
 

@@ -12,9 +12,8 @@ use crate::parts::Part;
 use crate::references::Reference;
 use crate::row_lists::Rows;
 use crate::tables::Table;
-use crate::wiring::total_outputs;
 use dcp_types::OutOfMemory;
-use scenario::Scenario;
+use scenario::{Scenario, total_outputs};
 use std::alloc::Global;
 
 /// All slaves at the begin of a run.
@@ -83,7 +82,7 @@ pub fn reference(alloc: Global, scenario: &Scenario) -> Result<Reference, OutOfM
     requires { IsScenario scenario.now }
     ensures { IfOk result (λ reference. IsReference scenario.now reference.rows reference.fault) }
 {
-    let width = total_outputs(scenario.slaves.as_slice());
+    let width = total_outputs(scenario.slaves.as_slice()) as usize;
     let room = scenario.runs as usize * (scenario.steps as usize + 1);
     let mut rows = Table::with_room(alloc, width, room)?;
     let mut inputs = Vec::new(alloc);

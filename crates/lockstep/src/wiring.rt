@@ -2,14 +2,14 @@
 
 ghost use Rattle.std.specs.Prelude.{◌≡◌, ◌==◌, ◌&&◌, ◌<◌, ◌≤◌, ◌-◌, ◌%◌, ◌^◌, length, map, All, OnOk, IfOk, sum_by};
 ghost use Rattle.std.specs.Option.{ForSome};
-ghost use Rattle.scenario.specs.Limits.{total_outputs};
+ghost use Rattle.scenario.specs.Totals.{total_outputs};
 ghost use Rattle.scenario.specs.Sound.{IsWire, IsScenario};
-ghost use Rattle.lockstep.specs.Wiring.{wire_into, every_between, interval};
+ghost use Rattle.scenario.specs.Wiring.{wire_into, every_between, interval};
 ghost use Rattle.lockstep.specs.Feeds.{feed_of, feeds_of, fed, IsFeed};
 
 use crate::tables::Table;
 use dcp_types::OutOfMemory;
-use scenario::{Every, Scenario, Wire};
+use scenario::{Scenario, Wire, interval, total_outputs, wire_into};
 use slave_desc::SlaveDesc;
 use std::alloc::Global;
 
@@ -20,47 +20,6 @@ pub(crate) struct Feed {
     pub column: usize,
     /// The steps from one renewal to the next, at least 1.
     pub interval: u32,
-}
-
-fn goes_into(wire: &Wire, slave: u8, input: usize) -> bool
-    ensures { result ≡ ((wire.now.to == slave) && (wire.now.into == input)) }
-{
-    wire.to == slave && usize::from(wire.into) == input
-}
-
-fn wire_into(wires: &[Wire], slave: u8, input: usize) -> Option<Wire>
-    ensures { result ≡ wire_into wires.now slave input }
-{
-    wires.iter().copied().find(|w| goes_into(w, slave, input))
-}
-
-fn is_between(every: &Every, from: u8, to: u8) -> bool
-    ensures { result ≡ ((every.now.from == from) && (every.now.to == to)) }
-{
-    every.from == from && every.to == to
-}
-
-fn every_between(every: &[Every], from: u8, to: u8) -> Option<Every>
-    ensures { result ≡ every_between every.now from to }
-{
-    every.iter().copied().find(|e| is_between(e, from, to))
-}
-
-fn interval(every: &[Every], from: u8, to: u8) -> u32
-    ensures { result ≡ interval every.now from to }
-{
-    match every_between(every, from, to) {
-        Some(e) => e.q,
-        None => 1,
-    }
-}
-
-/// How many outputs the slaves have together.
-pub(crate) fn total_outputs(slaves: &[SlaveDesc]) -> usize
-    requires { total_outputs slaves.now < 2 ^ 64 }
-    ensures { result ≡ total_outputs slaves.now }
-{
-    slaves.iter().map(|d| d.outputs.as_slice().len()).sum()
 }
 
 /// The steps since what is sent at each `interval`-th step was renewed.
@@ -113,7 +72,7 @@ fn feed_of(scenario: &Scenario, wire: Option<Wire>) -> Option<Feed>
         None => None,
         Some(wire) => {
             let before = &scenario.slaves.as_slice()[..usize::from(wire.from) - 1];
-            let column = total_outputs(before) + usize::from(wire.out);
+            let column = total_outputs(before) as usize + usize::from(wire.out);
             let interval = interval(scenario.every.as_slice(), wire.from, wire.to);
             Some(Feed { column, interval })
         }

@@ -1,12 +1,7 @@
-pub mod Keys
-pub mod Heads
-pub mod Links
-pub mod Checks
-pub mod LastSettings
-pub mod Limits
-pub mod Scenarios
+-- What the fields of a scenario mean.
+pub mod Lookups
+pub mod Settings
+pub mod Wiring
+pub mod Totals
+-- Which scenarios are sound.
 pub mod Sound
-pub mod Judging
-pub mod Grammar
-pub mod Reads
-pub mod Machine

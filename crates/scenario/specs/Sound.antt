@@ -3,15 +3,16 @@ use Rattle.std.specs.Prelude.{◌≡◌, ◌≢◌, ℕ, ◌≤◌, ◌<◌, ◌
 use Rattle.std.specs.List.{list_any}
 use Rattle.dcp_types.specs.declared.addresses.Address.{Address}
 use Rattle.dcp_types.specs.declared.limits.Limits.{Limits}
-use Rattle.dcp_io.specs.declared.net_plans.NetLine.{NetLine}
-use Rattle.dcp_io.specs.declared.net_plans.NetLine.TheVariants as lines
-use Rattle.dcp_io.specs.declared.net_plans.Chaos.{Chaos}
-use Rattle.dcp_io.specs.declared.net_plans.NetPlan.{NetPlan}
-use Rattle.slave_desc.specs.Canonical.{IsDesc}
+use Rattle.scenario.specs.declared.net_plans.NetLine.{NetLine}
+use Rattle.scenario.specs.declared.net_plans.NetLine.TheVariants as lines
+use Rattle.scenario.specs.declared.net_plans.Chaos.{Chaos}
+use Rattle.scenario.specs.declared.net_plans.NetPlan.{NetPlan}
+use Rattle.slave_desc.specs.Descriptions.{IsDesc}
 use Rattle.slave_desc.specs.declared.descriptions.SlaveDesc.{SlaveDesc}
-use Rattle.scenario.specs.Links.{outputs_at, inputs_at, parameters_at}
-use Rattle.scenario.specs.Checks.{type_at, same_input, changed, setting_in, takes_at}
-use Rattle.scenario.specs.Limits.{is_too_much}
+use Rattle.scenario.specs.Lookups.{outputs_at, inputs_at, parameters_at, type_at}
+use Rattle.scenario.specs.Wiring.{same_input}
+use Rattle.scenario.specs.Settings.{changed, setting_in, takes_at}
+use Rattle.scenario.specs.Totals.{is_too_much}
 use Rattle.scenario.specs.declared.scenarios.Wire.{Wire}
 use Rattle.scenario.specs.declared.scenarios.Setting.{Setting}
 use Rattle.scenario.specs.declared.scenarios.Every.{Every}

@@ -1,24 +1,24 @@
-//! Scenarios: slaves and their models, the wires between them, and how they are run, read from a text.
+//! Scenarios as values: slaves and their models, the wires between them, how they are run, and what
+//! the network in memory does to their messages.
 //!
-//! What it promises: `read_scenario` gives the scenario of a text that reads, and otherwise names the
-//! first line that is refused, with its first cause. Each text reads, or has one such line, and never
-//! both. What it gives is in range: each number, port, setting and interval that it names is there.
+//! A scenario is plain data, and `IsScenario` of `specs/Sound.antt` says which are sound: each number,
+//! port, setting and interval that it names is there and in range, and nothing clashes. What it
+//! promises: the look-ups that all above share (a slave and what it has, the wire into an input, the
+//! interval of a pair, the parameters of a run, the totals) give exactly what their definitions give.
 #![tactic(auto)]
 
-mod collected;
-mod heads;
-mod keys;
-mod latest;
-mod limits;
-mod link_words;
-mod lists;
-mod readers;
+mod lookups;
+mod net_plans;
 mod scenarios;
-mod texts;
+mod settings;
+mod slave_lists;
+mod totals;
+mod wiring;
 
-pub use lists::{Intervals, Items, Reruns, Settings, Slaves, Wires};
-pub use scenarios::{Every, Rerun, Scenario, Setting, Wire};
-pub use texts::{read_scenario, reads_or_refused};
-
-#[cfg(test)]
-mod tests;
+pub use lookups::{inputs_at, outputs_at, parameters_at, slave_at, type_at};
+pub use net_plans::{Chaos, NetLine, NetLines, NetPlan};
+pub use scenarios::{Every, Intervals, Rerun, Reruns, Scenario, Setting, Settings, Wire, Wires};
+pub use settings::{change_all, parameters};
+pub use slave_lists::Slaves;
+pub use totals::{is_too_much, total_outputs};
+pub use wiring::{every_between, interval, wire_into};

@@ -1,11 +1,11 @@
 //! A scenario: slaves, the wires between them, and how they are run.
 
 ghost use Rattle.std.specs.Prelude.{◌≡◌};
-ghost use Rattle.scenario.specs.Checks.{changed_by, setting_in};
+ghost use Rattle.scenario.specs.Settings.{changed_by, setting_in};
 
-use crate::lists::{Intervals, Reruns, Settings, Slaves, Wires};
-use dcp_io::NetPlan;
-use dcp_types::{Address, Limits, Protocol};
+use crate::net_plans::NetPlan;
+use crate::slave_lists::Slaves;
+use dcp_types::{Address, Items, Limits, Protocol};
 
 /// A wire from an output port to an input port. Slaves count from 1 in the text's order, ports from 0.
 #[derive(Clone, Copy, Debug, PartialEq, Eq)]
@@ -71,7 +71,19 @@ impl Rerun {
     }
 }
 
-/// A scenario. `read_scenario` gives those that a text can have, and their condition is `IsScenario`.
+/// Wires in order.
+pub type Wires = Items<Wire>;
+
+/// Settings in the order in which they are made.
+pub type Settings = Items<Setting>;
+
+/// Intervals in order.
+pub type Intervals = Items<Every>;
+
+/// Settings before later runs, in the order in which they are made.
+pub type Reruns = Items<Rerun>;
+
+/// A scenario. `IsScenario` is the condition of those that a text can give.
 #[derive(Debug, Drop)]
 pub struct Scenario {
     /// The steps of each run, 0 to 100,000.

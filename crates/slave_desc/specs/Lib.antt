@@ -1,6 +1,1 @@
-pub mod Words
-pub mod Items
-pub mod Judging
-pub mod Reads
-pub mod Canonical
-pub mod Machine
+pub mod Descriptions

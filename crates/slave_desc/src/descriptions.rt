@@ -1,11 +1,12 @@
 //! A slave's description.
 
-use crate::lists::{Parameters, Ports};
-use dcp_types::Address;
+use crate::parameters::Parameters;
+use crate::ports::Ports;
+use dcp_types::{Address, Name};
 use fixed_models::Kind;
-use text_lines::Name;
 
 /// What a slave is: who it is, where it is found, its model, how fast it answers, and its ports.
+/// `IsDesc` is the condition of those that a text can give.
 #[derive(Debug, Drop)]
 pub struct SlaveDesc {
     pub name: Name,

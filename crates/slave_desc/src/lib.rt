@@ -1,31 +1,13 @@
-//! Slave descriptions: their text read and printed.
+//! Slave descriptions as values: who a slave is, where it is found, its model and its ports.
 //!
-//! What it promises: a text reads exactly where it is the text of a description by the grammar
-//! (`specs/Reads.antt`), and is else refused at its first wrong line with the first thing that is wrong
-//! there (`specs/Judging.antt`). Each text is of one kind or the other, never both. The canonical text
-//! of a description reads back as that description.
+//! A description is plain data. `specs/Descriptions.antt` says which descriptions are sound: those
+//! that a text can give.
 #![tactic(auto)]
 
 mod descriptions;
-mod items;
-mod keys;
-mod lists;
-mod partials;
-mod printing;
-mod reading;
-mod words;
+mod parameters;
+mod ports;
 
 pub use descriptions::SlaveDesc;
-pub use lists::{Parameters, Port, Ports};
-pub use printing::print_desc;
-pub use reading::{read_desc, reads_or_refused};
-pub use text_lines::{Name, TextFault, TextRefused, TextWhy};
-
-// For readers of larger texts, in which a description is one block: the keys of a block, what a line of
-// a key says, and a block that is filled line by line.
-pub use items::{Item, item_of};
-pub use keys::{Key, key_of};
-pub use partials::{Partial, check_key};
-
-#[cfg(test)]
-mod tests;
+pub use parameters::Parameters;
+pub use ports::{Port, Ports};

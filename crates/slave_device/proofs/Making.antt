@@ -5,7 +5,7 @@ use Rattle.std.proofs.lemmas.List.{length-map}
 use Rattle.fixed_models.specs.Kinds.{takes, has_inputs, output_count}
 use Rattle.fixed_models.specs.Views.{View, accepts}
 use Rattle.slave_desc.specs.declared.descriptions.SlaveDesc.{SlaveDesc}
-use Rattle.slave_desc.specs.Canonical.{IsDesc}
+use Rattle.slave_desc.specs.Descriptions.{IsDesc}
 use Rattle.slave_spec.specs.Plants.{model_with, output_types}
 use Rattle.slave_device.specs.Made.{IsMade}
 

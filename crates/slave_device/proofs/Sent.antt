@@ -6,7 +6,7 @@ use Rattle.std.proofs.lemmas.List.{map-append}
 use Rattle.std.proofs.lemmas.List.Elements.{filter-append, filter_map-append}
 use Rattle.dcp_ends.specs.Events.{Send}
 use Rattle.fixed_models.specs.Steps.{all_fit}
-use Rattle.slave_desc.specs.declared.lists.Port.{Port}
+use Rattle.slave_desc.specs.declared.ports.Port.{Port}
 use Rattle.slave_desc.specs.declared.descriptions.SlaveDesc.{SlaveDesc}
 use Rattle.slave_wiring.specs.Changes.{Change, output, is_due}
 use Rattle.slave_wiring.specs.Payloads as payloads

@@ -1,7 +1,7 @@
 //! The machine of a slave, and how it is made.
 
 ghost use Rattle.std.specs.Prelude.{◌≡◌, ◌≤◌, IfOk, map};
-ghost use Rattle.slave_desc.specs.Canonical.{IsDesc};
+ghost use Rattle.slave_desc.specs.Descriptions.{IsDesc};
 ghost use Rattle.slave_spec.specs.Plants.{start, model_with, output_types};
 ghost use Rattle.slave_wiring.specs.Payloads.{bare};
 ghost use Rattle.slave_device.specs.Made.{IsMade};

@@ -10,7 +10,7 @@ use Rattle.pdu_layout.specs.declared.messages.Cfg.TheVariants as cfg
 use Rattle.pdu_layout.specs.Fields.FieldValue.{Number, Bytes}
 use Rattle.pdu_layout.specs.Message.{Message}
 use Rattle.pdu_layout.specs.Reading.{value_in, spelling}
-use Rattle.slave_desc.specs.declared.lists.Port.{Port}
+use Rattle.slave_desc.specs.declared.ports.Port.{Port}
 use Rattle.slave_desc.specs.declared.descriptions.SlaveDesc.{SlaveDesc}
 use Rattle.slave_wiring.specs.Changes.{Change, Set, Restart, newest, input, output, entries, has_id, ids, source, target, in_run, ordinal}
 use Rattle.slave_wiring.specs.Refusals.{port_with}

@@ -10,7 +10,7 @@ use Rattle.std.proofs.lemmas.List.Sums.{AllPass-from_list_all}
 use Rattle.std.proofs.lemmas.Str.{IsUtf8-from_ascii}
 use Rattle.std.specs.Char.{is_ascii_alphabetic}
 use Rattle.text_lines.proofs.PlainWords.{is_plain, is_plain_byte, both, and_both, all_by}
-use Rattle.text_lines.specs.Names.{is_name_byte, is_name}
+use Rattle.dcp_types.specs.Names.{is_name_byte, is_name}
 
 name_byte : (b : ℕ) → is_name_byte b ≡ true → (33 ≤ b) × (b < 128)
 name_byte b e = grind (arith, nat_tests)

@@ -10,7 +10,6 @@
 mod addresses;
 mod counts;
 mod identities;
-mod lists;
 mod names;
 mod numbers;
 mod reasons;
@@ -19,11 +18,7 @@ mod texts;
 pub use addresses::{address, ip};
 pub use counts::{four_words, one_word, three_words, two_words};
 pub use identities::identity;
-pub use lists::Name;
-pub use names::{is_name, name};
+pub use names::name;
 pub use numbers::{int64, number, number_from, signed_number};
 pub use reasons::{LineRefused, TextFault, TextRefused, TextWhy};
 pub use texts::{is_skipped, is_utf8, lines, words};
-
-#[cfg(test)]
-mod tests;

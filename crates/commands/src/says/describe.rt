@@ -10,7 +10,8 @@ use crate::refusals::{refuse_line, refuse_past_limit};
 use crate::said::{Said, Text};
 use crate::statuses::Verdict;
 use dcp_types::OutOfMemory;
-use slave_desc::{TextRefused, print_desc, read_desc};
+use desc_text::{print_desc, read_desc};
+use text_lines::TextRefused;
 use std::alloc::Global;
 
 /// The canonical text of the description, or the first line that is refused.

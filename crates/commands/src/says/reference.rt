@@ -11,8 +11,8 @@ use crate::said::{Said, Text};
 use crate::statuses::Verdict;
 use dcp_types::OutOfMemory;
 use lockstep::reference;
-use scenario::read_scenario;
-use slave_desc::TextRefused;
+use scenario_text::read_scenario;
+use text_lines::TextRefused;
 use std::alloc::Global;
 
 /// The rows of the scenario and the line after them, or the first line that is refused.

@@ -1,6 +1,6 @@
 use Rattle.std.proofs.Common.{List, ap, arith}
 use Rattle.slave_desc.specs.declared.descriptions.SlaveDesc.{SlaveDesc}
-use Rattle.scenario.specs.Limits.{total_outputs}
+use Rattle.scenario.specs.Totals.{total_outputs}
 use Rattle.lockstep.proofs.Growing.{some_outputs}
 use Rattle.lockstep.proofs.running.reference.Goals as goal
 

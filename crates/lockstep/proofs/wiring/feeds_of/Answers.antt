@@ -1,6 +1,6 @@
 use Rattle.std.proofs.Common.{List, ap, ◌∙◌}
 use Rattle.scenario.specs.declared.scenarios.Wire.{Wire}
-use Rattle.lockstep.specs.Wiring.{wire_into}
+use Rattle.scenario.specs.Wiring.{wire_into}
 use Rattle.lockstep.proofs.Reading.{wire_for, feeds_more}
 use Rattle.lockstep.proofs.wiring.feeds_of.Goals as goal
 

@@ -2,8 +2,8 @@ use Rattle.std.proofs.Common.{◌≡◌, List, length, map, ap, ◌∙◌, sym, 
 use Rattle.dcp_types.specs.declared.data_types.DataType.{DataType}
 use Rattle.fixed_models.specs.Steps.{start}
 use Rattle.fixed_models.specs.Views.{View, accepts}
-use Rattle.slave_desc.specs.declared.lists.Port.{Port}
-use Rattle.lockstep.specs.Parameters.{parameters}
+use Rattle.slave_desc.specs.declared.ports.Port.{Port}
+use Rattle.scenario.specs.Settings.{parameters}
 use Rattle.lockstep.specs.Feeds.{feeds_of}
 use Rattle.lockstep.specs.Parts.{types_of}
 use Rattle.lockstep.proofs.Due.{accepted}

@@ -1,0 +1,73 @@
+-- Which description a text is.
+use Rattle.std.specs.Prelude.{◌≡◌, ℕ, ◌≤◌, Bool, true, ◌&&◌, ◌||◌, List, [], ◌∷◌, length, is_some, All, ◌⊎◌}
+use Rattle.std.specs.List.{filter_map}
+use Rattle.std.specs.Str.{is_utf8}
+use Rattle.std.specs.Str.Lines.{lines}
+use Rattle.text_lines.specs.Texts.{words, is_skipped}
+use Rattle.desc_text.specs.Judging.{name_in, uuid_in, address_in, model_in, busy_in, heartbeat_in, resolution_in, input_in, output_in, item_of_words, items_in, FirstBad}
+use Rattle.fixed_models.specs.Kinds.{takes, has_ports}
+use Rattle.text_lines.specs.declared.reasons.TextWhy.{TextWhy}
+use Rattle.text_lines.specs.declared.reasons.TextRefused.{TextRefused}
+use Rattle.text_lines.specs.declared.reasons.TextRefused.TheVariants as refusals
+use Rattle.slave_desc.specs.Descriptions.{AreApart}
+use Rattle.desc_text.specs.declared.items.Item.{Item}
+use Rattle.slave_desc.specs.declared.descriptions.SlaveDesc.{SlaveDesc}
+
+-- a line that reads by itself
+abbrev pub is_read : List ℕ → Bool
+is_read line = is_utf8 line && (is_skipped (words line) || is_some (item_of_words (words line)))
+
+-- the first item is a name
+abbrev pub opens : List Item → Bool
+opens [] = true
+opens (first ∷ others) = is_some (name_in first)
+
+-- x is the one value said, or this default where none is
+abbrev pub IsOr : {X : Type 0} → X → List X → X → Type 0
+IsOr default [] x = x ≡ default
+IsOr default (y ∷ []) x = x ≡ y
+IsOr default (y ∷ z ∷ more) x = ⊥
+
+-- the items are those of this description
+pub record Describes (all : List Item) (d : SlaveDesc) : Type 0 where
+  pub first : opens all ≡ true
+  pub name : filter_map name_in all ≡ d.name ∷ []
+  pub uuid : filter_map uuid_in all ≡ d.uuid ∷ []
+  pub address : filter_map address_in all ≡ d.address ∷ []
+  pub model : filter_map model_in all ≡ (d.kind, d.parameters) ∷ []
+  pub taken : takes d.kind d.parameters ≡ true
+  pub busy : IsOr 0 (filter_map busy_in all) d.busy
+  pub heartbeat : IsOr 0 (filter_map heartbeat_in all) d.heartbeat
+  pub resolution : IsOr (1, 1000) (filter_map resolution_in all) (d.numerator, d.denominator)
+  pub inputs : filter_map input_in all ≡ d.inputs
+  pub outputs : filter_map output_in all ≡ d.outputs
+  pub few_inputs : length d.inputs ≤ 8
+  pub few_outputs : (1 ≤ length d.outputs) × (length d.outputs ≤ 8)
+  pub inputs_apart : AreApart d.inputs
+  pub outputs_apart : AreApart d.outputs
+  pub ports : has_ports d.kind (length d.inputs) (length d.outputs) ≡ true
+
+-- each line reads by itself, and their items are those of the description
+pub record Reads (text : List ℕ) (d : SlaveDesc) : Type 0 where
+  pub each : All (λ line. is_read line ≡ true) (lines text)
+  pub says : Describes (items_in (lines text)) d
+
+-- the fault that was answered is the first line that is refused
+abbrev pub IsFirstBad : List ℕ → TextRefused → Type 0
+IsFirstBad text refusals.OutOfMemory = Unit {0}
+IsFirstBad text (refusals.Fault fault) = FirstBad text fault.line fault.why
+
+-- each text reads or has a first line that is refused
+abbrev pub ReadsOrRefused : Type 0
+ReadsOrRefused = (text : List ℕ) → ((d : SlaveDesc) × Reads text d) ⊎ ((line : ℕ) × (why : TextWhy) × FirstBad text line why)
+
+-- and never both
+abbrev pub NeverBoth : Type 0
+NeverBoth = (text : List ℕ) (d : SlaveDesc) (line : ℕ) (why : TextWhy) → Reads text d → FirstBad text line why → ⊥
+
+-- it is one description, or has one such line
+abbrev pub OneValue : Type 0
+OneValue = (text : List ℕ) (a b : SlaveDesc) → Reads text a → Reads text b → a ≡ b
+
+abbrev pub OneFault : Type 0
+OneFault = (text : List ℕ) (m n : ℕ) (v w : TextWhy) → FirstBad text m v → FirstBad text n w → (m ≡ n) × (v ≡ w)

@@ -1,6 +1,0 @@
-use Rattle.std.proofs.Common.{◌≡◌, drop}
-use Rattle.scenario.specs.Checks.{changed}
-use Rattle.scenario.proofs.collected.set_all.Given as goal
-
-abbrev pub invariant-loop-setting : goal.invariant-loop-setting
-invariant-loop-setting l = changed l.parameters l.slave (drop l.setting-index l.settings) ≡ changed l.fn.parameters l.slave l.settings

@@ -1,6 +1,0 @@
-use Rattle.std.proofs.Common.{◌≡◌, drop}
-use Rattle.scenario.specs.Heads.{protocol_in, first_said}
-use Rattle.scenario.proofs.heads.protocol_said.Given as goal
-
-abbrev pub invariant-loop-item : goal.invariant-loop-item
-invariant-loop-item l = first_said protocol_in (drop l.item-index l.said) ≡ first_said protocol_in l.said

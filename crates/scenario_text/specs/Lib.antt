@@ -1,0 +1,10 @@
+pub mod Keys
+pub mod Heads
+pub mod Links
+pub mod Checks
+pub mod LastSettings
+pub mod Scenarios
+pub mod Judging
+pub mod Grammar
+pub mod Reads
+pub mod Machine

@@ -1,7 +1,0 @@
-use Rattle.std.proofs.Common.{◌≡◌, map, drop}
-use Rattle.slave_desc.specs.Items.{parameters}
-use Rattle.slave_desc.proofs.Fronts.{with_front}
-use Rattle.slave_desc.proofs.items.parameters.Given as goal
-
-abbrev pub invariant-loop-word : goal.invariant-loop-word
-invariant-loop-word l = with_front l.numbers.items (parameters (map (λ w. w.now) (drop l.word-index l.args))) ≡ parameters (map (λ w. w.now) l.args)
