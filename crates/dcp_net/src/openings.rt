@@ -2,8 +2,8 @@
 
 ghost use Rattle.std.specs.Prelude.{◌≡◌, IfOk};
 
-use dcp_io::{NetLines, NetPlan};
 use dcp_types::{Address, Protocol};
+use scenario::{NetLines, NetPlan};
 use std::alloc::{AllocError, Global};
 use std::marker::Model;
 
