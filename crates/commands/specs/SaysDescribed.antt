@@ -1,10 +1,10 @@
 -- What `describe` says of a text.
 use Rattle.std.specs.Prelude.{◌≡◌, ℕ, List}
 use Rattle.text_lines.specs.declared.reasons.TextWhy.{TextWhy}
-use Rattle.text_lines.specs.Reasons.{why_word}
+use Rattle.text_lines.specs.Causes.{cause_word}
 use Rattle.slave_desc.specs.declared.descriptions.SlaveDesc.{SlaveDesc}
 use Rattle.desc_text.specs.Reads.{Reads}
-use Rattle.desc_text.specs.Judging.{FirstBad}
+use Rattle.text_lines.specs.Readings.{FirstBad}
 use Rattle.desc_text.specs.Canonical.{canonical}
 use Rattle.commands.specs.declared.statuses.Verdict.{Verdict}
 use Rattle.commands.specs.declared.statuses.Verdict.TheVariants as verdict
@@ -13,4 +13,4 @@ use Rattle.commands.specs.Refusals.{line_refusal}
 -- the canonical text of the description that it is, or the first line that is refused
 abbrev pub SaysDescribed : List ℕ → Verdict → List ℕ → Type 0
 SaysDescribed input verdict.Good text = (desc : SlaveDesc) × Reads input desc × (text ≡ canonical desc)
-SaysDescribed input verdict.Refused text = (line : ℕ) × (why : TextWhy) × FirstBad input line why × (text ≡ line_refusal line (why_word why))
+SaysDescribed input verdict.Refused text = (line : ℕ) × (why : TextWhy) × FirstBad input line why × (text ≡ line_refusal line (cause_word why))

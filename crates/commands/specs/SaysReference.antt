@@ -1,10 +1,10 @@
 -- What `reference` says of a text.
 use Rattle.std.specs.Prelude.{◌≡◌, ℕ, ℤ, List, Option}
 use Rattle.text_lines.specs.declared.reasons.TextWhy.{TextWhy}
-use Rattle.text_lines.specs.Reasons.{why_word}
+use Rattle.text_lines.specs.Causes.{cause_word}
 use Rattle.scenario.specs.declared.scenarios.Scenario.{Scenario}
 use Rattle.scenario_text.specs.Reads.{Reads}
-use Rattle.scenario_text.specs.Judging.{FirstBad}
+use Rattle.text_lines.specs.Readings.{FirstBad}
 use Rattle.lockstep.specs.declared.references.RefFault.{RefFault}
 use Rattle.lockstep.specs.Lockstep.{IsReference}
 use Rattle.commands.specs.declared.statuses.Verdict.{Verdict}
@@ -17,4 +17,4 @@ abbrev pub SaysReference : List ℕ → Verdict → List ℕ → Type 0
 SaysReference input verdict.Good text =
     (scenario : Scenario) × (rows : List (List ℤ)) × (fault : Option RefFault)
     × Reads input scenario × IsReference scenario rows fault × (text ≡ run_text scenario.steps rows fault)
-SaysReference input verdict.Refused text = (line : ℕ) × (why : TextWhy) × FirstBad input line why × (text ≡ line_refusal line (why_word why))
+SaysReference input verdict.Refused text = (line : ℕ) × (why : TextWhy) × FirstBad input line why × (text ≡ line_refusal line (cause_word why))

@@ -15,8 +15,11 @@ use Rattle.std.proofs.lemmas.Option.{slice_get_past, slice_get-get_or}
 use Rattle.text_lines.specs.Texts.{words, is_skipped}
 use Rattle.desc_text.specs.Items.{key_of, item_of}
 use Rattle.fixed_models.specs.Kinds.{takes}
-use Rattle.desc_text.specs.Judging.{came, came_before, begins, why_key, why_port, why_item, why_read, why_keyed, why_words, why_line, why_end, why_at, why_entry, or_else, refused_if, name_in, uuid_in, address_in, model_in, busy_in, heartbeat_in, resolution_in, input_in, output_in, item_keyed, item_of_words, item_in, items_in, FirstBad}
-use Rattle.desc_text.specs.Reads.{is_read, Reads, Describes, IsOr, opens}
+use Rattle.text_lines.specs.Causes.{came, or_else, refused_if}
+use Rattle.desc_text.specs.Judging.{came_before, begins, why_key, why_port, why_item, why_read, why_keyed, why_words, why_line, why_end, desc_why_at, why_entry}
+use Rattle.desc_text.specs.Said.{name_in, uuid_in, address_in, model_in, busy_in, heartbeat_in, resolution_in, input_in, output_in, item_keyed, item_of_words, item_in, items_in}
+use Rattle.text_lines.specs.Readings.{FirstBad}
+use Rattle.desc_text.specs.Reads.{is_read, ReadsAsDesc, Describes, IsOr, opens}
 use Rattle.slave_desc.specs.Descriptions.{AreApart}
 use Rattle.text_lines.proofs.PlainWords.{and_both}
 use Rattle.text_lines.proofs.Runs.{one_first}
@@ -171,7 +174,7 @@ pub end_none : (all : List Item) (d : SlaveDesc) → Describes all d → why_end
 end_none all d says = rw (says.name, says.uuid, says.address, says.outputs, says.inputs, says.model, came_some d.outputs says.few_outputs.0, says.ports) refl
 
 -- a text that reads has no line that is refused
-pub reads_not_bad : (text : List ℕ) (d : SlaveDesc) (n : ℕ) (w : TextWhy) → Reads text d → FirstBad text n w → ⊥
+pub reads_not_bad : (text : List ℕ) (d : SlaveDesc) (n : ℕ) (w : TextWhy) → ReadsAsDesc text d → FirstBad desc_why_at text n w → ⊥
 reads_not_bad text d n w reads bad =
     let ls = lines text in
     let k = bad.place - 1 in
@@ -191,8 +194,8 @@ reads_not_bad text d n w reads bad =
     (order k (length ls))
 
 -- no text has two first lines that are refused
-pub one_bad : (text : List ℕ) (m n : ℕ) (v w : TextWhy) → FirstBad text m v → FirstBad text n w → (m ≡ n) × (v ≡ w)
-one_bad text m n v w a b = one_first why_at (lines text) m n v w a b
+pub one_bad : (text : List ℕ) (m n : ℕ) (v w : TextWhy) → FirstBad desc_why_at text m v → FirstBad desc_why_at text n w → (m ≡ n) × (v ≡ w)
+one_bad text m n v w a b = one_first desc_why_at (lines text) m n v w a b
 
 first_same : {X : Type 0} (x y : X) (xs : List X) → xs ≡ x ∷ [] → xs ≡ y ∷ [] → x ≡ y
 first_same x y xs e f = cc

@@ -7,7 +7,9 @@ use Rattle.std.proofs.lemmas.Bool.Decides.{nat_tests}
 use Rattle.std.proofs.lemmas.List.Elements.{filter_map-append}
 use Rattle.std.proofs.lemmas.List.Folds.{list_any_at}
 use Rattle.std.proofs.lemmas.List.Quantifiers.{all_pairs_push}
-use Rattle.desc_text.specs.Judging.{came, came_before, begins, why_key, why_port, why_item, or_else, refused_if, name_in, uuid_in, address_in, model_in, busy_in, heartbeat_in, resolution_in, input_in, output_in}
+use Rattle.text_lines.specs.Causes.{came, or_else, refused_if}
+use Rattle.desc_text.specs.Judging.{came_before, begins, why_key, why_port, why_item}
+use Rattle.desc_text.specs.Said.{name_in, uuid_in, address_in, model_in, busy_in, heartbeat_in, resolution_in, input_in, output_in}
 use Rattle.fixed_models.specs.Kinds.{takes}
 use Rattle.desc_text.specs.Reads.{opens}
 use Rattle.slave_desc.specs.Descriptions.{AreApart}

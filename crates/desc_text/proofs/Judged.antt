@@ -13,7 +13,7 @@ use Rattle.std.proofs.lemmas.List.{take_at}
 use Rattle.std.proofs.lemmas.List.Elements.{filter_map-append, All-push}
 use Rattle.std.proofs.lemmas.Option.{slice_get_past}
 use Rattle.text_lines.specs.Texts.{words, is_skipped}
-use Rattle.text_lines.specs.Reasons.{◌>>=◌, or_why}
+use Rattle.text_lines.specs.Causes.{◌>>=◌, or_why, came, or_else, refused_if, unless}
 use Rattle.desc_text.specs.Items.{key_of, item_of, port, resolution, model, parameters}
 use Rattle.text_lines.specs.Names.{name}
 use Rattle.text_lines.specs.Addresses.{address}
@@ -24,11 +24,13 @@ use Rattle.text_lines.specs.Runs.{run_of}
 use Rattle.text_lines.proofs.Results.{bind_ok, some_ok, ok_same}
 use Rattle.text_lines.proofs.Runs.{Judges, run_ok, run_err}
 use Rattle.text_lines.specs.Numbers.{number_from}
-use Rattle.desc_text.specs.Judging.{came, came_before, begins, why_key, why_read, why_keyed, why_words, why_line, why_end, why_at, or_else, refused_if, why_ports, name_in, item_keyed, item_of_words, item_in, items_in, FirstBad}
+use Rattle.desc_text.specs.Judging.{came_before, begins, why_key, why_read, why_keyed, why_words, why_line, why_end, desc_why_at, why_ports}
+use Rattle.desc_text.specs.Said.{name_in, item_keyed, item_of_words, item_in, items_in}
+use Rattle.text_lines.specs.Readings.{FirstBad}
 use Rattle.fixed_models.specs.Kinds.{takes, has_ports}
-use Rattle.desc_text.specs.Reads.{is_read, Reads, Describes, IsOr}
+use Rattle.desc_text.specs.Reads.{is_read, ReadsAsDesc, Describes, IsOr}
 use Rattle.slave_desc.specs.Descriptions.{AreApart}
-use Rattle.desc_text.specs.Machine.{has, put, why_held, unless, take_keyed, take_words, take_line, finished, nothing}
+use Rattle.desc_text.specs.Machine.{has, put, why_held, take_keyed, take_words, take_line, finished, nothing}
 use Rattle.desc_text.proofs.Held.{Holds, holds_nothing, key_in, holds_more, may_come, same_has, same_named, same_why, not_refused, not_not}
 use Rattle.text_lines.specs.declared.reasons.TextWhy.{TextWhy}
 use Rattle.text_lines.specs.declared.reasons.TextWhy.TheVariants as why
@@ -232,12 +234,12 @@ pub items_push : (done : List (List ℕ)) (line : List ℕ) → items_in (done +
 items_push done line = filter_map-append item_in done (line ∷ [])
 
 -- what the judging says after the lines that are done
-at_next : (done : List (List ℕ)) (line : List ℕ) (rest : List (List ℕ)) → why_at (done ++ line ∷ rest) (length done + 1) ≡ why_line (items_in done) line
+at_next : (done : List (List ℕ)) (line : List ℕ) (rest : List (List ℕ)) → desc_why_at (done ++ line ∷ rest) (length done + 1) ≡ why_line (items_in done) line
 at_next done line rest =
     let before : length done + 1 - 1 ≡ length done = omega arith in
     rw (before, slice_get-at done line rest, take_at done (line ∷ rest) (length done) refl) refl
 
-at_end : (done : List (List ℕ)) → why_at done (length done + 1) ≡ why_end (items_in done)
+at_end : (done : List (List ℕ)) → desc_why_at done (length done + 1) ≡ why_end (items_in done)
 at_end done =
     let before : length done + 1 - 1 ≡ length done = omega arith in
     rw (before, slice_get_past done (length done) (omega arith), take-length done) refl
@@ -246,13 +248,13 @@ at_end done =
 abbrev pub HoldsLines : List (List ℕ) → Partial → Type 0
 HoldsLines done p = Holds (items_in done) p × All (λ line. is_read line ≡ true) done
 
-owes_taken : (done rest : List (List ℕ)) (line : List ℕ) (p q : Partial) → HoldsLines done p → take_line p line ≡ Ok q → (why_at (done ++ line ∷ rest) (length done + 1) ≡ None) × HoldsLines (done ++ line ∷ []) q
+owes_taken : (done rest : List (List ℕ)) (line : List ℕ) (p q : Partial) → HoldsLines done p → take_line p line ≡ Ok q → (desc_why_at (done ++ line ∷ rest) (length done + 1) ≡ None) × HoldsLines (done ++ line ∷ []) q
 owes_taken done rest line p q h e =
     let took = line_ok (items_in done) p h.0 line q e in
     (at_next done line rest ∙ took.0, (subst (λ (l : List Item). Holds l q) (sym (items_push done line)) took.2, All-push (λ line. is_read line ≡ true) done line h.1 took.1))
 
 -- the reader owes the judging
-judges : Judges take_line finished why_at HoldsLines
+judges : Judges take_line finished desc_why_at HoldsLines
 judges = record {
   taken = owes_taken;
   refused = λ done rest line p w h e. at_next done line rest ∙ line_err (items_in done) p h.0 line w e;
@@ -263,10 +265,10 @@ holds_none : HoldsLines [] nothing
 holds_none = (holds_nothing, λ k x below. absurd (omega arith))
 
 -- the two answers
-pub reads : (text : List ℕ) (d : SlaveDesc) → run_of take_line finished 1 nothing (lines text) ≡ Ok d → Reads text d
+pub reads : (text : List ℕ) (d : SlaveDesc) → run_of take_line finished 1 nothing (lines text) ≡ Ok d → ReadsAsDesc text d
 reads text d e =
-    let r = run_ok take_line finished why_at HoldsLines judges [] (lines text) nothing d holds_none e in
+    let r = run_ok take_line finished desc_why_at HoldsLines judges [] (lines text) nothing d holds_none e in
     record { each = r.1.1; says = end_ok (items_in (lines text)) r.0 r.1.0 d r.2 }
 
-pub first_bad : (text : List ℕ) (f : TextFault) → run_of take_line finished 1 nothing (lines text) ≡ Err f → FirstBad text f.line f.why
-first_bad text f e = run_err take_line finished why_at HoldsLines judges [] (lines text) nothing f holds_none (λ n below some. absurd (omega arith)) e
+pub first_bad : (text : List ℕ) (f : TextFault) → run_of take_line finished 1 nothing (lines text) ≡ Err f → FirstBad desc_why_at text f.line f.why
+first_bad text f e = run_err take_line finished desc_why_at HoldsLines judges [] (lines text) nothing f holds_none (λ n below some. absurd (omega arith)) e

@@ -8,7 +8,7 @@ use Rattle.std.specs.Str.Lines.{lines}
 use Rattle.std.proofs.lemmas.List.Elements.{All-from_recursion}
 use Rattle.dcp_types.specs.declared.addresses.Address.{Address}
 use Rattle.text_lines.specs.Texts.{words, is_skipped}
-use Rattle.text_lines.specs.Reasons.{◌>>=◌, or_why}
+use Rattle.text_lines.specs.Causes.{◌>>=◌, or_why}
 use Rattle.text_lines.specs.Numbers.{number_from, has_minus, int64}
 use Rattle.dcp_types.specs.Names.{is_name}
 use Rattle.text_lines.specs.Names.{name}
@@ -23,8 +23,8 @@ use Rattle.text_lines.specs.declared.reasons.TextWhy.TheVariants as why
 use Rattle.fixed_models.specs.declared.kinds.Kind.{Kind}
 use Rattle.desc_text.specs.Words.{data_type_of, kind_of}
 use Rattle.desc_text.specs.Items.{key_of, item_of, port, resolution, parameters, model}
-use Rattle.desc_text.specs.Judging.{name_in, uuid_in, address_in, model_in, busy_in, heartbeat_in, resolution_in, input_in, output_in, item_keyed, item_of_words, items_in}
-use Rattle.desc_text.specs.Reads.{Reads, Describes, IsOr}
+use Rattle.desc_text.specs.Said.{name_in, uuid_in, address_in, model_in, busy_in, heartbeat_in, resolution_in, input_in, output_in, item_keyed, item_of_words, items_in}
+use Rattle.desc_text.specs.Reads.{ReadsAsDesc, Describes, IsOr}
 use Rattle.slave_desc.specs.Descriptions.{IsDesc}
 use Rattle.slave_desc.specs.declared.ports.Port.{Port}
 use Rattle.desc_text.specs.declared.keys.Key.{Key}
@@ -254,7 +254,7 @@ described all d fit says =
     }
 
 -- what reads is in range
-pub reads_desc : (text : List ℕ) (d : SlaveDesc) → Reads text d → IsDesc d
+pub reads_desc : (text : List ℕ) (d : SlaveDesc) → ReadsAsDesc text d → IsDesc d
 reads_desc text d r = described (items_in (lines text)) d (lines_fit (lines text)) r.says
 
 -- the items of lines describe a description in range, where they describe one

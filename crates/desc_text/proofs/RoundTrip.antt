@@ -13,8 +13,8 @@ use Rattle.dcp_types.specs.Words.{type_word}
 use Rattle.fixed_models.specs.Kinds.{kind_word}
 use Rattle.desc_text.specs.Words.{data_type_of, kind_of}
 use Rattle.desc_text.specs.Items.{port, parameters}
-use Rattle.desc_text.specs.Judging.{name_in, uuid_in, address_in, model_in, busy_in, heartbeat_in, resolution_in, input_in, output_in, item_of_words, item_in, items_in}
-use Rattle.desc_text.specs.Reads.{is_read, Reads, Describes, IsOr}
+use Rattle.desc_text.specs.Said.{name_in, uuid_in, address_in, model_in, busy_in, heartbeat_in, resolution_in, input_in, output_in, item_of_words, item_in, items_in}
+use Rattle.desc_text.specs.Reads.{is_read, ReadsAsDesc, Describes, IsOr}
 use Rattle.desc_text.specs.Canonical.{port_words, head_words, words_of, canonical}
 use Rattle.slave_desc.specs.Descriptions.{IsDesc}
 use Rattle.text_lines.proofs.PlainWords.{is_plain, both, words_joined, line_bytes, line_is_utf8, lines_joined}
@@ -233,7 +233,7 @@ all_lines d h =
     (output_lines d.outputs (recursion_from_All (λ (p : Port). p.vr < 2 ^ 64) d.outputs h.vrs.1))
 
 -- the canonical text is this description
-pub canonical_reads : (d : SlaveDesc) → IsDesc d → Reads (canonical d) d
+pub canonical_reads : (d : SlaveDesc) → IsDesc d → ReadsAsDesc (canonical d) d
 canonical_reads d h =
     let t = lines_are (words_of d) (all_items d) (all_lines d h) in
     let cut = lines_joined (words_of d) t.0 in

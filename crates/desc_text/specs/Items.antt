@@ -1,7 +1,7 @@
 -- What a line of a description says, by its key and the words after it.
 use Rattle.std.specs.Prelude.{ℕ, ℤ, ◌-◌, ◌^◌, List, [], ◌∷◌, if◌then◌else◌, Option, Some, None, Result, Ok, Err, codes}
 use Rattle.std.specs.Str.{bytes_eq}
-use Rattle.text_lines.specs.Reasons.{◌>>=◌, or_why}
+use Rattle.text_lines.specs.Causes.{◌>>=◌, or_why}
 use Rattle.text_lines.specs.Numbers.{number_from, int64}
 use Rattle.text_lines.specs.Names.{name}
 use Rattle.text_lines.specs.Addresses.{address}

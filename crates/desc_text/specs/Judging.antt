@@ -1,63 +1,20 @@
 -- The judging of a line of a description, after what the lines before it say.
 use Rattle.std.specs.Prelude.{ℕ, ℤ, ◌-◌, Bool, true, false, not, ◌==◌, ◌&&◌, nat_le, List, [], ◌∷◌, length, take, if◌then◌else◌, Option, Some, None, Result, Ok, Err, slice_get}
 use Rattle.std.specs.List.{filter_map, list_any}
-use Rattle.std.specs.Result.{result_ok}
 use Rattle.std.specs.Str.{is_utf8}
-use Rattle.std.specs.Str.Lines.{lines}
 use Rattle.text_lines.specs.Texts.{words, is_skipped}
-use Rattle.text_lines.specs.Runs.{IsFirst}
+use Rattle.text_lines.specs.Causes.{came, or_else, refused_if}
 use Rattle.desc_text.specs.Items.{key_of, item_of}
+use Rattle.desc_text.specs.Said.{name_in, uuid_in, address_in, model_in, busy_in, heartbeat_in, resolution_in, input_in, output_in, items_in}
 use Rattle.fixed_models.specs.Kinds.{takes, has_ports}
 use Rattle.text_lines.specs.declared.reasons.TextWhy.{TextWhy}
 use Rattle.text_lines.specs.declared.reasons.TextWhy.TheVariants as why
-use Rattle.dcp_types.specs.declared.addresses.Address.{Address}
 use Rattle.slave_desc.specs.declared.ports.Port.{Port}
 use Rattle.fixed_models.specs.declared.kinds.Kind.{Kind}
 use Rattle.desc_text.specs.declared.keys.Key.{Key}
 use Rattle.desc_text.specs.declared.keys.Key.TheVariants as keys
 use Rattle.desc_text.specs.declared.items.Item.{Item}
 use Rattle.desc_text.specs.declared.items.Item.TheVariants as items
-
--- what an item says of one key
-abbrev pub name_in : Item → Option (List ℕ)
-name_in (items.Slave n) = Some n
-name_in _ = None
-
-abbrev pub uuid_in : Item → Option ℕ
-uuid_in (items.Uuid n) = Some n
-uuid_in _ = None
-
-abbrev pub address_in : Item → Option Address
-address_in (items.Address a) = Some a
-address_in _ = None
-
-abbrev pub model_in : Item → Option (Kind × List ℤ)
-model_in (items.Model k ps) = Some (k, ps)
-model_in _ = None
-
-abbrev pub busy_in : Item → Option ℕ
-busy_in (items.Busy n) = Some n
-busy_in _ = None
-
-abbrev pub heartbeat_in : Item → Option ℕ
-heartbeat_in (items.Heartbeat n) = Some n
-heartbeat_in _ = None
-
-abbrev pub resolution_in : Item → Option (ℕ × ℕ)
-resolution_in (items.Resolution n d) = Some (n, d)
-resolution_in _ = None
-
-abbrev pub input_in : Item → Option Port
-input_in (items.Input p) = Some p
-input_in _ = None
-
-abbrev pub output_in : Item → Option Port
-output_in (items.Output p) = Some p
-output_in _ = None
-
-abbrev pub came : {X : Type 0} → List X → Bool
-came [] = false
-came (x ∷ xs) = true
 
 -- whether a key that comes once came before
 abbrev pub came_before : List Item → Key → Bool
@@ -75,14 +32,6 @@ came_before before keys.Output = false
 abbrev pub begins : Key → Bool
 begins keys.Slave = true
 begins _ = false
-
--- the first of two causes
-abbrev pub or_else : Option TextWhy → Option TextWhy → Option TextWhy
-or_else None later = later
-or_else (Some why) later = Some why
-
-abbrev pub refused_if : Bool → TextWhy → Option TextWhy
-refused_if b why = if b then Some why else None
 
 -- by the key alone, where it came before or not, and a name did or not: a block begins with its name, and what comes once came before
 abbrev pub why_key : Bool → Bool → Key → Option TextWhy
@@ -132,29 +81,11 @@ why_end all =
     then why_ports (filter_map model_in all) (length (filter_map input_in all)) (length (filter_map output_in all))
     else Some why.Missing
 
--- the item of a line, where it has one
-abbrev pub item_keyed : Option Key → List (List ℕ) → Option Item
-item_keyed None args = None
-item_keyed (Some key) args = result_ok (item_of key args)
-
-abbrev pub item_of_words : List (List ℕ) → Option Item
-item_of_words [] = None
-item_of_words (w ∷ args) = item_keyed (key_of w) args
-
-abbrev pub item_in : List ℕ → Option Item
-item_in line = if is_skipped (words line) then None else item_of_words (words line)
-
-abbrev pub items_in : List (List ℕ) → List Item
-items_in ls = filter_map item_in ls
-
+-- what is wrong with a line, or with the end
 abbrev pub why_entry : Option (List ℕ) → List Item → Option TextWhy
 why_entry (Some line) before = why_line before line
 why_entry None before = why_end before
 
 -- what is wrong with the line of this number, the end being the line after the last
-abbrev pub why_at : List (List ℕ) → ℕ → Option TextWhy
-why_at ls n = why_entry (slice_get ls (n - 1)) (items_in (take (n - 1) ls))
-
--- the first line that is refused, and why
-abbrev pub FirstBad : List ℕ → ℕ → TextWhy → Type 0
-FirstBad text line why = IsFirst why_at (lines text) line why
+abbrev pub desc_why_at : List (List ℕ) → ℕ → Option TextWhy
+desc_why_at ls n = why_entry (slice_get ls (n - 1)) (items_in (take (n - 1) ls))

@@ -4,8 +4,9 @@ use Rattle.std.specs.Option.{unwrap_or}
 use Rattle.std.specs.Str.{is_utf8}
 use Rattle.text_lines.specs.Texts.{words, is_skipped}
 use Rattle.desc_text.specs.Items.{key_of, item_of}
-use Rattle.text_lines.specs.Reasons.{◌>>=◌, or_why}
-use Rattle.desc_text.specs.Judging.{name_in, uuid_in, address_in, model_in, busy_in, heartbeat_in, resolution_in, input_in, output_in, why_key, why_port, refused_if}
+use Rattle.text_lines.specs.Causes.{◌>>=◌, or_why, refused_if}
+use Rattle.desc_text.specs.Said.{name_in, uuid_in, address_in, model_in, busy_in, heartbeat_in, resolution_in, input_in, output_in}
+use Rattle.desc_text.specs.Judging.{why_key, why_port}
 use Rattle.fixed_models.specs.Kinds.{takes, has_ports}
 use Rattle.text_lines.specs.declared.reasons.TextWhy.{TextWhy}
 use Rattle.text_lines.specs.declared.reasons.TextWhy.TheVariants as why
@@ -49,11 +50,7 @@ put p i = record {
   outputs = longer p.outputs (output_in i);
 }
 
--- a cause, or else what follows
-abbrev pub unless : {X : Type 0} → Option TextWhy → Result X TextWhy → Result X TextWhy
-unless None next = next
-unless (Some why) next = Err why
-
+-- what is wrong with an item after the lines so far
 abbrev pub why_held : Partial → Item → Option TextWhy
 why_held p (items.Input port) = why_port p.inputs port
 why_held p (items.Output port) = why_port p.outputs port

@@ -1,14 +1,11 @@
 -- Which description a text is.
-use Rattle.std.specs.Prelude.{◌≡◌, ℕ, ◌≤◌, Bool, true, ◌&&◌, ◌||◌, List, [], ◌∷◌, length, is_some, All, ◌⊎◌}
+use Rattle.std.specs.Prelude.{◌≡◌, ℕ, ◌≤◌, Bool, true, ◌&&◌, ◌||◌, List, [], ◌∷◌, length, is_some, All}
 use Rattle.std.specs.List.{filter_map}
 use Rattle.std.specs.Str.{is_utf8}
 use Rattle.std.specs.Str.Lines.{lines}
 use Rattle.text_lines.specs.Texts.{words, is_skipped}
-use Rattle.desc_text.specs.Judging.{name_in, uuid_in, address_in, model_in, busy_in, heartbeat_in, resolution_in, input_in, output_in, item_of_words, items_in, FirstBad}
+use Rattle.desc_text.specs.Said.{name_in, uuid_in, address_in, model_in, busy_in, heartbeat_in, resolution_in, input_in, output_in, item_of_words, items_in}
 use Rattle.fixed_models.specs.Kinds.{takes, has_ports}
-use Rattle.text_lines.specs.declared.reasons.TextWhy.{TextWhy}
-use Rattle.text_lines.specs.declared.reasons.TextRefused.{TextRefused}
-use Rattle.text_lines.specs.declared.reasons.TextRefused.TheVariants as refusals
 use Rattle.slave_desc.specs.Descriptions.{AreApart}
 use Rattle.desc_text.specs.declared.items.Item.{Item}
 use Rattle.slave_desc.specs.declared.descriptions.SlaveDesc.{SlaveDesc}
@@ -48,26 +45,6 @@ pub record Describes (all : List Item) (d : SlaveDesc) : Type 0 where
   pub ports : has_ports d.kind (length d.inputs) (length d.outputs) ≡ true
 
 -- each line reads by itself, and their items are those of the description
-pub record Reads (text : List ℕ) (d : SlaveDesc) : Type 0 where
+pub record ReadsAsDesc (text : List ℕ) (d : SlaveDesc) : Type 0 where
   pub each : All (λ line. is_read line ≡ true) (lines text)
   pub says : Describes (items_in (lines text)) d
-
--- the fault that was answered is the first line that is refused
-abbrev pub IsFirstBad : List ℕ → TextRefused → Type 0
-IsFirstBad text refusals.OutOfMemory = Unit {0}
-IsFirstBad text (refusals.Fault fault) = FirstBad text fault.line fault.why
-
--- each text reads or has a first line that is refused
-abbrev pub ReadsOrRefused : Type 0
-ReadsOrRefused = (text : List ℕ) → ((d : SlaveDesc) × Reads text d) ⊎ ((line : ℕ) × (why : TextWhy) × FirstBad text line why)
-
--- and never both
-abbrev pub NeverBoth : Type 0
-NeverBoth = (text : List ℕ) (d : SlaveDesc) (line : ℕ) (why : TextWhy) → Reads text d → FirstBad text line why → ⊥
-
--- it is one description, or has one such line
-abbrev pub OneValue : Type 0
-OneValue = (text : List ℕ) (a b : SlaveDesc) → Reads text a → Reads text b → a ≡ b
-
-abbrev pub OneFault : Type 0
-OneFault = (text : List ℕ) (m n : ℕ) (v w : TextWhy) → FirstBad text m v → FirstBad text n w → (m ≡ n) × (v ≡ w)

@@ -1,7 +1,7 @@
 //! What a line says.
 
 ghost use Rattle.std.specs.Prelude.{◌≡◌, map};
-ghost use Rattle.text_lines.specs.Reasons.{Gives};
+ghost use Rattle.text_lines.specs.Outcomes.{Gives};
 ghost use Rattle.desc_text.specs.Items.{port, resolution, parameters, model, item_of};
 
 use crate::keys::Key;

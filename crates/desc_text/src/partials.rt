@@ -70,7 +70,7 @@ fn check_port(before: &[Port], port: Port) -> Option<TextWhy>
 
 impl Partial {
     ghost use Rattle.desc_text.specs.Machine.{has, put, why_held, take_keyed, take_words, take_line, finished, nothing};
-    ghost use Rattle.text_lines.specs.Reasons.{Gives, Steps};
+    ghost use Rattle.text_lines.specs.Outcomes.{Gives, Steps};
 
     /// No line.
     pub fn new(alloc: Global) -> Partial
@@ -124,9 +124,10 @@ impl Partial {
         }
     }
 
-    /// Puts what a line says.
+    /// Puts what a line says. After want of memory the block is as it was.
     pub fn put(&mut self, item: Item) -> Result<(), OutOfMemory>
-        ensures { OnOk result (self.new ≡ put self.old item) }
+        ensures put { OnOk result (self.new ≡ put self.old item) }
+        ensures kept { IfErr result (λ _. self.new ≡ self.old) }
     {
         match item {
             Item::Slave(name) => self.name = Some(name),
@@ -145,7 +146,8 @@ impl Partial {
     }
 
     fn take_words(&mut self, alloc: Global, words: &[&[u8]]) -> Result<(), LineRefused>
-        ensures { Steps result self.new (take_words self.old (map (λ w. w.now) words.now)) }
+        ensures taken { Steps result self.new (take_words self.old (map (λ w. w.now) words.now)) }
+        ensures kept { IfErr result (λ _. self.new ≡ self.old) }
     {
         match words {
             [key, args @ ..] => match key_of(key) {
@@ -156,9 +158,10 @@ impl Partial {
         }
     }
 
-    /// Takes a line of this key and these words after it.
+    /// Takes a line of this key and these words after it. After an error the block is as it was.
     pub fn take_keyed(&mut self, alloc: Global, key: Key, args: &[&[u8]]) -> Result<(), LineRefused>
-        ensures { Steps result self.new (take_keyed self.old (Some key) (map (λ w. w.now) args.now)) }
+        ensures taken { Steps result self.new (take_keyed self.old (Some key) (map (λ w. w.now) args.now)) }
+        ensures kept { IfErr result (λ _. self.new ≡ self.old) }
     {
         if let Some(why) = check_key(self.has(key), self.name.is_some(), key) {
             return Err(LineRefused::Why(why));
@@ -171,9 +174,10 @@ impl Partial {
         Ok(())
     }
 
-    /// Takes a line.
+    /// Takes a line. After an error the block is as it was.
     pub fn take_line(&mut self, alloc: Global, line: &[u8]) -> Result<(), LineRefused>
-        ensures { Steps result self.new (take_line self.old line.now) }
+        ensures taken { Steps result self.new (take_line self.old line.now) }
+        ensures kept { IfErr result (λ _. self.new ≡ self.old) }
     {
         if !is_utf8(line) {
             return Err(LineRefused::Why(TextWhy::NotUtf8));

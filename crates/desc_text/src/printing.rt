@@ -7,7 +7,7 @@ ghost use Rattle.fixed_models.specs.Kinds.{kind_word};
 ghost use Rattle.text_lines.specs.Printed.{ip_word, identity_word, line_of};
 ghost use Rattle.desc_text.specs.Canonical.{canonical, port_words, spaced};
 ghost use Rattle.slave_desc.specs.Descriptions.{IsDesc};
-ghost use Rattle.desc_text.specs.Reads.{Reads};
+ghost use Rattle.desc_text.specs.Reads.{ReadsAsDesc};
 
 use dcp_types::{Address, OutOfMemory};
 use fixed_models::Kind;
@@ -112,7 +112,7 @@ fn put_ports(out: &mut String, key: &str, ports: &[Port]) -> Result<(), AllocErr
 /// range, as those of a description that was read are.
 pub fn print_desc(alloc: Global, desc: &SlaveDesc) -> Result<String, OutOfMemory>
     ensures text { IfOk result (λ s. string_bytes s ≡ canonical desc.now) }
-    ensures back { IsDesc desc.now → IfOk result (λ s. Reads (string_bytes s) desc.now) }
+    ensures back { IsDesc desc.now → IfOk result (λ s. ReadsAsDesc (string_bytes s) desc.now) }
 {
     let mut out = String::new(alloc);
     put_name(&mut out, desc.name.as_str())?;

@@ -2,9 +2,11 @@
 
 ghost use Rattle.std.specs.Prelude.{Ok, Err, IfOk, IfErr};
 ghost use Rattle.std.specs.Str.Lines.{lines};
-ghost use Rattle.text_lines.specs.Reasons.{GivesText};
+ghost use Rattle.text_lines.specs.Outcomes.{GivesText};
 ghost use Rattle.text_lines.specs.Runs.{run_of};
-ghost use Rattle.desc_text.specs.Reads.{Reads, IsFirstBad, ReadsOrRefused, NeverBoth, OneValue, OneFault};
+ghost use Rattle.desc_text.specs.Judging.{desc_why_at};
+ghost use Rattle.desc_text.specs.Reads.{ReadsAsDesc};
+ghost use Rattle.text_lines.specs.Readings.{IsFirstBad, ReadsOrRefused, NeverReadsAndRefused, OneValue, OneFault};
 ghost use Rattle.slave_desc.specs.Descriptions.{IsDesc};
 ghost use Rattle.slave_desc.specs.declared.descriptions.SlaveDesc.{SlaveDesc};
 ghost use Rattle.desc_text.specs.Machine.{take_line, finished, nothing};
@@ -39,24 +41,24 @@ fn read(alloc: Global, text: &[u8]) -> Result<SlaveDesc, TextRefused>
 
 /// The description that a text is, or its first fault.
 pub fn read_desc(alloc: Global, text: &[u8]) -> Result<SlaveDesc, TextRefused>
-    ensures ok { IfOk result (λ d. Reads text.now d) }
+    ensures ok { IfOk result (λ d. ReadsAsDesc text.now d) }
 
     // What was read is a description in range, so that its canonical text reads back.
     ensures range { IfOk result (λ d. IsDesc d) }
 
     // What reads is read, unless memory runs out.
-    ensures only { (d : SlaveDesc) → Reads text.now d → GivesText result (Ok d) }
+    ensures only { (d : SlaveDesc) → ReadsAsDesc text.now d → GivesText result (Ok d) }
 
     // Else the fault is the first line that is refused.
-    ensures fault { IfErr result (λ e. IsFirstBad text.now e) }
+    ensures fault { IfErr result (λ e. IsFirstBad desc_why_at text.now e) }
 {
     read(alloc, text)
 }
 
 /// The law of the grammar: each text is one description, or has one first line that is refused.
 pub fn reads_or_refused()
-    ensures either { ReadsOrRefused }
-    ensures never_both { NeverBoth }
-    ensures one_value { OneValue }
-    ensures one_fault { OneFault }
+    ensures either { ReadsOrRefused ReadsAsDesc desc_why_at }
+    ensures never_both { NeverReadsAndRefused ReadsAsDesc desc_why_at }
+    ensures one_value { OneValue ReadsAsDesc }
+    ensures one_fault { OneFault desc_why_at }
 {}

@@ -6,7 +6,7 @@ use Rattle.dcp_types.specs.declared.fault_codes.FaultCode.{FaultCode}
 use Rattle.slave_desc.specs.declared.descriptions.SlaveDesc.{SlaveDesc}
 use Rattle.scenario.specs.declared.scenarios.Scenario.{Scenario}
 use Rattle.lockstep.specs.declared.references.RefFault.{RefFault}
-use Rattle.lockstep.specs.Lockstep.{place, shown, beside, row_from, row, IsMoment, EndsAt, Ends, EachRow, IsReference}
+use Rattle.lockstep.specs.Lockstep.{row_index, shown, beside, row_from, row, IsMoment, EndsAt, Ends, EachRow, IsReference}
 use Rattle.lockstep.proofs.Agreement.{Agree, row-agree}
 
 -- a fault carries the moment at which it is found
@@ -40,14 +40,14 @@ pub moment_at : (sc : Scenario) (i : ℕ) → i < sc.runs * (sc.steps + 1) → I
 unfolding run_at step_at
 moment_at sc i lt = record { first = omega arith; last = grind arith; within = grind arith }
 
-pub place_at : (sc : Scenario) (i : ℕ) → place sc.steps (run_at sc i) (step_at sc i) ≡ i
+pub place_at : (sc : Scenario) (i : ℕ) → row_index sc.steps (run_at sc i) (step_at sc i) ≡ i
 unfolding run_at step_at
 place_at sc i = grind arith
 
-pub within_all : (sc : Scenario) (r k : ℕ) → IsMoment sc r k → place sc.steps r k < sc.runs * (sc.steps + 1)
+pub within_all : (sc : Scenario) (r k : ℕ) → IsMoment sc r k → row_index sc.steps r k < sc.runs * (sc.steps + 1)
 within_all sc r k m = grind arith
 
-pub same_moment : (sc : Scenario) (r k r' k' : ℕ) → IsMoment sc r k → IsMoment sc r' k' → place sc.steps r k ≡ place sc.steps r' k' → (r ≡ r') × (k ≡ k')
+pub same_moment : (sc : Scenario) (r k r' k' : ℕ) → IsMoment sc r k → IsMoment sc r' k' → row_index sc.steps r k ≡ row_index sc.steps r' k' → (r ≡ r') × (k ≡ k')
 same_moment sc r k r' k' m m' e =
     let w = sc.steps + 1 in
     let lt : k < w = omega arith in
@@ -71,7 +71,7 @@ module _ (sc : Scenario) (rows others : List (List ℤ)) (fault fault' : Option 
   row_same n lt lt' before =
       let r = run_at sc n in
       let k = step_at sc n in
-      let at : place sc.steps r k ≡ n = place_at sc n in
+      let at : row_index sc.steps r k ≡ n = place_at sc n in
       let total = ends_within sc rows fault one.ends in
       let m : IsMoment sc r k = moment_at sc n (omega (arith, total)) in
       let here : row sc rows r k ≡ Ok (get_or rows n []) = rw at at (one.each r k m (omega (arith, at))) in
@@ -114,7 +114,7 @@ same_end sc rows None None h h' = refl
 same_end sc rows None (Some f) h h' = absurd (let lt = within_all sc f.run f.step h'.moment in omega (arith, h, h'.behind, lt))
 same_end sc rows (Some f) None h h' = absurd (let lt = within_all sc f.run f.step h.moment in omega (arith, h', h.behind, lt))
 same_end sc rows (Some f) (Some g) h h' =
-    let at : place sc.steps f.run f.step ≡ place sc.steps g.run g.step = sym h.behind ∙ h'.behind in
+    let at : row_index sc.steps f.run f.step ≡ row_index sc.steps g.run g.step = sym h.behind ∙ h'.behind in
     let same = same_moment sc f.run f.step g.run g.step h.moment h'.moment at in
     let run = same.0 in
     let step = same.1 in
@@ -133,26 +133,26 @@ pub agree_push : (rows : List (List ℤ)) (vs : List ℤ) (n : ℕ) → n ≤ le
 agree_push rows vs n le i lt = get_or_append_left rows (vs ∷ []) [] i (omega arith)
 
 -- one more row
-pub EachRow-push : (sc : Scenario) (rows : List (List ℤ)) (vs : List ℤ) (r k : ℕ) → IsMoment sc r k → length rows ≡ place sc.steps r k → row sc rows r k ≡ Ok vs →
+pub EachRow-push : (sc : Scenario) (rows : List (List ℤ)) (vs : List ℤ) (r k : ℕ) → IsMoment sc r k → length rows ≡ row_index sc.steps r k → row sc rows r k ≡ Ok vs →
     EachRow sc rows → EachRow sc (rows ++ vs ∷ [])
 EachRow-push sc rows vs r k m at now each r' k' m' lt =
-    let P : ℕ → Type 0 = λ i. place sc.steps r' k' ≡ i → row sc (rows ++ vs ∷ []) r' k' ≡ Ok (get_or (rows ++ vs ∷ []) i []) in
+    let P : ℕ → Type 0 = λ i. row_index sc.steps r' k' ≡ i → row sc (rows ++ vs ∷ []) r' k' ≡ Ok (get_or (rows ++ vs ∷ []) i []) in
     let last : P (length rows) = λ e.
     let same = same_moment sc r' k' r k m' m (e ∙ at) in
     let run = same.0 in
     let step = same.1 in
     let new : get_or (rows ++ vs ∷ []) (length rows) [] ≡ vs = get_or_push rows vs [] (length rows) refl in
-    let alike = row-agree sc (rows ++ vs ∷ []) rows r k (agree_push rows vs (place sc.steps r k) (omega arith)) in
+    let alike = row-agree sc (rows ++ vs ∷ []) rows r k (agree_push rows vs (row_index sc.steps r k) (omega arith)) in
     let moved : row sc (rows ++ vs ∷ []) r' k' ≡ row sc (rows ++ vs ∷ []) r k = cc in
     moved ∙ alike ∙ now ∙ ap (λ (x : List ℤ). Ok x) (sym new) in
     let earlier : (i : ℕ) → i < length rows → P i = λ i below e.
     let old = each r' k' m' (omega (arith, e)) in
     let kept : get_or (rows ++ vs ∷ []) i [] ≡ get_or rows i [] = agree_push rows vs (length rows) (omega arith) i below in
-    let alike = row-agree sc (rows ++ vs ∷ []) rows r' k' (agree_push rows vs (place sc.steps r' k') (omega (arith, e))) in
-    let here : get_or rows (place sc.steps r' k') [] ≡ get_or rows i [] = ap (λ (x : ℕ). get_or rows x []) e in
+    let alike = row-agree sc (rows ++ vs ∷ []) rows r' k' (agree_push rows vs (row_index sc.steps r' k') (omega (arith, e))) in
+    let here : get_or rows (row_index sc.steps r' k') [] ≡ get_or rows i [] = ap (λ (x : ℕ). get_or rows x []) e in
     alike ∙ old ∙ ap (λ (x : List ℤ). Ok x) (here ∙ sym kept) in
     let length_is = length_push rows vs in
-    below_more P (length rows) earlier last (place sc.steps r' k') (omega (arith, length_is)) refl
+    below_more P (length rows) earlier last (row_index sc.steps r' k') (omega (arith, length_is)) refl
 
 -- The rows below a place, and the fault before it, if there is one.
 abbrev pub GrownTo : Scenario → ℕ → List (List ℤ) → Option RefFault → Type 0
@@ -178,7 +178,7 @@ grown_row sc n lt rows each at (Err fault) now =
     let run = moment.0 in
     let step = moment.1 in
     let m : IsMoment sc fault.run fault.step = rw (run, step) (moment_at sc n lt) in
-    let place_is : place sc.steps fault.run fault.step ≡ n = rw (run, step) (place_at sc n) in
+    let place_is : row_index sc.steps fault.run fault.step ≡ n = rw (run, step) (place_at sc n) in
     let faults : row sc rows fault.run fault.step ≡ Err fault =
     ap (λ (x : ℕ). row sc rows x fault.step) run ∙ ap (λ (x : ℕ). row sc rows (run_at sc n) x) step ∙ now in
     record { rows = rows; fault = Some fault; each = each; to = record { moment = m; behind = at ∙ sym place_is; faults = faults } }

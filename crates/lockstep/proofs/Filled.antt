@@ -13,7 +13,7 @@ use Rattle.dcp_types.specs.declared.data_types.DataType.TheVariants as types
 use Rattle.dcp_types.specs.declared.fault_codes.FaultCode.{FaultCode}
 use Rattle.dcp_types.specs.declared.fault_codes.FaultCode.TheVariants.{OutOfRange}
 use Rattle.dcp_types.specs.Values.{fits, least, greatest}
-use Rattle.fixed_models.specs.Answers.{IsInput}
+use Rattle.fixed_models.specs.Domains.{IsInput}
 use Rattle.fixed_models.specs.Kinds.{has_inputs, output_count}
 use Rattle.fixed_models.specs.Steps.{outputs, all_fit}
 use Rattle.slave_desc.specs.declared.descriptions.SlaveDesc.{SlaveDesc}

@@ -4,7 +4,7 @@ use Rattle.std.specs.Prelude.{All}
 use Rattle.std.proofs.lemmas.List.{length_push}
 use Rattle.std.proofs.lemmas.List.Elements.{All-push, All-nil, All-head}
 use Rattle.std.proofs.lemmas.List.Sums.{sum_by-cons}
-use Rattle.fixed_models.specs.Answers.{IsInput}
+use Rattle.fixed_models.specs.Domains.{IsInput}
 use Rattle.slave_desc.specs.declared.descriptions.SlaveDesc.{SlaveDesc}
 use Rattle.slave_desc.specs.Descriptions.{IsDesc}
 use Rattle.scenario.specs.declared.scenarios.Scenario.{Scenario}
@@ -15,7 +15,7 @@ use Rattle.lockstep.specs.declared.halts.Halt.{Halt}
 use Rattle.lockstep.specs.declared.halts.Halt.TheVariants as halts
 use Rattle.lockstep.specs.declared.references.RefFault.{RefFault}
 use Rattle.lockstep.specs.Cut.{Grid, SameRows}
-use Rattle.lockstep.specs.Lockstep.{place, row, IsMoment, IsReference, EachRow, EndsAt}
+use Rattle.lockstep.specs.Lockstep.{row_index, row, IsMoment, IsReference, EachRow, EndsAt}
 use Rattle.lockstep.specs.Parts.{StandsAt, AllStand, Halted}
 use Rattle.lockstep.specs.Filling.{SoFar, Stopped, StoppedBy}
 use Rattle.lockstep.proofs.Agreement.{state-agree}
@@ -71,13 +71,13 @@ standing_first sc r g parts h stand = record {
   stand = stand;
 }
 
-stands_on : (sc : Scenario) (rows : List (List ℤ)) (vs : List ℤ) (r k s : ℕ) (d : SlaveDesc) (p : Part) → place sc.steps r k ≤ length rows → StandsAt sc rows r k s d p → StandsAt sc (rows ++ vs ∷ []) r k s d p
+stands_on : (sc : Scenario) (rows : List (List ℤ)) (vs : List ℤ) (r k s : ℕ) (d : SlaveDesc) (p : Part) → row_index sc.steps r k ≤ length rows → StandsAt sc rows r k s d p → StandsAt sc (rows ++ vs ∷ []) r k s d p
 stands_on sc rows vs r k s d p le h = record {
   kind = h.kind;
   types = h.types;
   feeds = h.feeds;
   parameters = h.parameters;
-  state = state-agree sc (rows ++ vs ∷ []) rows s d r k (agree_push rows vs (place sc.steps r k) le) ∙ h.state;
+  state = state-agree sc (rows ++ vs ∷ []) rows s d r k (agree_push rows vs (row_index sc.steps r k) le) ∙ h.state;
 }
 
 -- the row that was begun is closed behind the others
@@ -138,7 +138,7 @@ halted sc r k g more (halts.Fault fault) m so_far same h =
       each = so_far.each;
       ends = record {
         moment = subst (λ (x : ℕ). IsMoment sc x fault.step) (sym run) (subst (λ (x : ℕ). IsMoment sc r x) (sym step) m);
-        behind = so_far.count ∙ ap (λ (x : ℕ). place sc.steps r x) (sym step) ∙ ap (λ (x : ℕ). place sc.steps x fault.step) (sym run);
+        behind = so_far.count ∙ ap (λ (x : ℕ). row_index sc.steps r x) (sym step) ∙ ap (λ (x : ℕ). row_index sc.steps x fault.step) (sym run);
         faults = ap (λ (x : ℕ). row sc g.rows x fault.step) run ∙ ap (λ (x : ℕ). row sc g.rows r x) step ∙ h;
       };
     })

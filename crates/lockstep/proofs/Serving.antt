@@ -24,7 +24,7 @@ use Rattle.lockstep.specs.declared.parts.Part.{Part}
 use Rattle.scenario.specs.Settings.{parameters}
 use Rattle.scenario.specs.Wiring.{wire_into, every_between, q_of, interval, column}
 use Rattle.lockstep.specs.Feeds.{fed, feed_of, feeds_of, IsFeed}
-use Rattle.lockstep.specs.Lockstep.{place, read, inputs, state, state_after, shown, shown_at}
+use Rattle.lockstep.specs.Lockstep.{row_index, read, inputs, state, state_after, shown, shown_at}
 use Rattle.lockstep.specs.Parts.{types_of, shows, Reaches, Shows, Serves, StandsAt}
 use Rattle.lockstep.proofs.Reading.{All-find, wire_is}
 
@@ -107,7 +107,7 @@ inputs_fed sc rows s d r k =
     (λ i. read_fed sc rows r k (wire_into sc.wires s i)) (range_with_len 0 (length d.inputs))
 
 -- a step of the definition is a step of the model
-step_same : (sc : Scenario) (rows : List (List ℤ)) (r k s : ℕ) (d : SlaveDesc) (p : Part) → length rows ≡ place sc.steps r (suc k) → StandsAt sc rows r k s d p →
+step_same : (sc : Scenario) (rows : List (List ℤ)) (r k s : ℕ) (d : SlaveDesc) (p : Part) → length rows ≡ row_index sc.steps r (suc k) → StandsAt sc rows r k s d p →
     state sc rows s d r (suc k) ≡ step_of p.model (map (fed rows (length rows - suc k) k) p.feeds.items) sc.micro
 step_same sc rows r k s d p at h =
     let first : length rows - suc k ≡ (r - 1) * (sc.steps + 1) = omega (arith, at) in
@@ -124,13 +124,13 @@ step_same sc rows r k s d p at h =
 stands_before : (sc : Scenario) (rows : List (List ℤ)) (r k s : ℕ) (d : SlaveDesc) (p : Part) → StandsAt sc rows r (suc k - 1) s d p → StandsAt sc rows r k s d p
 stands_before sc rows r k s d p h = let e : suc k - 1 ≡ k = omega arith in subst (λ (x : ℕ). StandsAt sc rows r x s d p) e h
 
-pub reach_err : (sc : Scenario) (rows : List (List ℤ)) (r k s : ℕ) (d : SlaveDesc) (old new : Part) (code : FaultCode) → length rows ≡ place sc.steps r k → StandsAt sc rows r (k - 1) s d old → Reaches rows old new k sc.micro (Err code) → shown sc rows s d r k ≡ Err code
+pub reach_err : (sc : Scenario) (rows : List (List ℤ)) (r k s : ℕ) (d : SlaveDesc) (old new : Part) (code : FaultCode) → length rows ≡ row_index sc.steps r k → StandsAt sc rows r (k - 1) s d old → Reaches rows old new k sc.micro (Err code) → shown sc rows s d r k ≡ Err code
 reach_err sc rows r zero s d old new code at h reached = absurd reached
 reach_err sc rows r (suc k) s d old new code at h reached =
     let e = step_same sc rows r k s d old at (stands_before sc rows r k s d old h) in
     ap (λ (x : Result (List ℤ) FaultCode). shown_at sc s d r x) (e ∙ reached)
 
-stands_moved : (sc : Scenario) (rows : List (List ℤ)) (r k s : ℕ) (d : SlaveDesc) (old new : Part) → length rows ≡ place sc.steps r (suc k) → StandsAt sc rows r k s d old →
+stands_moved : (sc : Scenario) (rows : List (List ℤ)) (r k s : ℕ) (d : SlaveDesc) (old new : Part) → length rows ≡ row_index sc.steps r (suc k) → StandsAt sc rows r k s d old →
     step_of old.model (map (fed rows (length rows - suc k) k) old.feeds.items) sc.micro ≡ Ok new.model.state → new ≡ record old { model = moved old.model new.model.state } → StandsAt sc rows r (suc k) s d new
 stands_moved sc rows r k s d old new at h stepped is = record {
   kind = ap (λ (x : Part). x.model.kind) is ∙ h.kind;
@@ -140,7 +140,7 @@ stands_moved sc rows r k s d old new at h stepped is = record {
   state = step_same sc rows r k s d old at h ∙ stepped;
 }
 
-pub reach_ok : (sc : Scenario) (rows : List (List ℤ)) (r k s : ℕ) (d : SlaveDesc) (old new : Part) (u : Unit) → length rows ≡ place sc.steps r k → StandsAt sc rows r (k - 1) s d old → Reaches rows old new k sc.micro (Ok u) → StandsAt sc rows r k s d new
+pub reach_ok : (sc : Scenario) (rows : List (List ℤ)) (r k s : ℕ) (d : SlaveDesc) (old new : Part) (u : Unit) → length rows ≡ row_index sc.steps r k → StandsAt sc rows r (k - 1) s d old → Reaches rows old new k sc.micro (Ok u) → StandsAt sc rows r k s d new
 reach_ok sc rows r zero s d old new u at h reached = subst (λ (x : Part). StandsAt sc rows r 0 s d x) (sym reached) h
 reach_ok sc rows r (suc k) s d old new u at h reached = stands_moved sc rows r k s d old new at (stands_before sc rows r k s d old h) reached.0 reached.1
 

@@ -13,15 +13,15 @@ use Rattle.scenario.specs.Settings.{parameters}
 use Rattle.scenario.specs.Wiring.{wire_into, interval, column}
 
 -- The rows of all runs stand in one list: this is where row k of run r stands.
-abbrev pub place : (steps r k : ℕ) → ℕ
-place steps r k = (r - 1) * (steps + 1) + k
+abbrev pub row_index : (steps r k : ℕ) → ℕ
+row_index steps r k = (r - 1) * (steps + 1) + k
 
 -- what an input reads at its step from k to k + 1 of run r: the wired output as it was last renewed, and 0 where there is no wire
 abbrev pub read : Scenario → List (List ℤ) → (r k : ℕ) → Option Wire → ℤ
 read sc rows r k None = pos 0
 read sc rows r k (Some w) =
     let q = interval sc.every w.from w.to in
-    slice_index_or (slice_index_or rows (place sc.steps r (q * (k / q))) []) (column sc.slaves w.from w.out) (pos 0)
+    slice_index_or (slice_index_or rows (row_index sc.steps r (q * (k / q))) []) (column sc.slaves w.from w.out) (pos 0)
 
 abbrev pub inputs : Scenario → List (List ℤ) → (s : ℕ) → SlaveDesc → (r k : ℕ) → List ℤ
 inputs sc rows s d r k =
@@ -72,7 +72,7 @@ pub record IsMoment (sc : Scenario) (r k : ℕ) : Type 0 where
 -- where the rows end: behind the last step of the last run, or before the first at which a slave faults
 pub record EndsAt (sc : Scenario) (rows : List (List ℤ)) (fault : RefFault) : Type 0 where
   pub moment : IsMoment sc fault.run fault.step
-  pub behind : length rows ≡ place sc.steps fault.run fault.step
+  pub behind : length rows ≡ row_index sc.steps fault.run fault.step
   pub faults : row sc rows fault.run fault.step ≡ Err fault
 
 abbrev pub Ends : Scenario → List (List ℤ) → Option RefFault → Type 0
@@ -81,7 +81,7 @@ Ends sc rows (Some fault) = EndsAt sc rows fault
 
 -- each row is what its moment shows
 abbrev pub EachRow : Scenario → List (List ℤ) → Type 0
-EachRow sc rows = (r k : ℕ) → IsMoment sc r k → place sc.steps r k < length rows → row sc rows r k ≡ Ok (slice_index_or rows (place sc.steps r k) [])
+EachRow sc rows = (r k : ℕ) → IsMoment sc r k → row_index sc.steps r k < length rows → row sc rows r k ≡ Ok (slice_index_or rows (row_index sc.steps r k) [])
 
 -- The reference of a scenario: its rows, and the fault that ends them, if there is one.
 pub record IsReference (sc : Scenario) (rows : List (List ℤ)) (fault : Option RefFault) : Type 0 where

@@ -1,13 +1,13 @@
 //! One row: all slaves step at once, each on what the others showed before.
 
 ghost use Rattle.std.specs.Prelude.{◌≡◌, ◌-◌, [], length, All, Ok, IfOk, IfErr, OnOk};
-ghost use Rattle.fixed_models.specs.Answers.{IsInput};
+ghost use Rattle.fixed_models.specs.Domains.{IsInput};
 ghost use Rattle.slave_desc.specs.declared.descriptions.SlaveDesc.{SlaveDesc};
 ghost use Rattle.slave_desc.specs.Descriptions.{IsDesc};
 ghost use Rattle.scenario.specs.Totals.{total_outputs};
 ghost use Rattle.scenario.specs.Sound.{IsScenario};
 ghost use Rattle.lockstep.specs.Cut.{SameRows};
-ghost use Rattle.lockstep.specs.Lockstep.{place, row, IsMoment};
+ghost use Rattle.lockstep.specs.Lockstep.{row_index, row, IsMoment};
 ghost use Rattle.lockstep.specs.Parts.{StandsAt, AllStand, Serves, Halted};
 
 use crate::halts::Halt;
@@ -39,7 +39,7 @@ fn serve(
     requires scenario { IsScenario scenario.now }
     requires desc { IsDesc desc.now }
     requires moment { IsMoment scenario.now at.run at.step }
-    requires place { length rows.old.rows ≡ place scenario.now.steps at.run at.step }
+    requires place { length rows.old.rows ≡ row_index scenario.now.steps at.run at.step }
     requires values { All (λ row. All IsInput row) rows.old.rows }
     requires width { rows.old.width ≡ total_outputs scenario.now.slaves }
     requires stands { StandsAt scenario.now rows.old.rows at.run (at.step - 1) _slave desc.now part.old }
@@ -64,7 +64,7 @@ pub(crate) fn fill(
 ) -> Result<(), Halt>
     requires scenario { IsScenario scenario.now }
     requires moment { IsMoment scenario.now at.run at.step }
-    requires place { length rows.old.rows ≡ place scenario.now.steps at.run at.step }
+    requires place { length rows.old.rows ≡ row_index scenario.now.steps at.run at.step }
     requires values { All (λ row. All IsInput row) rows.old.rows }
     requires width { rows.old.width ≡ total_outputs scenario.now.slaves }
     requires begun { rows.old.begun ≡ [] }

@@ -1,7 +1,7 @@
 //! A slave in the calculation: its model, and what its inputs read.
 
 ghost use Rattle.std.specs.Prelude.{◌≡◌, ◌<◌, ◌≤◌, ◌-◌, List, ℤ, Some, length, map, All, true, IfOk};
-ghost use Rattle.fixed_models.specs.Answers.{IsInput};
+ghost use Rattle.fixed_models.specs.Domains.{IsInput};
 ghost use Rattle.fixed_models.specs.Kinds.{has_inputs, output_count};
 ghost use Rattle.slave_desc.specs.Descriptions.{IsDesc};
 ghost use Rattle.scenario.specs.Lookups.{slave_at};

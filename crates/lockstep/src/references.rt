@@ -20,7 +20,7 @@ pub struct RefFault {
 /// What a correct run prints.
 #[derive(Debug, Drop)]
 pub struct Reference {
-    /// The rows of all runs. Row k of run r stands at place (r - 1) x (steps + 1) + k.
+    /// The rows of all runs. Row k of run r stands at row_index (r - 1) x (steps + 1) + k.
     pub rows: Rows,
     /// What ends the rows early; none where they are all there.
     pub fault: Option<RefFault>,

@@ -2,7 +2,7 @@
 
 ghost use Rattle.std.specs.Prelude.{◌≡◌, ◌+◌, ◌-◌, ◌*◌, ◌≤◌, [], List, ℤ, length, IfOk, OnOk, IfErr};
 ghost use Rattle.scenario.specs.Sound.{IsScenario};
-ghost use Rattle.lockstep.specs.Lockstep.{place, IsReference};
+ghost use Rattle.lockstep.specs.Lockstep.{row_index, IsReference};
 ghost use Rattle.lockstep.specs.Parts.{AllStand};
 ghost use Rattle.lockstep.specs.Filling.{SoFar, StoppedBy};
 

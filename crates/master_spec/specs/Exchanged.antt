@@ -4,7 +4,7 @@ use Rattle.dcp_types.specs.declared.addresses.Address.{Address}
 use Rattle.dcp_types.specs.Codes.{state_code}
 use Rattle.dcp_types.specs.declared.states.State.TheVariants as states
 use Rattle.dcp_ends.specs.declared.entries.LogEntry.{LogEntry}
-use Rattle.lockstep.specs.Lockstep.{place}
+use Rattle.lockstep.specs.Lockstep.{row_index}
 use Rattle.master_spec.specs.declared.requests.Answer.{Answer}
 use Rattle.master_spec.specs.declared.requests.Answer.TheVariants.{Ack, Nack, StateAck, ErrorAck, LogAck}
 use Rattle.master_spec.specs.declared.setups.Slave.{Slave}
@@ -65,7 +65,7 @@ pub record Exchange (setup : Setup) (log : List LogEntry) (slave : Slave) (r k :
   pub outputs_done : IsDecided outputs sent Ack
   pub running_is : (i : ℕ) × (slice_get (in_run setup log slave r) i ≡ Some running) × IsTrue (is_state_question running)
   pub running_done : IsDecided running told_running (StateAck (state_code states.Running))
-  pub brought : Brings setup log slave (place setup.steps r k % 65536) came
+  pub brought : Brings setup log slave (row_index setup.steps r k % 65536) came
   -- in this order
   pub first : stepped < computed.first
   pub second : told_computed < outputs.first

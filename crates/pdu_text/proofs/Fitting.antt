@@ -13,7 +13,7 @@ use Rattle.dcp_types.specs.Values.{fits, digits}
 use Rattle.dcp_types.specs.declared.data_types.DataType.{DataType}
 use Rattle.dcp_types.specs.declared.data_types.DataType.TheVariants as types
 use Rattle.dcp_types.specs.declared.states.State.{State}
-use Rattle.text_lines.specs.Reasons as lines
+use Rattle.text_lines.specs.Causes as lines
 use Rattle.text_lines.specs.Numbers.{number, signed_number}
 use Rattle.text_lines.specs.Addresses.{ip, ip_part, ip_of_parts}
 use Rattle.text_lines.specs.Identities.{identity}

@@ -8,12 +8,11 @@ use Rattle.std.proofs.lemmas.List.Elements.{All-push}
 use Rattle.std.proofs.lemmas.List.Quantifiers.{all_pairs_push}
 use Rattle.std.proofs.lemmas.Slice.Eq.{bytes_eq-Decides}
 use Rattle.dcp_types.specs.declared.addresses.Address.{Address}
-use Rattle.text_lines.specs.Reasons.{or_why}
+use Rattle.text_lines.specs.Causes.{or_why, refused_if, unless}
 use Rattle.text_lines.proofs.Results.{bind_ok, some_ok, moved}
 use Rattle.text_lines.specs.declared.reasons.TextWhy.TheVariants as why
 use Rattle.fixed_models.specs.Kinds.{has_ports}
-use Rattle.desc_text.specs.Judging.{refused_if}
-use Rattle.desc_text.specs.Machine.{put, unless, nothing}
+use Rattle.desc_text.specs.Machine.{put, nothing}
 use Rattle.desc_text.specs.Machine as block
 use Rattle.desc_text.proofs.Held.{not_refused}
 use Rattle.desc_text.proofs.Judged.{unless_ok}
@@ -22,7 +21,8 @@ use Rattle.desc_text.specs.declared.items.Item.TheVariants as items
 use Rattle.desc_text.specs.declared.partials.Partial.{Partial}
 use Rattle.slave_desc.specs.declared.descriptions.SlaveDesc.{SlaveDesc}
 use Rattle.scenario_text.specs.Heads.{master_in, first_said}
-use Rattle.scenario_text.specs.Scenarios.{same_address, is_master, why_among}
+use Rattle.scenario_text.specs.Said.{same_address, is_master}
+use Rattle.scenario_text.specs.Clashes.{why_among}
 use Rattle.scenario_text.proofs.LinkSets.{none_at}
 use Rattle.scenario_text.specs.declared.heads.HeadItem.{HeadItem}
 use Rattle.scenario_text.proofs.Refusing.{first_none}

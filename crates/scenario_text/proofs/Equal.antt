@@ -14,7 +14,9 @@ use Rattle.text_lines.proofs.Results.{bind_ok, moved}
 use Rattle.text_lines.specs.declared.reasons.TextWhy.{TextWhy}
 use Rattle.text_lines.specs.declared.reasons.TextWhy.TheVariants as why
 use Rattle.desc_text.specs.Items.{key_of, item_of}
-use Rattle.desc_text.specs.Judging.{name_in, came, came_before, begins, why_key, why_item, or_else, refused_if, items_in}
+use Rattle.desc_text.specs.Said.{name_in, items_in}
+use Rattle.desc_text.specs.Judging.{came_before, begins, why_key, why_item}
+use Rattle.text_lines.specs.Causes.{came, or_else, refused_if, when, bad}
 use Rattle.desc_text.proofs.Held.{key_in}
 use Rattle.desc_text.proofs.Judged.{item_key}
 use Rattle.desc_text.specs.declared.keys.Key.{Key}
@@ -23,13 +25,13 @@ use Rattle.desc_text.specs.declared.items.Item.{Item}
 use Rattle.desc_text.specs.declared.items.Item.TheVariants as items
 use Rattle.slave_desc.specs.declared.descriptions.SlaveDesc.{SlaveDesc}
 use Rattle.scenario_text.specs.Keys.{head_key, link_key, any_key, section_of, closes_block}
-use Rattle.scenario_text.specs.Heads.{head_item}
+use Rattle.scenario_text.specs.Heads.{head_item, steps_said, runs_said}
 use Rattle.scenario_text.specs.Links.{link_of, chaos_of}
 use Rattle.scenario.specs.Totals.{is_too_much}
-use Rattle.scenario_text.specs.Scenarios.{steps_said, runs_said, why_head, why_slaves, is_chaos, scenario_of}
-use Rattle.scenario_text.specs.Judging.{key_of_words, key_at, args_of, is_of, lines_in, section_now, opens, onto, is_slave_key, head_said, group, blocks, last_of, front_of, slaves_of, slaves_said, links_said, when, why_block, why_closes, bad, why_item_read, why_link_read, why_acts, why_keyed, why_words, why_line, why_end_of, why_entry}
-use Rattle.scenario_text.specs.Grammar.{reads_by, IsOrdered, Fits, IsNew, AreSlaves, AreOf}
-use Rattle.scenario_text.specs.Reads.{scenario_said}
+use Rattle.scenario_text.specs.Clashes.{why_head, why_slaves, is_chaos}
+use Rattle.scenario_text.specs.Said.{scenario_of, key_of_words, key_at, args_of, is_of, lines_in, section_now, opens, onto, is_slave_key, head_said, group, blocks, last_of, front_of, slaves_of, slaves_said, links_said, scenario_said}
+use Rattle.scenario_text.specs.Judging.{why_block, why_closes, why_item_read, why_link_read, why_acts, why_keyed, why_words, why_line, why_end_of, why_entry}
+use Rattle.scenario_text.specs.Grammar.{reads_by, IsOrdered, MayFollow, IsNew, AreSlaves, AreOf}
 use Rattle.scenario_text.proofs.Groups.{all_said}
 use Rattle.scenario_text.proofs.Moves.{slave_key_is, key_said}
 use Rattle.scenario_text.proofs.Kept.{block_key, line_item}
@@ -116,7 +118,7 @@ slaves_none hd sl st rn e f some small =
     ap (λ (b : Bool). cond b (Some why.Missing) (refused_if (is_too_much sl (steps_said hd) (runs_said hd)) why.Limit)) (is_some_length (length sl) some)
     ∙ none_refused _ why.Limit (ap (λ (n : ℕ). is_too_much sl n (runs_said hd)) e ∙ ap (λ (n : ℕ). is_too_much sl st n) f ∙ small)
 
-chaos_none : (slaves : List SlaveDesc) (runs : ℕ) (k : LinkKey) (args : List (List ℕ)) (x : Link) (before : Links) → link_of slaves runs k args ≡ Ok x → Fits slaves before x → refused_if (is_chaos k && is_some before.net.chaos) why.Repeated ≡ None
+chaos_none : (slaves : List SlaveDesc) (runs : ℕ) (k : LinkKey) (args : List (List ℕ)) (x : Link) (before : Links) → link_of slaves runs k args ≡ Ok x → MayFollow slaves before x → refused_if (is_chaos k && is_some before.net.chaos) why.Repeated ≡ None
 chaos_none slaves runs linkkeys.Wire args x before e f = refl
 chaos_none slaves runs linkkeys.Set args x before e f = refl
 chaos_none slaves runs linkkeys.RerunSet args x before e f = refl
@@ -126,7 +128,7 @@ chaos_none slaves runs linkkeys.Copy args x before e f = refl
 chaos_none slaves runs linkkeys.Hold args x before e f = refl
 chaos_none slaves runs linkkeys.Chaos args x before e f =
     let c = bind_ok (chaos_of args) _ x e in
-    none_refused _ why.Repeated (ap is_some (moved (λ (x : Link). Fits slaves before x → before.net.chaos ≡ None) (link.Chaos c.0) x c.2 (λ h. h) f))
+    none_refused _ why.Repeated (ap is_some (moved (λ (x : Link). MayFollow slaves before x → before.net.chaos ≡ None) (link.Chaos c.0) x c.2 (λ h. h) f))
 
 module _ (ls : List (List ℕ)) (s : Scenario) (A : AreOf ls s) where
   said_slaves : slaves_said ls ≡ s.slaves

@@ -4,7 +4,9 @@ use Rattle.std.specs.List.{filter_map, cons_option}
 use Rattle.std.proofs.lemmas.List.Elements.{filter_map-append}
 use Rattle.text_lines.specs.declared.reasons.TextWhy.{TextWhy}
 use Rattle.text_lines.specs.declared.reasons.TextWhy.TheVariants as why
-use Rattle.desc_text.specs.Judging.{name_in, came, came_before, begins, why_key, why_item, why_end, refused_if, item_in, items_in}
+use Rattle.desc_text.specs.Said.{name_in, item_in, items_in}
+use Rattle.desc_text.specs.Judging.{came_before, begins, why_key, why_item, why_end}
+use Rattle.text_lines.specs.Causes.{came, refused_if}
 use Rattle.desc_text.specs.Reads.{Describes}
 use Rattle.desc_text.proofs.Held.{key_in}
 use Rattle.desc_text.proofs.Apart.{not_key, not_item, end_none}
@@ -12,8 +14,8 @@ use Rattle.desc_text.specs.declared.keys.Key.TheVariants as keys
 use Rattle.desc_text.specs.declared.items.Item.{Item}
 use Rattle.desc_text.specs.declared.items.Item.TheVariants as items
 use Rattle.slave_desc.specs.declared.descriptions.SlaveDesc.{SlaveDesc}
-use Rattle.scenario_text.specs.Judging.{begins_block, group, last_of, front_of, slaves_of}
-use Rattle.scenario_text.specs.Scenarios.{why_among}
+use Rattle.scenario_text.specs.Said.{begins_block, group, last_of, front_of, slaves_of}
+use Rattle.scenario_text.specs.Clashes.{why_among}
 use Rattle.scenario_text.specs.Grammar.{AreSlaves, IsNew}
 use Rattle.scenario_text.proofs.Groups.{at_last, group_new, group_more, at_last_is}
 use Rattle.scenario_text.specs.declared.heads.HeadItem.{HeadItem}

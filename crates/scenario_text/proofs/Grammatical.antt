@@ -5,24 +5,25 @@ use Rattle.text_lines.specs.Texts.{words, is_skipped}
 use Rattle.text_lines.specs.declared.reasons.TextWhy.{TextWhy}
 use Rattle.text_lines.specs.declared.reasons.TextWhy.TheVariants as why
 use Rattle.desc_text.specs.Items.{item_of}
-use Rattle.desc_text.specs.Judging.{came, why_item, or_else, refused_if}
+use Rattle.text_lines.specs.Causes.{came, or_else, refused_if, when}
+use Rattle.desc_text.specs.Judging.{why_item}
 use Rattle.desc_text.proofs.Held.{not_refused, not_not, none_first}
 use Rattle.desc_text.specs.declared.keys.Key.{Key}
 use Rattle.desc_text.specs.declared.items.Item.{Item}
 use Rattle.slave_desc.specs.declared.descriptions.SlaveDesc.{SlaveDesc}
 use Rattle.scenario_text.specs.Keys.{section_of, closes_block}
-use Rattle.scenario_text.specs.Heads.{head_item, is_said}
+use Rattle.scenario_text.specs.Heads.{head_item, is_said, runs_said}
 use Rattle.scenario_text.specs.Links.{link_of}
 use Rattle.scenario_text.specs.Checks.{why_link}
-use Rattle.scenario_text.specs.Scenarios.{runs_said, why_head, why_among, is_chaos, scenario_of}
-use Rattle.scenario_text.specs.Judging.{key_of_words, key_at, args_of, lines_in, section_now, head_said, group, blocks, slaves_of, slaves_said, links_said, when, why_closes, block_for, slaves_for, why_item_read, why_link_read, why_acts, why_line, why_at, why_end_of}
-use Rattle.scenario_text.specs.Grammar.{reads_by, is_read, IsOrdered, Fits, IsNew, AreSlaves, AreOf}
+use Rattle.scenario_text.specs.Clashes.{why_head, why_among, is_chaos}
+use Rattle.scenario_text.specs.Said.{scenario_of, key_of_words, key_at, args_of, lines_in, section_now, head_said, group, blocks, slaves_of, slaves_said, links_said, block_for, slaves_for, scenario_said}
+use Rattle.scenario_text.specs.Judging.{why_closes, why_item_read, why_link_read, why_acts, why_line, scenario_why_at, why_end_of}
+use Rattle.scenario_text.specs.Grammar.{reads_by, is_read, IsOrdered, MayFollow, IsNew, AreSlaves, AreOf}
 use Rattle.scenario_text.proofs.Orders.{earlier_lines, earlier_head, same_now}
 use Rattle.scenario_text.proofs.Passing.{PassedKey, passed, new_item, fits_if}
 use Rattle.scenario_text.proofs.Moves.{chaos_key, and_one, lines_push, head_push}
 use Rattle.std.proofs.str.Laws.{order}
 use Rattle.scenario.specs.Sound.{IsScenario}
-use Rattle.scenario_text.specs.Reads.{scenario_said}
 use Rattle.scenario_text.proofs.Groups.{all_said}
 use Rattle.scenario_text.proofs.Judged.{at_next, at_end}
 use Rattle.scenario_text.specs.declared.keys.HeadKey.{HeadKey}
@@ -40,7 +41,7 @@ is_less m n h = grind (arith, nat_tests)
 
 -- nothing is wrong with any line
 abbrev pub Passes : List (List ℕ) → Type 0
-Passes ls = (n : ℕ) → 0 < n → n < length ls + 2 → why_at ls n ≡ None
+Passes ls = (n : ℕ) → 0 < n → n < length ls + 2 → scenario_why_at ls n ≡ None
 
 some_same : {X : Type 0} (x y : X) → Some x ≡ Some y → x ≡ y
 some_same x y e = cc
@@ -63,7 +64,7 @@ module _ (ls : List (List ℕ)) (p : Passes ls) where
   line_passes before after l e =
       let long = ap length e in
       let more = length-append before (l ∷ after) in
-      sym (at_next before l after) ∙ ap (λ (ls : List (List ℕ)). why_at ls (length before + 1)) (sym e) ∙ p (length before + 1) (omega arith) (omega (arith, long, more))
+      sym (at_next before l after) ∙ ap (λ (ls : List (List ℕ)). scenario_why_at ls (length before + 1)) (sym e) ∙ p (length before + 1) (omega arith) (omega (arith, long, more))
 
   -- a line of a key
   keyed : (before after : List (List ℕ)) (l : List ℕ) (key : AnyKey) → ls ≡ before ++ l ∷ after → key_at l ≡ Some key → (section_now before ≤ section_of key) × (why_closes before (closes_block key) (section_of key) ≡ None) × (why_acts before key (args_of (words l)) ≡ None)
@@ -116,7 +117,7 @@ module _ (ls : List (List ℕ)) (p : Passes ls) where
     pub new_line : (k : Key) (i : Item) → key_at l ≡ Some (any.Block k) → item_of k (args_of (words l)) ≡ Ok i → IsNew (head_said before) (slaves_for before k) i
     new_line k i at read = new_item (head_said before) (slaves_for before k) i (item_right (block_for before k) (head_said before) (slaves_for before k) (item_of k (args_of (words l))) i read (none_first _ _ (keyed before after l (any.Block k) split at).2).1)
 
-    pub fit_line : (k : LinkKey) (x : Link) → key_at l ≡ Some (any.Link k) → link_of (slaves_said ls) (runs_said (head_said ls)) k (args_of (words l)) ≡ Ok x → Fits (slaves_said ls) (links_said before) x
+    pub fit_line : (k : LinkKey) (x : Link) → key_at l ≡ Some (any.Link k) → link_of (slaves_said ls) (runs_said (head_said ls)) k (args_of (words l)) ≡ Ok x → MayFollow (slaves_said ls) (links_said before) x
     fit_line k x at read =
         let t = link_acts k at in
         fits_if (slaves_said ls) (links_said before) x
@@ -184,7 +185,7 @@ module _ (ls : List (List ℕ)) (p : Passes ls) where
         new = λ before after l k i split at read. new_line before after l split k i at read;
         small = sound.small;
         fit = λ before after l k x split at read.
-            subst (λ (sl : List SlaveDesc). Fits sl (links_said before) x) same
+            subst (λ (sl : List SlaveDesc). MayFollow sl (links_said before) x) same
             (fit_line before after l split k x at (ap (λ (sl : List SlaveDesc). link_of sl (runs_said (head_said ls)) k (args_of (words l))) same ∙ ap (λ (n : ℕ). link_of s.slaves n k (args_of (words l))) runs ∙ read));
         says = says ∙ ap (λ (sl : List SlaveDesc). scenario_of (head_said ls) sl (links_said ls)) same;
       }

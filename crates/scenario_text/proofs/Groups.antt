@@ -3,12 +3,12 @@ use Rattle.std.proofs.Common.{◌≡◌, ℕ, ℤ, Bool, true, false, cond, List
 use Rattle.std.specs.List.{filter_map}
 use Rattle.fixed_models.specs.declared.kinds.Kind.{Kind}
 use Rattle.fixed_models.specs.declared.kinds.Kind.TheVariants.{Const}
-use Rattle.desc_text.specs.Judging.{busy_in, heartbeat_in, resolution_in, items_in}
+use Rattle.desc_text.specs.Said.{busy_in, heartbeat_in, resolution_in, items_in}
 use Rattle.desc_text.specs.Reads.{Describes, IsOr}
 use Rattle.desc_text.specs.declared.items.Item.{Item}
 use Rattle.slave_desc.specs.declared.descriptions.SlaveDesc.{SlaveDesc}
 pub use Rattle.scenario_text.specs.Grammar.{AreSlaves}
-use Rattle.scenario_text.specs.Judging.{begins_block, opens, onto, group, last_of, front_of, first_or, slave_said, slaves_of}
+use Rattle.scenario_text.specs.Said.{begins_block, opens, onto, group, last_of, front_of, first_or, slave_said, slaves_of}
 
 -- a line at the end of the last block
 abbrev pub at_last : List (List (List ℕ)) → List ℕ → List (List (List ℕ))

@@ -12,14 +12,15 @@ use Rattle.std.proofs.lemmas.List.Elements.{All-push, All-nil}
 use Rattle.std.proofs.lemmas.Option.{slice_get-get_or}
 use Rattle.dcp_types.specs.declared.addresses.Address.{Address}
 use Rattle.text_lines.specs.Texts.{words, is_skipped}
-use Rattle.text_lines.specs.Reasons.{◌>>=◌}
+use Rattle.text_lines.specs.Causes.{◌>>=◌, refused_if, unless}
 use Rattle.text_lines.specs.Runs.{at_line, run_of}
 use Rattle.text_lines.proofs.Results.{bind_ok, at_ok, and_ok, given_same, moved}
 use Rattle.text_lines.specs.declared.reasons.TextWhy.TheVariants as why
 use Rattle.desc_text.specs.Items.{key_of, item_of}
 use Rattle.slave_desc.specs.Descriptions.{IsDesc}
-use Rattle.desc_text.specs.Judging.{begins, why_key, refused_if, item_keyed, item_of_words, item_in, items_in}
-use Rattle.desc_text.specs.Machine.{has, put, why_held, unless, nothing}
+use Rattle.desc_text.specs.Judging.{begins, why_key}
+use Rattle.desc_text.specs.Said.{item_keyed, item_of_words, item_in, items_in}
+use Rattle.desc_text.specs.Machine.{has, put, why_held, nothing}
 use Rattle.desc_text.specs.Machine as block
 use Rattle.desc_text.proofs.Held.{Holds, holds_nothing, holds_more, may_come, not_refused, not_not}
 use Rattle.desc_text.proofs.Judged.{item_key, unless_ok, end_ok, items_push}
@@ -29,13 +30,15 @@ use Rattle.desc_text.specs.declared.items.Item.{Item}
 use Rattle.desc_text.specs.declared.partials.Partial.{Partial}
 use Rattle.slave_desc.specs.declared.descriptions.SlaveDesc.{SlaveDesc}
 use Rattle.scenario_text.specs.Keys.{or_some, head_key, link_key, any_key, section_of, closes_block}
-use Rattle.scenario_text.specs.Heads.{head_item, is_said, master_in, first_said}
+use Rattle.scenario_text.specs.Heads.{head_item, is_said, master_in, first_said, steps_said, runs_said}
 use Rattle.scenario.specs.Lookups.{parameters_at, parameters_in}
 use Rattle.scenario_text.specs.Links.{link_of}
 use Rattle.scenario.specs.Settings.{takes_at, taken_by}
-use Rattle.scenario_text.specs.Checks.{why_link, put_link, no_links}
+use Rattle.scenario_text.specs.Checks.{why_link}
+use Rattle.scenario_text.specs.Collecting.{put_link, no_links}
 use Rattle.scenario.specs.Totals.{is_too_much}
-use Rattle.scenario_text.specs.Scenarios.{steps_said, runs_said, why_head, why_slaves, why_among, is_chaos, scenario_of}
+use Rattle.scenario_text.specs.Clashes.{why_head, why_slaves, why_among, is_chaos}
+use Rattle.scenario_text.specs.Said.{scenario_of}
 use Rattle.scenario_text.specs.Machine.{start, close_head, close_block, close_slaves, closes, take_head, take_block, take_link, act, take_keyed, take_words, take_line, finished}
 use Rattle.scenario.specs.Sound.{IsSlave, IsScenario}
 use Rattle.scenario_text.proofs.HeadRanges.{FitsItem, first_fits, head_item_fits, master_fits}

@@ -15,7 +15,9 @@ use Rattle.text_lines.specs.declared.reasons.TextWhy.TheVariants as why
 use Rattle.desc_text.specs.Machine.{longer}
 use Rattle.slave_desc.specs.declared.descriptions.SlaveDesc.{SlaveDesc}
 use Rattle.scenario.specs.Settings.{changed_by, changed, setting_in}
-use Rattle.scenario_text.specs.Checks.{why_change, why_rerun, put_link, set_in, rerun_in}
+use Rattle.scenario_text.specs.Checks.{why_change, why_rerun}
+use Rattle.scenario_text.specs.Collecting.{put_link}
+use Rattle.scenario_text.specs.Said.{set_in, rerun_in}
 use Rattle.scenario_text.specs.LastSettings.{same_parameter, SameSettings, IsLastRun, IsKept}
 use Rattle.scenario.proofs.Changes.{changed-append}
 use Rattle.scenario.specs.declared.scenarios.Setting.{Setting}

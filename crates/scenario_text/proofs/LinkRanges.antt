@@ -7,7 +7,7 @@ use Rattle.scenario.specs.declared.net_plans.NetLine.TheVariants as lines
 use Rattle.scenario.specs.declared.net_plans.Chaos.{Chaos}
 use Rattle.std.proofs.lemmas.Bool.{leb-true}
 use Rattle.std.proofs.lemmas.Bool.Decides.{nat_tests}
-use Rattle.text_lines.specs.Reasons.{or_why}
+use Rattle.text_lines.specs.Causes.{or_why}
 use Rattle.text_lines.specs.Numbers.{number, number_from, int64}
 use Rattle.text_lines.specs.Names.{name}
 use Rattle.text_lines.specs.Counts.{three_words, four_words}

@@ -12,12 +12,14 @@ use Rattle.std.proofs.lemmas.List.Quantifiers.{all_pairs_push}
 use Rattle.scenario.specs.declared.net_plans.NetLine.{NetLine}
 use Rattle.scenario.specs.declared.net_plans.Chaos.{Chaos}
 use Rattle.text_lines.specs.declared.reasons.TextWhy.TheVariants as why
-use Rattle.desc_text.specs.Judging.{refused_if}
+use Rattle.text_lines.specs.Causes.{refused_if}
 use Rattle.desc_text.proofs.Held.{not_refused, not_not}
 use Rattle.slave_desc.specs.declared.descriptions.SlaveDesc.{SlaveDesc}
 use Rattle.scenario.specs.Lookups.{outputs_at, inputs_at, parameters_at, type_at}
 use Rattle.scenario.specs.Wiring.{same_input}
-use Rattle.scenario_text.specs.Checks.{why_wire, parameters_now, why_change, why_setting, why_rerun, why_every, why_net, why_link, no_links, put_link}
+use Rattle.scenario_text.specs.Checks.{why_wire, why_change, why_setting, why_rerun, why_every, why_net, why_link}
+use Rattle.scenario_text.specs.Said.{parameters_now}
+use Rattle.scenario_text.specs.Collecting.{no_links, put_link}
 use Rattle.scenario.specs.Settings.{changed_by, changed, setting_in, takes_at}
 use Rattle.scenario.specs.Sound.{IsSlave, IsWire, IsSetting, IsRerun, IsEvery, same_pair, IsNetLine, IsChaos, IsPlan, changes, AreTaken}
 use Rattle.scenario_text.proofs.LinkRanges.{IsPlaced, IsPair, IsThere}

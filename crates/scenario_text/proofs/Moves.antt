@@ -12,7 +12,9 @@ use Rattle.text_lines.proofs.Results.{bind_ok, moved}
 use Rattle.text_lines.specs.declared.reasons.TextWhy.{TextWhy}
 use Rattle.text_lines.specs.declared.reasons.TextWhy.TheVariants as why
 use Rattle.desc_text.specs.Items.{key_of, item_of}
-use Rattle.desc_text.specs.Judging.{came, begins, why_key, refused_if, item_in, items_in}
+use Rattle.text_lines.specs.Causes.{came, refused_if}
+use Rattle.desc_text.specs.Judging.{begins, why_key}
+use Rattle.desc_text.specs.Said.{item_in, items_in}
 use Rattle.desc_text.specs.Machine.{newer, longer, has, put, why_held, nothing}
 use Rattle.desc_text.proofs.Held.{Holds, holds_nothing, key_in, holds_more, may_come, not_refused, lengthened}
 use Rattle.desc_text.proofs.Judged.{item_key, unless_ok, items_push}
@@ -23,12 +25,13 @@ use Rattle.desc_text.specs.declared.items.Item.TheVariants as items
 use Rattle.desc_text.specs.declared.partials.Partial.{Partial}
 use Rattle.slave_desc.specs.declared.descriptions.SlaveDesc.{SlaveDesc}
 use Rattle.scenario_text.specs.Keys.{head_key, link_key, any_key, section_of, closes_block}
-use Rattle.scenario_text.specs.Heads.{head_item, is_said}
+use Rattle.scenario_text.specs.Heads.{head_item, is_said, runs_said}
 use Rattle.scenario_text.specs.Links.{link_of, wire_of, setting_of, rerun_of, every_of, drop_of, copy_of, hold_of}
-use Rattle.scenario_text.specs.Checks.{why_link, put_link, wire_in, set_in, rerun_in, every_in, line_in, chaos_in}
-use Rattle.scenario_text.specs.Scenarios.{runs_said, why_among, is_chaos}
+use Rattle.scenario_text.specs.Checks.{why_link}
+use Rattle.scenario_text.specs.Collecting.{put_link}
+use Rattle.scenario_text.specs.Said.{wire_in, set_in, rerun_in, every_in, line_in, chaos_in, key_of_words, key_at, args_of, is_of, lines_in, head_by, head_said, is_slave_key, begins_block, group, slaves_of, link_by, links_of}
+use Rattle.scenario_text.specs.Clashes.{why_among, is_chaos}
 use Rattle.scenario_text.specs.Machine.{closes, take_head, take_block, take_link, act, take_keyed, take_words, take_line, start}
-use Rattle.scenario_text.specs.Judging.{key_of_words, key_at, args_of, is_of, lines_in, head_by, head_said, is_slave_key, begins_block, group, slaves_of, link_by, links_of}
 use Rattle.scenario_text.proofs.Groups.{at_last, group_new, group_more, at_last_is, AreSlaves, all_said}
 use Rattle.scenario_text.proofs.Kept.{block_key, line_item}
 use Rattle.scenario_text.proofs.Stands.{IsOpen, Stands, After, closes_after}

@@ -4,10 +4,10 @@ use Rattle.std.specs.List.{cons_option}
 use Rattle.std.proofs.lemmas.Bool.Decides.{nat_tests}
 use Rattle.std.proofs.lemmas.List.Elements.{filter-append, filter_map-append}
 use Rattle.text_lines.specs.Texts.{words}
-use Rattle.desc_text.specs.Judging.{came}
+use Rattle.text_lines.specs.Causes.{came}
 use Rattle.scenario_text.specs.Keys.{section_of}
 use Rattle.scenario_text.specs.Grammar.{IsOrdered}
-use Rattle.scenario_text.specs.Judging.{key_at, args_of, is_of, lines_in, section_now, head_by, head_said}
+use Rattle.scenario_text.specs.Said.{key_at, args_of, is_of, lines_in, section_now, head_by, head_said}
 use Rattle.scenario_text.specs.declared.keys.AnyKey.{AnyKey}
 use Rattle.scenario_text.specs.declared.keys.AnyKey.TheVariants as any
 use Rattle.scenario_text.specs.declared.heads.HeadItem.{HeadItem}

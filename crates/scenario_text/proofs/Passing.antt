@@ -6,7 +6,7 @@ use Rattle.std.proofs.lemmas.Bool.{false≢true}
 use Rattle.std.proofs.lemmas.Bool.Decides.{nat_tests}
 use Rattle.text_lines.specs.Texts.{words, is_skipped}
 use Rattle.text_lines.specs.declared.reasons.TextWhy.TheVariants as why
-use Rattle.desc_text.specs.Judging.{or_else, refused_if}
+use Rattle.text_lines.specs.Causes.{or_else, refused_if}
 use Rattle.desc_text.proofs.Held.{not_refused, not_not, none_first}
 use Rattle.desc_text.specs.declared.items.Item.{Item}
 use Rattle.desc_text.specs.declared.items.Item.TheVariants as items
@@ -15,10 +15,11 @@ use Rattle.scenario_text.specs.Keys.{any_key, section_of, closes_block}
 use Rattle.scenario.specs.Lookups.{outputs_at, inputs_at, type_at}
 use Rattle.scenario.specs.Wiring.{same_input}
 use Rattle.scenario.specs.Settings.{changed_by, takes_at, setting_in}
-use Rattle.scenario_text.specs.Checks.{parameters_now, why_change, why_link, chaos_in}
-use Rattle.scenario_text.specs.Scenarios.{why_among}
-use Rattle.scenario_text.specs.Judging.{key_of_words, key_at, args_of, section_now, why_closes, why_order, why_acts, why_keyed, why_words, why_line}
-use Rattle.scenario_text.specs.Grammar.{Fits, IsNew}
+use Rattle.scenario_text.specs.Said.{parameters_now, chaos_in, key_of_words, key_at, args_of, section_now}
+use Rattle.scenario_text.specs.Checks.{why_change, why_link}
+use Rattle.scenario_text.specs.Clashes.{why_among}
+use Rattle.scenario_text.specs.Judging.{why_closes, why_order, why_acts, why_keyed, why_words, why_line}
+use Rattle.scenario_text.specs.Grammar.{MayFollow, IsNew}
 use Rattle.scenario_text.specs.declared.keys.AnyKey.{AnyKey}
 use Rattle.scenario_text.specs.declared.heads.HeadItem.{HeadItem}
 use Rattle.scenario_text.specs.declared.link_words.Link.{Link}
@@ -98,7 +99,7 @@ taken_of : (slaves : List SlaveDesc) (before : Links) (x : Setting) → why_chan
 taken_of slaves before x e = not_not _ (not_refused _ why.Parameters e)
 
 -- a link that is not refused fits
-pub fits_if : (slaves : List SlaveDesc) (before : Links) (l : Link) → (is_some (chaos_in l) ≡ true → is_some before.net.chaos ≡ false) → why_link slaves before l ≡ None → Fits slaves before l
+pub fits_if : (slaves : List SlaveDesc) (before : Links) (l : Link) → (is_some (chaos_in l) ≡ true → is_some before.net.chaos ≡ false) → why_link slaves before l ≡ None → MayFollow slaves before l
 fits_if slaves before (link.Wire w) fresh e =
     let t = first_none (not (eqb (type_at (outputs_at slaves w.from) w.out) (type_at (inputs_at slaves w.to) w.into))) why.TypeMismatch (refused_if (list_any (λ (v : Wire). same_input v w) before.wires) why.TwoWires) e in
     (equal_numbers (type_at (outputs_at slaves w.from) w.out) (type_at (inputs_at slaves w.to) w.into) (not_not _ t.0), not_refused (list_any (λ (v : Wire). same_input v w) before.wires) why.TwoWires t.1)
@@ -119,7 +120,7 @@ takes_none : (slaves : List SlaveDesc) (before : Links) (x : Setting) → takes_
 takes_none slaves before x e = none_refused _ why.Parameters (ap not e)
 
 -- and one that fits is not refused
-pub if_fits : (slaves : List SlaveDesc) (before : Links) (l : Link) → Fits slaves before l → why_link slaves before l ≡ None
+pub if_fits : (slaves : List SlaveDesc) (before : Links) (l : Link) → MayFollow slaves before l → why_link slaves before l ≡ None
 if_fits slaves before (link.Wire w) f =
     ap (λ (t : Bool). cond (not t) (Some why.TypeMismatch) (refused_if (list_any (λ (v : Wire). same_input v w) before.wires) why.TwoWires)) (is_equal (type_at (outputs_at slaves w.from) w.out) (type_at (inputs_at slaves w.to) w.into) f.0)
     ∙ none_refused _ why.TwoWires f.1

@@ -3,10 +3,10 @@ use Rattle.std.proofs.Common.{◌≡◌, ℕ, ◌<◌, Bool, true, false, cond, 
 use Rattle.std.specs.Result.{result_ok}
 use Rattle.std.proofs.lemmas.Bool.Decides.{nat_tests}
 use Rattle.text_lines.specs.declared.reasons.TextWhy.{TextWhy}
-use Rattle.desc_text.specs.Judging.{refused_if}
+use Rattle.text_lines.specs.Causes.{refused_if, bad}
 use Rattle.desc_text.specs.declared.items.Item.{Item}
 use Rattle.slave_desc.specs.declared.descriptions.SlaveDesc.{SlaveDesc}
-use Rattle.scenario_text.specs.Judging.{bad, why_item_read, why_link_read}
+use Rattle.scenario_text.specs.Judging.{why_item_read, why_link_read}
 use Rattle.scenario_text.specs.declared.heads.HeadItem.{HeadItem}
 use Rattle.scenario_text.specs.declared.link_words.Link.{Link}
 use Rattle.scenario_text.specs.declared.collected.Links.{Links}

@@ -5,13 +5,14 @@ use Rattle.std.specs.Option.{option_to_list}
 use Rattle.std.specs.Str.{is_utf8}
 use Rattle.std.proofs.lemmas.Bool.{false≢true}
 use Rattle.text_lines.specs.Texts.{words, is_skipped}
-use Rattle.text_lines.specs.Reasons.{◌>>=◌}
+use Rattle.text_lines.specs.Causes.{◌>>=◌, came, or_else, refused_if, unless, when, bad}
 use Rattle.text_lines.proofs.Results.{bind_ok, given_same, moved}
 use Rattle.text_lines.specs.declared.reasons.TextWhy.{TextWhy}
 use Rattle.text_lines.specs.declared.reasons.TextWhy.TheVariants as why
 use Rattle.desc_text.specs.Items.{item_of}
-use Rattle.desc_text.specs.Judging.{name_in, came, came_before, why_key, why_end, or_else, refused_if, items_in}
-use Rattle.desc_text.specs.Machine.{newer, longer, has, put, why_held, unless, nothing}
+use Rattle.desc_text.specs.Said.{name_in, items_in}
+use Rattle.desc_text.specs.Judging.{came_before, why_key, why_end}
+use Rattle.desc_text.specs.Machine.{newer, longer, has, put, why_held, nothing}
 use Rattle.desc_text.specs.Machine as block
 use Rattle.desc_text.proofs.Held.{Holds, holds_nothing, same_has, same_named, same_why}
 use Rattle.desc_text.proofs.Judged.{unless_ok, end_ok, end_err}
@@ -22,12 +23,14 @@ use Rattle.desc_text.specs.declared.items.Item.{Item}
 use Rattle.desc_text.specs.declared.partials.Partial.{Partial}
 use Rattle.slave_desc.specs.declared.descriptions.SlaveDesc.{SlaveDesc}
 use Rattle.scenario_text.specs.Keys.{any_key, section_of, closes_block}
-use Rattle.scenario_text.specs.Heads.{head_item, is_said}
+use Rattle.scenario_text.specs.Heads.{head_item, is_said, runs_said}
 use Rattle.scenario_text.specs.Links.{link_of}
-use Rattle.scenario_text.specs.Checks.{why_link, put_link}
-use Rattle.scenario_text.specs.Scenarios.{runs_said, why_head, why_slaves, why_among, is_chaos}
+use Rattle.scenario_text.specs.Checks.{why_link}
+use Rattle.scenario_text.specs.Collecting.{put_link}
+use Rattle.scenario_text.specs.Clashes.{why_head, why_slaves, why_among, is_chaos}
 use Rattle.scenario_text.specs.Machine.{close_head, close_block, close_slaves, closes, take_head, take_block, take_link, act, take_keyed, take_words, take_line}
-use Rattle.scenario_text.specs.Judging.{lines_in, section_now, head_said, group, blocks, last_of, front_of, slaves_of, slaves_said, links_said, when, why_block, why_closes, bad, why_item_read, why_link_read, why_acts, why_keyed, why_words, why_line}
+use Rattle.scenario_text.specs.Said.{lines_in, section_now, head_said, group, blocks, last_of, front_of, slaves_of, slaves_said, links_said}
+use Rattle.scenario_text.specs.Judging.{why_block, why_closes, why_item_read, why_link_read, why_acts, why_keyed, why_words, why_line}
 use Rattle.scenario_text.proofs.Groups.{last_is, front_is, AreSlaves, slaves_more, all_said}
 use Rattle.scenario_text.proofs.Kept.{head_same, last_closes, closed_with}
 use Rattle.scenario_text.specs.declared.keys.HeadKey.{HeadKey}

@@ -5,7 +5,7 @@ use Rattle.std.specs.Result.{result_ok}
 use Rattle.std.specs.Str.{is_utf8, bytes_eq}
 use Rattle.text_lines.specs.Texts.{words, is_skipped}
 use Rattle.desc_text.specs.Items.{item_of}
-use Rattle.desc_text.specs.Judging.{items_in}
+use Rattle.desc_text.specs.Said.{items_in}
 use Rattle.desc_text.specs.Reads.{Describes}
 use Rattle.slave_desc.specs.declared.descriptions.SlaveDesc.{SlaveDesc}
 use Rattle.desc_text.specs.declared.keys.Key.{Key}
@@ -19,10 +19,8 @@ use Rattle.scenario.specs.Lookups.{outputs_at, inputs_at, type_at}
 use Rattle.scenario_text.specs.Links.{link_of}
 use Rattle.scenario.specs.Wiring.{same_input}
 use Rattle.scenario.specs.Settings.{changed_by, setting_in, takes_at}
-use Rattle.scenario_text.specs.Checks.{parameters_now}
+use Rattle.scenario_text.specs.Said.{parameters_now, is_master, same_address, scenario_of, key_at, args_of, section_now, head_said, blocks, slaves_for, links_said}
 use Rattle.scenario.specs.Totals.{is_too_much}
-use Rattle.scenario_text.specs.Scenarios.{is_master, same_address, scenario_of}
-use Rattle.scenario_text.specs.Judging.{key_at, args_of, section_now, head_said, blocks, slaves_for, links_said}
 use Rattle.scenario_text.specs.declared.keys.HeadKey.TheVariants as heads
 use Rattle.scenario_text.specs.declared.keys.AnyKey.{AnyKey}
 use Rattle.scenario_text.specs.declared.keys.AnyKey.TheVariants as any
@@ -47,13 +45,13 @@ abbrev pub IsOrdered : List (List ℕ) → Type 0
 IsOrdered ls = (before after : List (List ℕ)) (l : List ℕ) (key : AnyKey) → ls ≡ before ++ l ∷ after → key_at l ≡ Some key → section_now before ≤ section_of key
 
 -- a link after those before it: ports of one type and an input without a wire; parameters that the kind takes, first those of the first run, then those of later runs in order; one interval for a pair that has a wire; at most 64 net lines; one chaos
-abbrev pub Fits : List SlaveDesc → Links → Link → Type 0
-Fits slaves before (link.Wire w) = (type_at (outputs_at slaves w.from) w.out ≡ type_at (inputs_at slaves w.to) w.into) × (list_any (λ v. same_input v w) before.wires ≡ false)
-Fits slaves before (link.Set x) = (before.reruns ≡ []) × (takes_at slaves x.slave (changed_by (parameters_now slaves before x.slave) x.slave x) ≡ true)
-Fits slaves before (link.RerunSet r) = (list_any (λ q. nat_lt r.run q.run) before.reruns ≡ false) × (takes_at slaves r.slave (changed_by (parameters_now slaves before r.slave) r.slave (setting_in r)) ≡ true)
-Fits slaves before (link.Every e) = (list_any (λ f. (f.from == e.from) && (f.to == e.to)) before.every ≡ false) × (list_any (λ w. (w.from == e.from) && (w.to == e.to)) before.wires ≡ true)
-Fits slaves before (link.Net l) = length before.net.lines < 64
-Fits slaves before (link.Chaos c) = before.net.chaos ≡ None
+abbrev pub MayFollow : List SlaveDesc → Links → Link → Type 0
+MayFollow slaves before (link.Wire w) = (type_at (outputs_at slaves w.from) w.out ≡ type_at (inputs_at slaves w.to) w.into) × (list_any (λ v. same_input v w) before.wires ≡ false)
+MayFollow slaves before (link.Set x) = (before.reruns ≡ []) × (takes_at slaves x.slave (changed_by (parameters_now slaves before x.slave) x.slave x) ≡ true)
+MayFollow slaves before (link.RerunSet r) = (list_any (λ q. nat_lt r.run q.run) before.reruns ≡ false) × (takes_at slaves r.slave (changed_by (parameters_now slaves before r.slave) r.slave (setting_in r)) ≡ true)
+MayFollow slaves before (link.Every e) = (list_any (λ f. (f.from == e.from) && (f.to == e.to)) before.every ≡ false) × (list_any (λ w. (w.from == e.from) && (w.to == e.to)) before.wires ≡ true)
+MayFollow slaves before (link.Net l) = length before.net.lines < 64
+MayFollow slaves before (link.Chaos c) = before.net.chaos ≡ None
 
 -- a slave's name, and an address, are new among the slaves before and the master
 abbrev pub IsNew : List HeadItem → List SlaveDesc → Item → Type 0
@@ -78,5 +76,5 @@ pub record AreOf (ls : List (List ℕ)) (s : Scenario) : Type 0 where
   pub few : (1 ≤ length s.slaves) × (length s.slaves ≤ 16)
   pub new : (before after : List (List ℕ)) (l : List ℕ) (k : Key) (i : Item) → ls ≡ before ++ l ∷ after → key_at l ≡ Some (any.Block k) → item_of k (args_of (words l)) ≡ Ok i → IsNew (head_said before) (slaves_for before k) i
   pub small : is_too_much s.slaves s.steps s.runs ≡ false
-  pub fit : (before after : List (List ℕ)) (l : List ℕ) (k : LinkKey) (x : Link) → ls ≡ before ++ l ∷ after → key_at l ≡ Some (any.Link k) → link_of s.slaves s.runs k (args_of (words l)) ≡ Ok x → Fits s.slaves (links_said before) x
+  pub fit : (before after : List (List ℕ)) (l : List ℕ) (k : LinkKey) (x : Link) → ls ≡ before ++ l ∷ after → key_at l ≡ Some (any.Link k) → link_of s.slaves s.runs k (args_of (words l)) ≡ Ok x → MayFollow s.slaves (links_said before) x
   pub says : s ≡ scenario_of (head_said ls) s.slaves (links_said ls)

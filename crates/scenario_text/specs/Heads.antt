@@ -1,11 +1,13 @@
 -- What the lines of a head say.
 use Rattle.std.specs.Prelude.{ℕ, Bool, ◌==◌, List, [], ◌∷◌, if◌then◌else◌, Option, Some, None, Result, Ok, Err, codes}
 use Rattle.std.specs.List.{list_any}
+use Rattle.std.specs.Option.{unwrap_or}
 use Rattle.std.specs.Str.{bytes_eq}
 use Rattle.dcp_types.specs.declared.addresses.Address.{Address}
+use Rattle.dcp_types.specs.declared.limits.Limits.{Limits}
 use Rattle.dcp_types.specs.declared.protocols.Protocol.{Protocol}
 use Rattle.dcp_types.specs.declared.protocols.Protocol.TheVariants as protocols
-use Rattle.text_lines.specs.Reasons.{◌>>=◌}
+use Rattle.text_lines.specs.Causes.{◌>>=◌}
 use Rattle.text_lines.specs.Numbers.{number_from}
 use Rattle.text_lines.specs.Addresses.{address}
 use Rattle.text_lines.specs.Counts.{one_word}
@@ -77,3 +79,21 @@ protocol_in _ = None
 abbrev pub first_said : {I X : Type 0} → (I → Option X) → List I → Option X
 first_said f [] = None
 first_said f (i ∷ is) = or_some (f i) (first_said f is)
+
+-- what a head says, each key that does not come having its default
+abbrev pub steps_said : List HeadItem → ℕ
+steps_said head = unwrap_or (first_said (number_in heads.Steps) head) 0
+
+abbrev pub runs_said : List HeadItem → ℕ
+runs_said head = unwrap_or (first_said (number_in heads.Runs) head) 1
+
+abbrev pub limits_said : List HeadItem → Limits
+limits_said head = record {
+  turn_limit = unwrap_or (first_said (number_in heads.TurnLimit) head) 50;
+  tries = unwrap_or (first_said (number_in heads.Tries) head) 4;
+  watch_turns = unwrap_or (first_said (number_in heads.WatchTurns) head) 20;
+  state_limit = unwrap_or (first_said (number_in heads.StateLimit) head) 200;
+  retry_turns = unwrap_or (first_said (number_in heads.RetryTurns) head) 20;
+  data_turns = unwrap_or (first_said (number_in heads.DataTurns) head) 20;
+  step_tries = unwrap_or (first_said (number_in heads.StepTries) head) 3;
+}

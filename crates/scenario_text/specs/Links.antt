@@ -5,7 +5,7 @@ use Rattle.std.specs.Str.{bytes_eq}
 use Rattle.scenario.specs.declared.net_plans.NetLine.{NetLine}
 use Rattle.scenario.specs.declared.net_plans.NetLine.TheVariants as lines
 use Rattle.scenario.specs.declared.net_plans.Chaos.{Chaos}
-use Rattle.text_lines.specs.Reasons.{◌>>=◌, or_why}
+use Rattle.text_lines.specs.Causes.{◌>>=◌, or_why}
 use Rattle.text_lines.specs.Numbers.{number, number_from, int64}
 use Rattle.text_lines.specs.Names.{name}
 use Rattle.text_lines.specs.Counts.{three_words, four_words}

@@ -1,20 +1,22 @@
 -- What the reader keeps of the lines so far, and what a line does to it.
 use Rattle.std.specs.Prelude.{ℕ, Bool, true, not, ◌&&◌, ◌==◌, nat_lt, nat_le, List, [], ◌∷◌, ◌++◌, length, is_some, if◌then◌else◌, Option, Some, None, Result, Ok, Err}
 use Rattle.std.specs.Str.{is_utf8}
-use Rattle.text_lines.specs.Reasons.{◌>>=◌}
+use Rattle.text_lines.specs.Causes.{◌>>=◌, refused_if, unless}
 use Rattle.text_lines.specs.Texts.{words, is_skipped}
 use Rattle.text_lines.specs.declared.reasons.TextWhy.{TextWhy}
 use Rattle.text_lines.specs.declared.reasons.TextWhy.TheVariants as why
 use Rattle.desc_text.specs.Items.{item_of}
-use Rattle.desc_text.specs.Judging.{why_key, refused_if}
-use Rattle.desc_text.specs.Machine.{has, put, why_held, unless, nothing}
+use Rattle.desc_text.specs.Judging.{why_key}
+use Rattle.desc_text.specs.Machine.{has, put, why_held, nothing}
 use Rattle.desc_text.specs.Machine as block
 use Rattle.desc_text.specs.declared.keys.Key.{Key}
 use Rattle.scenario_text.specs.Keys.{any_key, section_of, closes_block}
-use Rattle.scenario_text.specs.Heads.{head_item, is_said}
+use Rattle.scenario_text.specs.Heads.{head_item, is_said, runs_said}
 use Rattle.scenario_text.specs.Links.{link_of}
-use Rattle.scenario_text.specs.Checks.{why_link, put_link, no_links}
-use Rattle.scenario_text.specs.Scenarios.{runs_said, why_head, why_slaves, why_among, is_chaos, scenario_of}
+use Rattle.scenario_text.specs.Checks.{why_link}
+use Rattle.scenario_text.specs.Collecting.{put_link, no_links}
+use Rattle.scenario_text.specs.Clashes.{why_head, why_slaves, why_among, is_chaos}
+use Rattle.scenario_text.specs.Said.{scenario_of}
 use Rattle.scenario_text.specs.declared.keys.HeadKey.{HeadKey}
 use Rattle.scenario_text.specs.declared.keys.LinkKey.{LinkKey}
 use Rattle.scenario_text.specs.declared.keys.AnyKey.{AnyKey}

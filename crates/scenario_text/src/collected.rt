@@ -5,7 +5,8 @@ ghost use Rattle.std.specs.List.{list_any};
 ghost use Rattle.desc_text.specs.Machine.{longer};
 ghost use Rattle.scenario.specs.Lookups.{type_at};
 ghost use Rattle.scenario.specs.Wiring.{same_input};
-ghost use Rattle.scenario_text.specs.Checks.{why_wire, why_change, why_setting, why_rerun, why_every, why_net, why_link, set_in, rerun_in};
+ghost use Rattle.scenario_text.specs.Checks.{why_wire, why_change, why_setting, why_rerun, why_every, why_net, why_link};
+ghost use Rattle.scenario_text.specs.Said.{set_in, rerun_in};
 ghost use Rattle.scenario.specs.Settings.{changed, takes_at};
 ghost use Rattle.scenario_text.specs.LastSettings.{SameSettings, IsLastRun};
 ghost use Rattle.scenario.specs.declared.scenarios.Rerun.{Rerun};
@@ -172,7 +173,7 @@ fn check_net(links: &Links) -> Option<TextWhy>
 }
 
 impl Links {
-    ghost use Rattle.scenario_text.specs.Checks.{no_links, put_link};
+    ghost use Rattle.scenario_text.specs.Collecting.{no_links, put_link};
 
     /// No links. It takes no memory.
     pub fn new(alloc: Global) -> Links
@@ -213,7 +214,7 @@ impl Links {
 }
 
 impl Collected {
-    ghost use Rattle.scenario_text.specs.Checks.{no_links, put_link};
+    ghost use Rattle.scenario_text.specs.Collecting.{no_links, put_link};
 
     /// No links. It takes no memory.
     pub fn new(alloc: Global) -> Collected

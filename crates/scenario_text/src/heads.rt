@@ -2,7 +2,7 @@
 
 ghost use Rattle.std.specs.Prelude.{◌≡◌, ◌==◌, ◌≤◌, map};
 ghost use Rattle.std.specs.List.{list_any};
-ghost use Rattle.text_lines.specs.Reasons.{Gives};
+ghost use Rattle.text_lines.specs.Outcomes.{Gives};
 ghost use Rattle.scenario_text.specs.Keys.{head_code};
 ghost use Rattle.scenario_text.specs.Heads.{least, greatest, number_item, protocol_of, head_item, item_key, is_said, number_in, master_in, protocol_in, first_said};
 

@@ -12,6 +12,6 @@ mod keys;
 mod latest;
 mod link_words;
 mod readers;
-mod texts;
+mod reading;
 
-pub use texts::{read_scenario, reads_or_refused};
+pub use reading::{read_scenario, reads_or_refused};

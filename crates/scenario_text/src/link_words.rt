@@ -2,15 +2,14 @@
 
 ghost use Rattle.std.specs.Prelude.{◌≡◌, ◌<◌, ◌≤◌, map, length, slice_get, IfSome, option_copied};
 ghost use Rattle.std.specs.Str.{bytes_eq};
-ghost use Rattle.text_lines.specs.Reasons.{Gives};
 ghost use Rattle.scenario_text.specs.Links.{place_of, slave_of, index_of, end_of, hex_value, type_of, wire_of, setting_of, rerun_of, every_of, message_of, drop_of, copy_of, hold_of, chaos_of, link_of};
 ghost use Rattle.scenario.specs.Lookups.{slave_at, outputs_at, inputs_at, parameters_at};
 
 use crate::keys::LinkKey;
+use dcp_types::is_name;
 use scenario::{Chaos, Every, NetLine, Rerun, Setting, Wire, inputs_at, outputs_at, parameters_at};
 use slave_desc::SlaveDesc;
-use std::alloc::Global;
-use text_lines::{LineRefused, TextWhy, four_words, int64, name, number, number_from, three_words};
+use text_lines::{TextWhy, four_words, int64, number, number_from, three_words};
 
 /// What a line of the links says.
 #[derive(Clone, Copy, Debug, PartialEq, Eq)]
@@ -38,14 +37,16 @@ fn place_of(slaves: &[SlaveDesc], word: &[u8]) -> Option<usize>
 }
 
 /// The number of the slave that has this name, from 1.
-fn slave_of(alloc: Global, slaves: &[SlaveDesc], word: &[u8]) -> Result<u8, LineRefused>
+fn slave_of(slaves: &[SlaveDesc], word: &[u8]) -> Result<u8, TextWhy>
     requires { length slaves.now ≤ 16 }
-    ensures { Gives (λ n. n) result (slave_of slaves.now word.now) }
+    ensures { result ≡ slave_of slaves.now word.now }
 {
-    let name = name(alloc, word)?;
-    match place_of(slaves, name.as_str().as_bytes()) {
+    if !is_name(word) {
+        return Err(TextWhy::BadName);
+    }
+    match place_of(slaves, word) {
         Some(place) => Ok((place + 1) as u8),
-        None => Err(LineRefused::Why(TextWhy::UnknownSlave)),
+        None => Err(TextWhy::UnknownSlave),
     }
 }
 
@@ -104,14 +105,14 @@ fn type_of(word: &[u8]) -> Result<u8, TextWhy>
     }
 }
 
-fn wire_of(alloc: Global, slaves: &[SlaveDesc], args: &[&[u8]]) -> Result<Wire, LineRefused>
+fn wire_of(slaves: &[SlaveDesc], args: &[&[u8]]) -> Result<Wire, TextWhy>
     requires { length slaves.now ≤ 16 }
-    ensures { Gives (λ w. w) result (wire_of slaves.now (map (λ w. w.now) args.now)) }
+    ensures { result ≡ wire_of slaves.now (map (λ w. w.now) args.now) }
 {
     let (from, out, to, into) = four_words(args)?;
-    let from = slave_of(alloc, slaves, from)?;
+    let from = slave_of(slaves, from)?;
     let out = index_of(outputs_at(slaves, from).len(), out)?;
-    let to = slave_of(alloc, slaves, to)?;
+    let to = slave_of(slaves, to)?;
     let into = index_of(inputs_at(slaves, to).len(), into)?;
     Ok(Wire {
         from,
@@ -121,12 +122,12 @@ fn wire_of(alloc: Global, slaves: &[SlaveDesc], args: &[&[u8]]) -> Result<Wire, 
     })
 }
 
-fn setting_of(alloc: Global, slaves: &[SlaveDesc], args: &[&[u8]]) -> Result<Setting, LineRefused>
+fn setting_of(slaves: &[SlaveDesc], args: &[&[u8]]) -> Result<Setting, TextWhy>
     requires { length slaves.now ≤ 16 }
-    ensures { Gives (λ w. w) result (setting_of slaves.now (map (λ w. w.now) args.now)) }
+    ensures { result ≡ setting_of slaves.now (map (λ w. w.now) args.now) }
 {
     let (slave, index, value) = three_words(args)?;
-    let slave = slave_of(alloc, slaves, slave)?;
+    let slave = slave_of(slaves, slave)?;
     let index = index_of(parameters_at(slaves, slave).len(), index)?;
     let value = int64(value)?;
     Ok(Setting {
@@ -136,18 +137,13 @@ fn setting_of(alloc: Global, slaves: &[SlaveDesc], args: &[&[u8]]) -> Result<Set
     })
 }
 
-fn rerun_of(
-    alloc: Global,
-    slaves: &[SlaveDesc],
-    runs: u32,
-    args: &[&[u8]],
-) -> Result<Rerun, LineRefused>
+fn rerun_of(slaves: &[SlaveDesc], runs: u32, args: &[&[u8]]) -> Result<Rerun, TextWhy>
     requires { length slaves.now ≤ 16 }
-    ensures { Gives (λ w. w) result (rerun_of slaves.now runs (map (λ w. w.now) args.now)) }
+    ensures { result ≡ rerun_of slaves.now runs (map (λ w. w.now) args.now) }
 {
     let (run, slave, index, value) = four_words(args)?;
     let run = number_from(2, runs as u64, run)?;
-    let slave = slave_of(alloc, slaves, slave)?;
+    let slave = slave_of(slaves, slave)?;
     let index = index_of(parameters_at(slaves, slave).len(), index)?;
     let value = int64(value)?;
     Ok(Rerun {
@@ -158,13 +154,13 @@ fn rerun_of(
     })
 }
 
-fn every_of(alloc: Global, slaves: &[SlaveDesc], args: &[&[u8]]) -> Result<Every, LineRefused>
+fn every_of(slaves: &[SlaveDesc], args: &[&[u8]]) -> Result<Every, TextWhy>
     requires { length slaves.now ≤ 16 }
-    ensures { Gives (λ w. w) result (every_of slaves.now (map (λ w. w.now) args.now)) }
+    ensures { result ≡ every_of slaves.now (map (λ w. w.now) args.now) }
 {
     let (from, to, q) = three_words(args)?;
-    let from = slave_of(alloc, slaves, from)?;
-    let to = slave_of(alloc, slaves, to)?;
+    let from = slave_of(slaves, from)?;
+    let to = slave_of(slaves, to)?;
     let q = number_from(1, 1000, q)?;
     Ok(Every {
         from,
@@ -246,30 +242,29 @@ fn chaos_of(args: &[&[u8]]) -> Result<Chaos, TextWhy>
 
 /// What a line of this key and these words says.
 pub fn link_of(
-    alloc: Global,
     slaves: &[SlaveDesc],
     runs: u32,
     key: LinkKey,
     args: &[&[u8]],
-) -> Result<Link, LineRefused>
+) -> Result<Link, TextWhy>
     requires { length slaves.now ≤ 16 }
-    ensures { Gives (λ w. w) result (link_of slaves.now runs key (map (λ w. w.now) args.now)) }
+    ensures { result ≡ link_of slaves.now runs key (map (λ w. w.now) args.now) }
 {
     match key {
         LinkKey::Wire => {
-            let wire = wire_of(alloc, slaves, args)?;
+            let wire = wire_of(slaves, args)?;
             Ok(Link::Wire(wire))
         }
         LinkKey::Set => {
-            let setting = setting_of(alloc, slaves, args)?;
+            let setting = setting_of(slaves, args)?;
             Ok(Link::Set(setting))
         }
         LinkKey::RerunSet => {
-            let rerun = rerun_of(alloc, slaves, runs, args)?;
+            let rerun = rerun_of(slaves, runs, args)?;
             Ok(Link::RerunSet(rerun))
         }
         LinkKey::Every => {
-            let every = every_of(alloc, slaves, args)?;
+            let every = every_of(slaves, args)?;
             Ok(Link::Every(every))
         }
         LinkKey::Drop => {

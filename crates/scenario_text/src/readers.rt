@@ -3,8 +3,10 @@
 ghost use Rattle.std.specs.Prelude.{◌≡◌, ◌==◌, ◌&&◌, map, Some};
 ghost use Rattle.std.specs.List.{list_any};
 ghost use Rattle.std.specs.Str.{bytes_eq};
-ghost use Rattle.text_lines.specs.Reasons.{Gives, Steps};
-ghost use Rattle.scenario_text.specs.Scenarios.{why_name, is_master, same_address, why_address, steps_said, runs_said, limits_said, is_chaos};
+ghost use Rattle.text_lines.specs.Outcomes.{Gives, Steps};
+ghost use Rattle.scenario_text.specs.Clashes.{why_name, why_address, is_chaos};
+ghost use Rattle.scenario_text.specs.Said.{is_master, same_address};
+ghost use Rattle.scenario_text.specs.Heads.{steps_said, runs_said, limits_said};
 
 use crate::collected::{Collected, Links};
 use crate::heads::{
@@ -118,7 +120,7 @@ fn is_chaos(key: LinkKey) -> bool
 }
 
 impl Reader {
-    ghost use Rattle.scenario_text.specs.Scenarios.{why_among};
+    ghost use Rattle.scenario_text.specs.Clashes.{why_among};
     ghost use Rattle.scenario_text.specs.Machine.{start, close_head, close_block, close_slaves, closes, take_head, take_block, take_link, act, take_keyed, take_words, take_line, finished};
 
     /// What no lines say. It takes no memory.
@@ -239,7 +241,7 @@ impl Reader {
             return Err(LineRefused::Why(TextWhy::Repeated));
         }
         let slaves = self.slaves.as_slice();
-        let link = link_of(alloc, slaves, runs_said(self.head.as_slice()), key, args)?;
+        let link = link_of(slaves, runs_said(self.head.as_slice()), key, args)?;
         if let Some(why) = self.links.check(alloc, slaves, link)? {
             return Err(LineRefused::Why(why));
         }

@@ -6,7 +6,7 @@ use Rattle.std.proofs.lemmas.Bool.Decides.{nat_tests}
 use Rattle.std.proofs.lemmas.List.Sums.{AllPass-from_list_all}
 use Rattle.uuid.specs.Text.{by_index, is_hex_digit, value_of, byte_of_digits, digits_of, has_urn_prefix, open_brace, close_brace, parsed, parsed_simple, parsed_hyphenated, parsed_braced, parsed_urn}
 use Rattle.uuid.proofs.TextLemmas.{by_index_at}
-use Rattle.text_lines.specs.Reasons.{or_why}
+use Rattle.text_lines.specs.Causes.{or_why}
 use Rattle.text_lines.specs.Identities.{identity}
 use Rattle.text_lines.specs.declared.reasons.TextWhy.{TextWhy}
 use Rattle.text_lines.specs.declared.reasons.TextWhy.TheVariants.{BadUuid}

@@ -10,7 +10,7 @@ use Rattle.std.proofs.lemmas.List.Sums.{list_all-from_AllPass}
 use Rattle.uuid.specs.Text.{by_index, lower, nibble, digit_place, is_hyphen_place, hex_digit}
 use Rattle.uuid.proofs.RoundTrips.{parses_hyphenated}
 use Rattle.uuid.proofs.TextLemmas.{by_index_length, by_index_at, nibble_small}
-use Rattle.text_lines.specs.Reasons.{◌>>=◌, or_why}
+use Rattle.text_lines.specs.Causes.{◌>>=◌, or_why}
 use Rattle.text_lines.specs.Identities.{identity}
 use Rattle.text_lines.specs.Printed.{identity_word}
 use Rattle.text_lines.specs.declared.reasons.TextWhy.TheVariants.{BadUuid}

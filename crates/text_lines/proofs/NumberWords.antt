@@ -14,7 +14,7 @@ use Rattle.std.proofs.lemmas.Fmt.{digits_decimal, digits_value-decimal, decimal_
 use Rattle.std.proofs.lemmas.List.Sums.{AllPass-from_list_all}
 use Rattle.std.proofs.lemmas.List.Folds.{list_all-append}
 use Rattle.std.proofs.lemmas.List.Splits.{slice_split_at, slice_split_none}
-use Rattle.text_lines.specs.Reasons.{◌>>=◌, or_why}
+use Rattle.text_lines.specs.Causes.{◌>>=◌, or_why}
 use Rattle.text_lines.specs.Numbers.{number, number_from, int64}
 use Rattle.text_lines.specs.Addresses.{ip_part, ip_of_parts, ip}
 use Rattle.text_lines.specs.Printed.{ip_word}

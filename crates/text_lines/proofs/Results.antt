@@ -1,7 +1,8 @@
 -- Results one after another.
 use Rattle.std.proofs.Common.{◌≡◌, ◌⊎◌, inl, inr, Bool, true, false, cond, Option, Some, None, Result, Ok, Err, refl, ap, sym, subst, ℕ}
-use Rattle.text_lines.specs.Reasons.{◌>>=◌, or_why}
-use Rattle.text_lines.specs.Runs.{at_line, and_then, line_number}
+use Rattle.text_lines.specs.Causes.{◌>>=◌, or_why}
+use Rattle.text_lines.specs.Runs.{at_line, and_then}
+use Rattle.text_lines.specs.Readings.{line_number}
 use Rattle.text_lines.specs.declared.reasons.TextWhy.{TextWhy}
 use Rattle.text_lines.specs.declared.reasons.TextFault.{TextFault}
 

@@ -1,7 +1,8 @@
 -- What a step and an end owe a judging, and what follows for the whole text.
 use Rattle.std.proofs.Common.{◌≡◌, ℕ, ◌+◌, ◌<◌, ⊎_elim, List, [], ◌∷◌, ◌++◌, length, Option, Some, None, Result, Ok, Err, sym, ap, ◌∙◌, subst, arith, append-nil, append_assoc, length-append, below_more}
 use Rattle.std.proofs.str.Laws.{order}
-use Rattle.text_lines.specs.Runs.{at_line, run_of, IsFirst, line_number}
+use Rattle.text_lines.specs.Runs.{at_line, run_of}
+use Rattle.text_lines.specs.Readings.{IsFirst, line_number}
 use Rattle.text_lines.proofs.Results.{at_ok, at_err, and_ok, and_err}
 use Rattle.text_lines.specs.declared.reasons.TextWhy.{TextWhy}
 use Rattle.text_lines.specs.declared.reasons.TextFault.{TextFault}

@@ -4,7 +4,7 @@ use Rattle.std.specs.List.{slice_split}
 use Rattle.std.specs.Option.{option_and_then}
 use Rattle.std.proofs.lemmas.Bool.Decides.{nat_tests}
 use Rattle.dcp_types.specs.declared.addresses.Address.{Address}
-use Rattle.text_lines.specs.Reasons.{or_why}
+use Rattle.text_lines.specs.Causes.{or_why}
 use Rattle.text_lines.specs.Numbers.{number, number_from}
 use Rattle.text_lines.specs.Addresses.{ip_part, ip_of_parts, ip, address}
 use Rattle.text_lines.specs.Counts.{two_words}

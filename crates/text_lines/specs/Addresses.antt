@@ -3,7 +3,7 @@ use Rattle.std.specs.Prelude.{ℕ, ◌+◌, ◌*◌, ◌==◌, nat_le, List, [],
 use Rattle.std.specs.List.{slice_split}
 use Rattle.std.specs.Option.{option_and_then}
 use Rattle.dcp_types.specs.declared.addresses.Address.{Address}
-use Rattle.text_lines.specs.Reasons.{◌>>=◌, or_why}
+use Rattle.text_lines.specs.Causes.{◌>>=◌, or_why}
 use Rattle.text_lines.specs.Numbers.{number, number_from}
 use Rattle.text_lines.specs.Counts.{two_words}
 use Rattle.text_lines.specs.declared.reasons.TextWhy.{TextWhy}

@@ -2,7 +2,7 @@
 use Rattle.std.specs.Prelude.{ℕ, List, Result, Ok}
 use Rattle.std.specs.Int.{w128, from_be_bytes}
 use Rattle.uuid.specs.Text.{parsed}
-use Rattle.text_lines.specs.Reasons.{◌>>=◌, or_why}
+use Rattle.text_lines.specs.Causes.{◌>>=◌, or_why}
 use Rattle.text_lines.specs.declared.reasons.TextWhy.{TextWhy}
 use Rattle.text_lines.specs.declared.reasons.TextWhy.TheVariants.{BadUuid}
 

@@ -1,19 +1,8 @@
--- A text line by line, whatever a line does: the first line that is refused, and how a line is told.
-use Rattle.std.specs.Prelude.{◌≡◌, ℕ, ◌+◌, ◌-◌, ◌^◌, ◌<◌, min, List, [], ◌∷◌, length, Option, Some, None, Result, Ok, Err}
+-- A text line by line, whatever a line does.
+use Rattle.std.specs.Prelude.{ℕ, ◌+◌, List, [], ◌∷◌, Result, Ok, Err}
+use Rattle.text_lines.specs.Readings.{line_number}
 use Rattle.text_lines.specs.declared.reasons.TextWhy.{TextWhy}
 use Rattle.text_lines.specs.declared.reasons.TextFault.{TextFault}
-
--- how the place of a line is told: it stands still at the end of its type
-abbrev pub line_number : ℕ → ℕ
-line_number place = min place (2 ^ 32 - 1)
-
--- the fault at the first place that a judging refuses: `why all place` is what is wrong with the line of this place of all, the places beginning with 1, and the end being the line after the last
-pub record IsFirst (why : List (List ℕ) → ℕ → Option TextWhy) (all : List (List ℕ)) (line : ℕ) (cause : TextWhy) : Type 0 where
-  pub place : ℕ
-  pub told : line ≡ line_number place
-  pub counted : (0 < place) × (place < length all + 2)
-  pub earlier : (n : ℕ) → 0 < n → n < place → why all n ≡ None
-  pub here : why all place ≡ Some cause
 
 -- the cause at a place
 abbrev pub at_line : {X : Type 0} → ℕ → Result X TextWhy → Result X TextFault

@@ -2,7 +2,7 @@
 
 ghost use Rattle.std.specs.Prelude.{◌≡◌, ◌==◌, map, IfOk};
 ghost use Rattle.std.specs.List.{slice_split};
-ghost use Rattle.text_lines.specs.Reasons.{Gives};
+ghost use Rattle.text_lines.specs.Outcomes.{Gives};
 ghost use Rattle.text_lines.specs.Addresses.{ip_part, ip_of_parts, ip, address};
 
 use crate::counts::two_words;

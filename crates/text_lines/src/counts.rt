@@ -1,7 +1,7 @@
 //! The words after a key, by their number: `Words` where there are more or fewer.
 
 ghost use Rattle.std.specs.Prelude.{map};
-ghost use Rattle.text_lines.specs.Reasons.{Sees};
+ghost use Rattle.text_lines.specs.Outcomes.{Sees};
 ghost use Rattle.text_lines.specs.Counts.{one_word, two_words, three_words, four_words};
 
 use crate::reasons::TextWhy;

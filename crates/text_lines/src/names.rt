@@ -1,7 +1,7 @@
 //! Names as words.
 
 ghost use Rattle.std.specs.Prelude.{◌≡◌};
-ghost use Rattle.text_lines.specs.Reasons.{Gives};
+ghost use Rattle.text_lines.specs.Outcomes.{Gives};
 ghost use Rattle.text_lines.specs.Names.{name};
 
 use crate::reasons::{LineRefused, TextWhy};

@@ -1,11 +1,15 @@
 //! Why a text is refused.
 
-ghost use Rattle.std.specs.Prelude.{◌≡◌};
+ghost use Rattle.std.specs.Prelude.{◌≡◌, Some};
+ghost use Rattle.std.specs.Fmt.{padded};
 ghost use Rattle.text_lines.specs.declared.reasons.LineRefused.TheVariants.{OutOfMemory, Why};
-ghost use Rattle.text_lines.specs.Reasons.{why_word};
+ghost use Rattle.text_lines.specs.Causes.{cause_word};
 
 use dcp_types::OutOfMemory;
 use std::alloc::{AllocError, AllocFailed};
+use std::error;
+use std::fmt;
+use thiserror::Error;
 
 /// Why a line of a description or of a scenario is refused. The order is that in which causes are
 /// listed to users; it is not the order of the judging.
@@ -56,7 +60,7 @@ pub enum TextWhy {
 impl TextWhy {
     /// The printed word, in capitals.
     pub fn word(self) -> &'static str
-        ensures { result.now ≡ why_word self }
+        ensures { result.now ≡ cause_word self }
     {
         match self {
             TextWhy::NotUtf8 => "NOT_UTF8",
@@ -83,8 +87,21 @@ impl TextWhy {
     }
 }
 
+impl fmt::Display for TextWhy {
+    ghost output = { λ why. Some (cause_word why) };
+
+    ghost styled_output = { λ why spec. Some (padded spec (cause_word why)) };
+
+    fn fmt<W: fmt::Write>(&self, f: &mut fmt::Formatter<W>) -> fmt::Result {
+        f.pad(self.word())
+    }
+}
+
+impl error::Error for TextWhy {}
+
 /// Where a text is refused, and why.
-#[derive(Clone, Copy, Debug, PartialEq, Eq)]
+#[derive(Clone, Copy, Debug, PartialEq, Eq, Error)]
+#[error("line {line}: {why}")]
 pub struct TextFault {
     /// Counted from 1, every line of the text counting, comments and empty lines too. The end of the
     /// text is the line after the last. A line past 4,294,967,295 is told as that number.
@@ -93,17 +110,21 @@ pub struct TextFault {
 }
 
 /// Why a text was not read.
-#[derive(Clone, Copy, Debug, PartialEq, Eq)]
+#[derive(Clone, Copy, Debug, PartialEq, Eq, Error)]
 pub enum TextRefused {
     /// The first line that is refused.
+    #[error("{0}")]
     Fault(TextFault),
+    #[error("out of memory")]
     OutOfMemory,
 }
 
 /// Why a line was not taken.
-#[derive(Clone, Copy, Debug, PartialEq, Eq)]
+#[derive(Clone, Copy, Debug, PartialEq, Eq, Error)]
 pub enum LineRefused {
+    #[error("{0}")]
     Why(TextWhy),
+    #[error("out of memory")]
     OutOfMemory,
 }
 

@@ -3,7 +3,7 @@
 #![tactic(auto, using(crate::proofs::Inputs::few_inputs))]
 
 ghost use Rattle.std.specs.Prelude.{◌≡◌, ◌<◌, ◌≤◌, length};
-ghost use Rattle.fixed_models.specs.Answers.{IsInput};
+ghost use Rattle.fixed_models.specs.Domains.{IsInput};
 
 use crate::tables::parted;
 use dcp_types::{DataType, FaultCode};

@@ -1,5 +1,6 @@
 use Rattle.std.proofs.Common.{◌≡◌, ◌+◌, map, drop}
-use Rattle.text_lines.specs.Runs.{run_of, line_number}
+use Rattle.text_lines.specs.Runs.{run_of}
+use Rattle.text_lines.specs.Readings.{line_number}
 use Rattle.desc_text.specs.Machine.{take_line, finished, nothing}
 use Rattle.desc_text.proofs.reading.read.Given as goal
 

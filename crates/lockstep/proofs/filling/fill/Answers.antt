@@ -1,7 +1,7 @@
 use Rattle.std.proofs.Common.{◌≡◌, ◌≤◌, ◌-◌, ◌+◌, List, ℤ, length, slice_get, Some, Ok, ap, subst, ◌∙◌, sym, refl, arith}
 use Rattle.std.specs.Prelude.{All}
 use Rattle.std.proofs.lemmas.Option.{slice_get_read}
-use Rattle.fixed_models.specs.Answers.{IsInput}
+use Rattle.fixed_models.specs.Domains.{IsInput}
 use Rattle.slave_desc.specs.declared.descriptions.SlaveDesc.{SlaveDesc}
 use Rattle.lockstep.specs.Parts.{StandsAt}
 use Rattle.lockstep.proofs.Filled.{filled_none, filled_more, filled_all, same_rows, more_rows, shown_rows}

@@ -1,7 +1,7 @@
 -- What was read is what the machine gives: a text that reads, in range, or the first line that is refused.
 use Rattle.std.proofs.Common.{ℕ, List, Result, Ok, Err, IfOk}
 use Rattle.std.specs.Str.Lines.{lines}
-use Rattle.text_lines.specs.Reasons.{GivesText}
+use Rattle.text_lines.specs.Outcomes.{GivesText}
 use Rattle.text_lines.specs.Runs.{run_of}
 use Rattle.text_lines.specs.declared.reasons.TextRefused.{TextRefused}
 use Rattle.scenario_text.specs.Machine.{start, take_line, finished}
@@ -10,7 +10,7 @@ use Rattle.scenario.specs.declared.scenarios.Scenario.{Scenario}
 use Rattle.scenario_text.proofs.Kept.{text_gives}
 use Rattle.scenario_text.proofs.Judged.{answered_fault}
 use Rattle.scenario_text.proofs.Answered.{answered_ok, answered_only}
-use Rattle.scenario_text.proofs.texts.read_scenario.Goals as goal
+use Rattle.scenario_text.proofs.reading.read_scenario.Goals as goal
 
 in_range : (text : List ℕ) (r : Result Scenario TextRefused) → GivesText r (run_of take_line finished 1 start (lines text)) → IfOk r (λ s. IsScenario s)
 in_range text (Ok s) e = text_gives (lines text) s e

@@ -2,11 +2,12 @@
 
 ghost use Rattle.std.specs.Prelude.{Ok, IfErr, IfOk};
 ghost use Rattle.std.specs.Str.Lines.{lines};
-ghost use Rattle.text_lines.specs.Reasons.{GivesText};
+ghost use Rattle.text_lines.specs.Outcomes.{GivesText};
 ghost use Rattle.text_lines.specs.Runs.{run_of};
 ghost use Rattle.scenario_text.specs.Machine.{start, take_line, finished};
-ghost use Rattle.scenario_text.specs.Judging.{IsFirstBad};
-ghost use Rattle.scenario_text.specs.Reads.{Reads, ReadsOrRefused, NeverBoth, OneValue, OneFault};
+ghost use Rattle.text_lines.specs.Readings.{IsFirstBad, ReadsOrRefused, NeverReadsAndRefused, OneValue, OneFault};
+ghost use Rattle.scenario_text.specs.Judging.{scenario_why_at};
+ghost use Rattle.scenario_text.specs.Reads.{ReadsAsScenario};
 ghost use Rattle.scenario.specs.Sound.{IsScenario};
 ghost use Rattle.scenario.specs.declared.scenarios.Scenario.{Scenario};
 
@@ -41,25 +42,25 @@ fn read(alloc: Global, text: &[u8]) -> Result<Scenario, TextRefused>
 
 /// The scenario that a text is, or its first fault.
 pub fn read_scenario(alloc: Global, text: &[u8]) -> Result<Scenario, TextRefused>
-    ensures ok { IfOk result (λ s. Reads text.now s) }
+    ensures ok { IfOk result (λ s. ReadsAsScenario text.now s) }
 
     // What was read is in range: each slave, port, setting and interval that it names is there, and
     // no two of its names, addresses, wires into an input or intervals of a pair clash.
     ensures range { IfOk result (λ s. IsScenario s) }
 
     // What reads is read, unless memory runs out.
-    ensures only { (s : Scenario) → Reads text.now s → GivesText result (Ok s) }
+    ensures only { (s : Scenario) → ReadsAsScenario text.now s → GivesText result (Ok s) }
 
     // Else the fault is the first line that is refused.
-    ensures fault { IfErr result (λ e. IsFirstBad text.now e) }
+    ensures fault { IfErr result (λ e. IsFirstBad scenario_why_at text.now e) }
 {
     read(alloc, text)
 }
 
 /// The law of the grammar: each text is one scenario, or has one first line that is refused.
 pub fn reads_or_refused()
-    ensures either { ReadsOrRefused }
-    ensures never_both { NeverBoth }
-    ensures one_value { OneValue }
-    ensures one_fault { OneFault }
+    ensures either { ReadsOrRefused ReadsAsScenario scenario_why_at }
+    ensures never_both { NeverReadsAndRefused ReadsAsScenario scenario_why_at }
+    ensures one_value { OneValue ReadsAsScenario }
+    ensures one_fault { OneFault scenario_why_at }
 {}

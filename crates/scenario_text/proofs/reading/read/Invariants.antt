@@ -1,7 +1,8 @@
 use Rattle.std.proofs.Common.{◌≡◌, ◌+◌, map, drop}
-use Rattle.text_lines.specs.Runs.{run_of, line_number}
+use Rattle.text_lines.specs.Runs.{run_of}
+use Rattle.text_lines.specs.Readings.{line_number}
 use Rattle.scenario_text.specs.Machine.{take_line, finished, start}
-use Rattle.scenario_text.proofs.texts.read.Given as goal
+use Rattle.scenario_text.proofs.reading.read.Given as goal
 
 abbrev pub invariant-loop-line : goal.invariant-loop-line
 invariant-loop-line l = record {
