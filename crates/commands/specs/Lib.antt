@@ -12,6 +12,7 @@ pub mod SaysDescribed
 pub mod SaysReference
 pub mod Says
 pub mod Answers
+pub mod Programs
 -- The code's own bookkeeping, which no promise of the program names: a message that was handed over, and a text that is put piece by piece.
 pub mod Taken
 pub mod Waiting

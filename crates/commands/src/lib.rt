@@ -9,6 +9,7 @@
 mod command_words;
 mod inputs;
 mod outputs;
+mod programs;
 mod refusals;
 mod row_texts;
 mod said;
@@ -21,6 +22,7 @@ mod word_lists;
 
 pub use command_words::Command;
 pub use inputs::LIMIT;
+pub use programs::{Ended, run_program};
 pub use statuses::Status;
 pub use top_calls::run_words;
 pub use word_lists::Words;

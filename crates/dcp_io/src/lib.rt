@@ -10,8 +10,7 @@ mod memory_sources;
 mod reads;
 mod std_sinks;
 mod std_sources;
-#[cfg(test)]
-mod tests;
+mod turns;
 mod writes;
 
 pub use memory_sinks::MemorySink;
@@ -19,4 +18,5 @@ pub use memory_sources::MemorySource;
 pub use reads::{Read, Source};
 pub use std_sinks::StdSink;
 pub use std_sources::StdSource;
+pub use turns::{Turn, turn_of};
 pub use writes::{Sink, Written};

@@ -1,22 +1,16 @@
 //! The program: its words and its streams.
 #![tactic(auto)]
 
-use commands::{Status, Words, run_words};
-use dcp_io::{StdSink, StdSource};
+use commands::{Status, Words, run_program};
 use dcp_types::OutOfMemory;
 use std::process::ExitCode;
 use std::{env, io};
 
 fn main(rt: HostRuntime) -> ExitCode {
-    let status = match given_words(&rt) {
-        Ok(words) => {
-            let mut source = StdSource::new(rt.stdin());
-            let mut out = StdSink::new(rt.stdout());
-            run_words(rt.alloc(), &words, &mut source, &mut out)
-        }
-        Err(OutOfMemory) => Status::OutOfMemory,
-    };
-    status.exit_code()
+    match given_words(&rt) {
+        Ok(words) => run_program(rt.alloc(), &words, rt.stdin(), rt.stdout()).code,
+        Err(OutOfMemory) => Status::OutOfMemory.exit_code(),
+    }
 }
 
 /// The words after the program's name; none where one of them is no UTF-8, since no command has such a

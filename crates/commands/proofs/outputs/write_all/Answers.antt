@@ -12,7 +12,7 @@ returns-in-Failed g c =
       drop at text,
       sym (take-append-drop at text),
       then_none_added _ _ _ _ c.loop-at.invariant.added c.in-Failed.ensures.bytes,
-      subst (λ b. Rose b (g.K.Sink.faults c.write.new.self)) c.loop-at.invariant.no_fault c.in-Failed.ensures.cause,
+      subst (λ b. Rose b (g.K.Sink.faults c.write.new.self)) c.loop-at.invariant.no_fault c.in-Failed.ensures.cause.1,
     )
 
 pub loop-at-preserved : goal.loop-at-preserved

@@ -1,0 +1,11 @@
+-- How the program ends over a reader and a writer.
+use Rattle.std.specs.Prelude.{◌≡◌, ℕ, List, Option}
+use Rattle.commands.specs.declared.statuses.Status.{Status}
+use Rattle.commands.specs.Answers.{Outcome}
+use Rattle.commands.specs.Statuses.{status_code}
+
+-- the exit status is that of an outcome of the words, over a source and a sink that have had no fault before
+abbrev pub Ends : List (List ℕ) → Option (List ℕ) → Option (List ℕ) → Option (List ℕ) → Option (List ℕ) → ℕ → Type 0
+Ends words left rest held holds code =
+    (status : Status) × (read_faults : ℕ) × (write_faults : ℕ)
+    × (code ≡ status_code status) × Outcome words left rest 0 read_faults held holds 0 write_faults status

@@ -1,0 +1,45 @@
+//! The program over a reader and a writer of the standard library.
+
+ghost use Rattle.std.specs.Prelude.{◌≡◌};
+ghost use Rattle.std.specs.Process.{exit_status};
+ghost use Rattle.commands.specs.Programs.{Ends};
+
+use crate::top_calls::run_words;
+use crate::word_lists::Words;
+use dcp_io::{StdSink, StdSource};
+use std::alloc::Global;
+use std::io;
+use std::process::ExitCode;
+
+/// How the program ended.
+#[derive(Drop)]
+pub struct Ended<R, W> {
+    /// The exit status of the process.
+    pub code: ExitCode,
+    /// The reader, with what is left of it.
+    pub reader: R,
+    /// The writer, with what it took.
+    pub writer: W,
+}
+
+/// Does what the words say over a reader and a writer, and gives the exit status. Where they tell their
+/// bytes, the clauses of `run_words` hold of these.
+pub fn run_program<R: io::Read + Drop, W: io::Write + Drop>(
+    alloc: Global,
+    words: &Words,
+    reader: R,
+    writer: W,
+) -> Ended<R, W>
+    ensures outcome { Ends words.now (R.remaining reader) (R.remaining result.reader) (W.contents writer) (W.contents result.writer) (exit_status result.code) }
+    ensures unread { exit_status result.code ≡ 1 → result.reader ≡ reader }
+    ensures unwritten { exit_status result.code ≡ 4 → result.writer ≡ writer }
+{
+    let mut source = StdSource::new(reader);
+    let mut out = StdSink::new(writer);
+    let status = run_words(alloc, words, &mut source, &mut out);
+    Ended {
+        code: status.exit_code(),
+        reader: source.into_inner(),
+        writer: out.into_inner(),
+    }
+}
