@@ -1,0 +1,4 @@
+pub mod Messages
+pub mod Judged
+pub mod Answered
+pub mod Sayings

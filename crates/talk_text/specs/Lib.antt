@@ -1,0 +1,5 @@
+pub mod Taken
+pub mod Talks
+pub mod Judging
+pub mod Machine
+pub mod Saying

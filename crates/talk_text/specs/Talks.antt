@@ -1,0 +1,65 @@
+-- Which talk a text is.
+use Rattle.std.specs.Prelude.{◌≡◌, ℕ, Bool, true, List, [], ◌∷◌, ◌++◌, All, map, codes}
+use Rattle.std.specs.Str.{is_utf8}
+use Rattle.std.specs.Str.Lines.{lines}
+use Rattle.dcp_types.specs.declared.addresses.Address.{Address}
+use Rattle.dcp_ends.specs.Events.{Event, Gram, Tick}
+use Rattle.pdu_layout.specs.Message.{Message}
+use Rattle.pdu_layout.specs.Reading.{spelling}
+use Rattle.pdu_text.specs.Reading.{Reads}
+use Rattle.text_lines.specs.Texts.{words, is_skipped}
+use Rattle.desc_text.specs.Judging.{items_in}
+use Rattle.desc_text.specs.Reads.{is_read, Describes}
+use Rattle.talk_text.specs.declared.events.Talk.{Talk}
+use Rattle.talk_text.specs.declared.events.TalkEvent.{TalkEvent}
+use Rattle.talk_text.specs.declared.events.TalkEvent.TheVariants as talk
+
+-- the master, 127.0.0.1 at port 9000, from which each message comes
+abbrev pub sender : Address
+sender = record { ip = 2130706433; port = 9000 }
+
+-- what comes to the slave
+abbrev pub event_of : TalkEvent → Event
+event_of talk.Turn = Tick
+event_of (talk.Message bytes) = Gram sender bytes
+
+abbrev pub events_of : Talk → List Event
+events_of t = map event_of t.events
+
+-- the line is a message in its printed form, with these bytes
+pub record Tells (line bytes : List ℕ) : Type 0 where
+  pub message : Message
+  pub reads : Reads line message
+  pub spelled : bytes ≡ spelling message
+
+-- a line after the block is skipped, or it says one event
+abbrev pub Says : List ℕ → List TalkEvent → Type 0
+Says line [] = is_skipped (words line) ≡ true
+Says line (talk.Turn ∷ []) = words line ≡ codes "turn" ∷ []
+Says line (talk.Message bytes ∷ []) = Tells line bytes
+Says line (first ∷ second ∷ more) = ⊥
+
+-- the lines say these events, one after the other
+abbrev pub SayAll : List (List ℕ) → List TalkEvent → Type 0
+SayAll [] events = events ≡ []
+SayAll (line ∷ more) events =
+    (first : List TalkEvent) × (others : List TalkEvent) × (events ≡ first ++ others) × (is_utf8 line ≡ true) × Says line first × SayAll more others
+
+-- a line that begins the talk
+abbrev pub IsBegin : List ℕ → Type 0
+IsBegin line = words line ≡ codes "begin" ∷ []
+
+-- The lines are those of a description, a line `begin`, and lines that say the events.
+pub record AreTalk (all : List (List ℕ)) (t : Talk) : Type 0 where
+  pub block : List (List ℕ)
+  pub begin : List ℕ
+  pub said : List (List ℕ)
+  pub whole : all ≡ block ++ begin ∷ said
+  pub each : All (λ line. is_read line ≡ true) block
+  pub describes : Describes (items_in block) t.desc
+  pub utf8 : is_utf8 begin ≡ true
+  pub begins : IsBegin begin
+  pub says : SayAll said t.events
+
+abbrev pub IsTalk : List ℕ → Talk → Type 0
+IsTalk text t = AreTalk (lines text) t
