@@ -4,7 +4,7 @@ use Rattle.std.specs.Option.{unwrap_or}
 use Rattle.std.specs.Str.{is_utf8}
 use Rattle.text_lines.specs.Texts.{words, is_skipped}
 use Rattle.desc_text.specs.Items.{key_of, item_of}
-use Rattle.text_lines.specs.Causes.{◌>>=◌, or_why, refused_if}
+use Rattle.text_lines.specs.Causes.{◌>>=◌, or_why, refused_if, unless}
 use Rattle.desc_text.specs.Said.{name_in, uuid_in, address_in, model_in, busy_in, heartbeat_in, resolution_in, input_in, output_in}
 use Rattle.desc_text.specs.Judging.{why_key, why_port}
 use Rattle.fixed_models.specs.Kinds.{takes, has_ports}

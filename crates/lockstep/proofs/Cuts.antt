@@ -43,7 +43,7 @@ pub cell_at : (width count place column : ℕ) (values : List ℤ) → place < c
     get_or (get_or (cut width count values) place []) column (pos 0) ≡ get_or values (place * width + column) (pos 0)
 cell_at width count place column values lt below =
     let there = slice_get-cut width count place values lt in
-    let found : get_or (cut width count values) place [] ≡ take width (drop (place * width) values) = get_or_from_slice_get (cut width count values) row_index (take width (drop (place * width) values)) [] there in
+    let found : get_or (cut width count values) place [] ≡ take width (drop (place * width) values) = get_or_from_slice_get (cut width count values) place (take width (drop (place * width) values)) [] there in
     ap (λ (x : List ℤ). get_or x column (pos 0)) found
     ∙ get_or-take width (drop (place * width) values) column (pos 0) below
     ∙ get_or-drop (place * width) values column (pos 0)
