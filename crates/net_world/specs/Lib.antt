@@ -1,0 +1,11 @@
+pub mod Messages
+pub mod Chances
+pub mod Lines
+pub mod Deliveries
+pub mod Queues
+pub mod Mailboxes
+pub mod Lags
+pub mod Watches
+pub mod Calls
+pub mod Tied
+pub mod World

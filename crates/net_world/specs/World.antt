@@ -1,0 +1,27 @@
+-- What a network in memory tells, and which of its calls fails.
+use Rattle.std.specs.Prelude.{ℕ, List, [], Bool, true, false, Option, None, Some}
+use Rattle.dcp_types.specs.declared.addresses.Address.{Address}
+use Rattle.dcp_ends.specs.declared.entries.LogEntry.{LogEntry}
+use Rattle.dcp_net.specs.declared.openings.Opening.{Opening}
+use Rattle.dcp_net.specs.declared.nets.Taken.{Taken}
+use Rattle.net_world.specs.Calls.{Carried, TakesDue}
+use Rattle.net_world.specs.Deliveries.{due}
+
+-- the calls since it was opened; before that it has made none
+abbrev pub calls_of : Option Carried → Option (List LogEntry)
+calls_of None = Some []
+calls_of (Some carried) = Some carried.calls
+
+-- what it was opened with; before that it tells nothing
+abbrev pub opening_of : Option Carried → Option Opening
+opening_of None = None
+opening_of (Some carried) = Some carried.opening
+
+abbrev pub is_begun : Option Carried → Bool
+is_begun None = false
+is_begun (Some carried) = true
+
+-- a take at an open network gives what is due
+abbrev pub TakesOpened : Option Carried → Address → Taken → List ℕ → Type 0
+TakesOpened None at taken room = Unit {0}
+TakesOpened (Some carried) at taken room = TakesDue (due carried.opening carried.calls at) taken room
