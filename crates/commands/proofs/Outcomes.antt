@@ -1,15 +1,15 @@
 -- What was made of an input and written is the outcome of its status.
 use Rattle.std.proofs.Common.{ℕ, List, Option}
-use Rattle.commands.specs.declared.statuses.Verdict.{Verdict}
-use Rattle.commands.specs.declared.statuses.Verdict.TheVariants.{Good, Refused}
+use Rattle.commands.specs.declared.statuses.Judgement.{Judgement}
+use Rattle.commands.specs.declared.statuses.Judgement.TheVariants.{Good, Refused}
 use Rattle.commands.specs.declared.statuses.Delivery.{Delivery}
 use Rattle.commands.specs.declared.statuses.Delivery.TheVariants.{Whole, Cut}
 use Rattle.commands.specs.Answers.{Answered, Outcome}
 use Rattle.commands.specs.Statuses.{status_after}
 
 module _ (words : List (List ℕ)) (left rest : Option (List ℕ)) (read_before read_now : ℕ) (held holds : Option (List ℕ)) (write_before write_now : ℕ) where
-  pub outcome_is : (verdict : Verdict) (delivery : Delivery) → Answered words left rest read_before read_now held holds write_before write_now verdict delivery
-      → Outcome words left rest read_before read_now held holds write_before write_now (status_after verdict delivery)
+  pub outcome_is : (judgement : Judgement) (delivery : Delivery) → Answered words left rest read_before read_now held holds write_before write_now judgement delivery
+      → Outcome words left rest read_before read_now held holds write_before write_now (status_after judgement delivery)
   outcome_is Good Whole answered = answered
   outcome_is Good Cut answered = answered
   outcome_is Refused Whole answered = (Whole, answered)

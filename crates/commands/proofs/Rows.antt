@@ -3,14 +3,14 @@ use Rattle.std.proofs.Common.{◌≡◌, ℕ, ◌+◌, ◌<◌, List, [], ◌∷
 use Rattle.std.specs.List.{flat_map}
 use Rattle.std.specs.Prelude.{slice_get}
 use Rattle.std.proofs.lemmas.List.{flat_map_more, take_more, append-nil}
-use Rattle.commands.specs.Rows.{spaced, row_text, rows_text}
+use Rattle.commands.specs.Rows.{spaced_value, row_text, rows_text}
 
 -- one value more
 pub value_more : (text number : List ℕ) (values : List ℤ) (i : ℕ) → i < length values
-    → (text ++ (number ++ flat_map spaced (take i values))) ++ spaced (get_or values i (pos 0)) ≡ text ++ (number ++ flat_map spaced (take (i + 1) values))
+    → (text ++ (number ++ flat_map spaced_value (take i values))) ++ spaced_value (get_or values i (pos 0)) ≡ text ++ (number ++ flat_map spaced_value (take (i + 1) values))
 value_more text number values i within =
-    append_assoc text (number ++ flat_map spaced (take i values)) (spaced (get_or values i (pos 0)))
-    ∙ ap (λ l. text ++ l) (flat_map_more spaced number (take i values) (get_or values i (pos 0)) ∙ ap (λ l. number ++ flat_map spaced l) (sym (take_more values i (pos 0) within)))
+    append_assoc text (number ++ flat_map spaced_value (take i values)) (spaced_value (get_or values i (pos 0)))
+    ∙ ap (λ l. text ++ l) (flat_map_more spaced_value number (take i values) (get_or values i (pos 0)) ∙ ap (λ l. number ++ flat_map spaced_value l) (sym (take_more values i (pos 0) within)))
 
 -- one row more
 lines_more : (first n : ℕ) (rows : List (List ℤ)) (row : List ℤ) → slice_get rows n ≡ Some row → rows_text first (take n rows) ++ row_text (first + n) row ≡ rows_text first (take (suc n) rows)

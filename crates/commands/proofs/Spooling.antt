@@ -7,7 +7,7 @@ use Rattle.commands.specs.declared.statuses.Delivery.{Delivery}
 use Rattle.commands.specs.declared.statuses.Delivery.TheVariants.{Whole, Cut}
 use Rattle.commands.specs.Outputs.{Delivers}
 use Rattle.commands.specs.Spools.{Spooled, SpooledIf}
-use Rattle.commands.specs.Waiting.{Waiting}
+use Rattle.commands.specs.Unwritten.{Unwritten}
 use Rattle.commands.proofs.Pieces.{nothing_added, then_added}
 
 -- what waited was written
@@ -35,7 +35,7 @@ put_behind true old new before now text waits piece spooled =
     (spooled.0, spooled.1 ++ piece, ap (λ l. l ++ piece) spooled.2 ∙ append_assoc spooled.0 spooled.1 piece, spooled.3, spooled.4)
 
 -- nothing was put yet
-pub begun : (old : Option (List ℕ)) (before : ℕ) (spool : Waiting) → spool ≡ record { waits = []; failed = false } → Spooled old old before before [] spool
+pub begun : (old : Option (List ℕ)) (before : ℕ) (spool : Unwritten) → spool ≡ record { waits = []; failed = false } → Spooled old old before before [] spool
 begun old before spool fresh =
-    let P : Waiting → Type 0 = λ s. Spooled old old before before [] s in
+    let P : Unwritten → Type 0 = λ s. Spooled old old before before [] s in
     subst P (sym fresh) ([], refl, nothing_added old, refl)

@@ -4,8 +4,8 @@ use Rattle.dcp_io.specs.Faults.{Rose}
 use Rattle.commands.specs.declared.command_words.Command.{Command}
 use Rattle.commands.specs.declared.statuses.Status.{Status}
 use Rattle.commands.specs.declared.statuses.Status.TheVariants.{Done, Usage, BadInput, RunFailed, ReadFault, WriteFault, NetFault, OutOfMemory, Differs}
-use Rattle.commands.specs.declared.statuses.Verdict.{Verdict}
-use Rattle.commands.specs.declared.statuses.Verdict.TheVariants.{Good, Refused}
+use Rattle.commands.specs.declared.statuses.Judgement.{Judgement}
+use Rattle.commands.specs.declared.statuses.Judgement.TheVariants.{Good, Refused}
 use Rattle.commands.specs.declared.statuses.Delivery.{Delivery}
 use Rattle.commands.specs.declared.statuses.Delivery.TheVariants.{Whole, Cut}
 use Rattle.commands.specs.CommandWords.{Names, IsCommand}
@@ -20,11 +20,11 @@ module _ (words : List (List ℕ)) (left rest : Option (List ℕ)) (read_before 
   Wrote = Delivers held holds write_before write_now
 
   -- the words name a command, the whole input was taken and no read failed, the command judged it so, and what it says of it was written so
-  abbrev pub Answered : Verdict → Delivery → Type 0
-  Answered verdict delivery =
+  abbrev pub Answered : Judgement → Delivery → Type 0
+  Answered judgement delivery =
       (command : Command) × (input : List ℕ) × (text : List ℕ)
       × Names words command × TakesInput left rest input × (read_now ≡ read_before)
-      × Says command input verdict text × Wrote text delivery
+      × Says command input judgement text × Wrote text delivery
 
   abbrev pub Outcome : Status → Type 0
   Outcome Done = Answered Good Whole

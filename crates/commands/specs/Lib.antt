@@ -14,6 +14,6 @@ pub mod Says
 pub mod Answers
 pub mod Programs
 -- The code's own bookkeeping, which no promise of the program names: a message that was handed over, and a text that is put piece by piece.
-pub mod Taken
-pub mod Waiting
+pub mod SpellingTaken
+pub mod Unwritten
 pub mod Spools

@@ -5,7 +5,7 @@ use Rattle.commands.specs.Answers.{Outcome}
 use Rattle.commands.specs.Statuses.{status_code}
 
 -- the exit status is that of an outcome of the words, over a source and a sink that have had no fault before
-abbrev pub Ends : List (List ℕ) → Option (List ℕ) → Option (List ℕ) → Option (List ℕ) → Option (List ℕ) → ℕ → Type 0
-Ends words left rest held holds code =
+abbrev pub ExitsWith : List (List ℕ) → Option (List ℕ) → Option (List ℕ) → Option (List ℕ) → Option (List ℕ) → ℕ → Type 0
+ExitsWith words left rest held holds code =
     (status : Status) × (read_faults : ℕ) × (write_faults : ℕ)
     × (code ≡ status_code status) × Outcome words left rest 0 read_faults held holds 0 write_faults status

@@ -1,10 +1,10 @@
 -- The lines that say why an input is refused.
 use Rattle.std.specs.Prelude.{◌≡◌, ◌⊎◌, ℕ, ◌<◌, ◌≤◌, List, ◌++◌, length, codes, decimal}
 use Rattle.commands.specs.declared.said.Said.{Said}
-use Rattle.commands.specs.declared.statuses.Verdict.{Verdict}
-use Rattle.commands.specs.declared.statuses.Verdict.TheVariants.{Refused}
+use Rattle.commands.specs.declared.statuses.Judgement.{Judgement}
+use Rattle.commands.specs.declared.statuses.Judgement.TheVariants.{Refused}
 use Rattle.commands.specs.Inputs.{input_limit}
-use Rattle.commands.specs.Said.{text_of}
+use Rattle.commands.specs.Said.{past_limit, text_of}
 
 -- the line of a text that is refused, and the word that says why
 abbrev pub line_refusal : ℕ → List ℕ → List ℕ
@@ -14,16 +14,12 @@ line_refusal line word = codes "input: line " ++ (decimal line ++ (codes " " ++ 
 abbrev pub byte_refusal : ℕ → List ℕ → List ℕ
 byte_refusal at word = codes "input: byte " ++ (decimal at ++ (codes " " ++ (word ++ codes "\n")))
 
--- the line of a text that is longer than an input may be
-abbrev pub past_limit : List ℕ
-past_limit = codes "input: line 0 LIMIT\n"
-
 -- this line refuses the input
 abbrev pub Refuses : List ℕ → Said → Type 0
-Refuses line said = (said.verdict ≡ Refused) × (text_of said.text ≡ line)
+Refuses line said = (said.judgement ≡ Refused) × (text_of said.text ≡ line)
 
 -- a text past its limit is refused as a whole, and any other is judged
-abbrev pub OfText : (List ℕ → Verdict → List ℕ → Type 0) → List ℕ → Verdict → List ℕ → Type 0
-OfText Judges input verdict text =
-    ((length input ≤ input_limit) × Judges input verdict text)
-    ⊎ ((input_limit < length input) × (verdict ≡ Refused) × (text ≡ past_limit))
+abbrev pub OfText : (List ℕ → Judgement → List ℕ → Type 0) → List ℕ → Judgement → List ℕ → Type 0
+OfText Judges input judgement text =
+    ((length input ≤ input_limit) × Judges input judgement text)
+    ⊎ ((input_limit < length input) × (judgement ≡ Refused) × (text ≡ past_limit))

@@ -6,12 +6,12 @@ use Rattle.dcp_types.specs.Codes.{fault_code}
 use Rattle.lockstep.specs.declared.references.RefFault.{RefFault}
 
 -- a value behind a space
-abbrev pub spaced : ℤ → List ℕ
-spaced value = codes " " ++ signed_decimal value
+abbrev pub spaced_value : ℤ → List ℕ
+spaced_value value = codes " " ++ signed_decimal value
 
 -- a row: its number and its values
 abbrev pub row_text : ℕ → List ℤ → List ℕ
-row_text number values = decimal number ++ (flat_map spaced values ++ codes "\n")
+row_text number values = decimal number ++ (flat_map spaced_value values ++ codes "\n")
 
 -- rows in order, the first of which has this number
 abbrev pub rows_text : ℕ → List (List ℤ) → List ℕ

@@ -5,8 +5,8 @@ use Rattle.pdu_codec.specs.declared.faults.DecodeWhy.{DecodeWhy}
 use Rattle.pdu_codec.specs.declared.faults.DecodeWhy.TheVariants.{Empty, UnknownType, Short, Long, BadState, BadType, TooLong}
 use Rattle.pdu_codec.specs.Refusals.{Refusal}
 use Rattle.pdu_text.specs.Printed.{line_of}
-use Rattle.commands.specs.declared.statuses.Verdict.{Verdict}
-use Rattle.commands.specs.declared.statuses.Verdict.TheVariants as verdict
+use Rattle.commands.specs.declared.statuses.Judgement.{Judgement}
+use Rattle.commands.specs.declared.statuses.Judgement.TheVariants as judged
 use Rattle.commands.specs.Refusals.{byte_refusal}
 
 -- the word for why bytes spell no message
@@ -20,6 +20,6 @@ decode_word BadType = codes "BAD_TYPE"
 decode_word TooLong = codes "TOO_LONG"
 
 -- the line of the message that the bytes spell, or where and why they spell none
-abbrev pub SaysDecoded : List ℕ → Verdict → List ℕ → Type 0
-SaysDecoded input verdict.Good text = (message : Message) × Spells message input × (text ≡ line_of message)
-SaysDecoded input verdict.Refused text = (at : ℕ) × (why : DecodeWhy) × Refusal input at why × (text ≡ byte_refusal at (decode_word why))
+abbrev pub SaysDecoded : List ℕ → Judgement → List ℕ → Type 0
+SaysDecoded input judged.Good text = (message : Message) × Spells message input × (text ≡ line_of message)
+SaysDecoded input judged.Refused text = (at : ℕ) × (why : DecodeWhy) × Refusal input at why × (text ≡ byte_refusal at (decode_word why))

@@ -6,11 +6,11 @@ use Rattle.slave_desc.specs.declared.descriptions.SlaveDesc.{SlaveDesc}
 use Rattle.desc_text.specs.Reads.{Reads}
 use Rattle.text_lines.specs.Readings.{FirstBad}
 use Rattle.desc_text.specs.Canonical.{canonical}
-use Rattle.commands.specs.declared.statuses.Verdict.{Verdict}
-use Rattle.commands.specs.declared.statuses.Verdict.TheVariants as verdict
+use Rattle.commands.specs.declared.statuses.Judgement.{Judgement}
+use Rattle.commands.specs.declared.statuses.Judgement.TheVariants as judged
 use Rattle.commands.specs.Refusals.{line_refusal}
 
 -- the canonical text of the description that it is, or the first line that is refused
-abbrev pub SaysDescribed : List ℕ → Verdict → List ℕ → Type 0
-SaysDescribed input verdict.Good text = (desc : SlaveDesc) × Reads input desc × (text ≡ canonical desc)
-SaysDescribed input verdict.Refused text = (line : ℕ) × (why : TextWhy) × FirstBad input line why × (text ≡ line_refusal line (cause_word why))
+abbrev pub SaysDescribed : List ℕ → Judgement → List ℕ → Type 0
+SaysDescribed input judged.Good text = (desc : SlaveDesc) × Reads input desc × (text ≡ canonical desc)
+SaysDescribed input judged.Refused text = (line : ℕ) × (why : TextWhy) × FirstBad input line why × (text ≡ line_refusal line (cause_word why))

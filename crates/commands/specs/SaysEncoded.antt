@@ -5,11 +5,11 @@ use Rattle.pdu_text.specs.declared.reasons.PduTextWhy.{PduTextWhy}
 use Rattle.pdu_text.specs.Reasons.{why_word}
 use Rattle.pdu_text.specs.Reading.{Reads}
 use Rattle.pdu_text.specs.Refusals.{Refused}
-use Rattle.commands.specs.declared.statuses.Verdict.{Verdict}
-use Rattle.commands.specs.declared.statuses.Verdict.TheVariants as verdict
+use Rattle.commands.specs.declared.statuses.Judgement.{Judgement}
+use Rattle.commands.specs.declared.statuses.Judgement.TheVariants as judged
 use Rattle.commands.specs.Refusals.{line_refusal}
 
 -- the bytes of the message that the one line says, or the first rule that it breaks
-abbrev pub SaysEncoded : List ℕ → Verdict → List ℕ → Type 0
-SaysEncoded input verdict.Good text = (message : Message) × Reads input message × Spells message text
-SaysEncoded input verdict.Refused text = (why : PduTextWhy) × Refused input why × (text ≡ line_refusal 1 (why_word why))
+abbrev pub SaysEncoded : List ℕ → Judgement → List ℕ → Type 0
+SaysEncoded input judged.Good text = (message : Message) × Reads input message × Spells message text
+SaysEncoded input judged.Refused text = (why : PduTextWhy) × Refused input why × (text ≡ line_refusal 1 (why_word why))

@@ -7,14 +7,14 @@ use Rattle.scenario_text.specs.Reads.{Reads}
 use Rattle.text_lines.specs.Readings.{FirstBad}
 use Rattle.lockstep.specs.declared.references.RefFault.{RefFault}
 use Rattle.lockstep.specs.Lockstep.{IsReference}
-use Rattle.commands.specs.declared.statuses.Verdict.{Verdict}
-use Rattle.commands.specs.declared.statuses.Verdict.TheVariants as verdict
+use Rattle.commands.specs.declared.statuses.Judgement.{Judgement}
+use Rattle.commands.specs.declared.statuses.Judgement.TheVariants as judged
 use Rattle.commands.specs.Refusals.{line_refusal}
 use Rattle.commands.specs.Rows.{run_text}
 
 -- the rows of the scenario that it is, and the line after them; or the first line that is refused
-abbrev pub SaysReference : List ℕ → Verdict → List ℕ → Type 0
-SaysReference input verdict.Good text =
+abbrev pub SaysReference : List ℕ → Judgement → List ℕ → Type 0
+SaysReference input judged.Good text =
     (scenario : Scenario) × (rows : List (List ℤ)) × (fault : Option RefFault)
     × Reads input scenario × IsReference scenario rows fault × (text ≡ run_text scenario.steps rows fault)
-SaysReference input verdict.Refused text = (line : ℕ) × (why : TextWhy) × FirstBad input line why × (text ≡ line_refusal line (cause_word why))
+SaysReference input judged.Refused text = (line : ℕ) × (why : TextWhy) × FirstBad input line why × (text ≡ line_refusal line (cause_word why))

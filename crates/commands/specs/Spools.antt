@@ -2,7 +2,7 @@
 use Rattle.std.specs.Prelude.{◌≡◌, ℕ, List, ◌++◌, Bool, true, false, Option}
 use Rattle.std.specs.Io.KnownBytes.{Appends}
 use Rattle.commands.specs.Outputs.{WroteFront}
-use Rattle.commands.specs.Waiting.{Waiting}
+use Rattle.commands.specs.Unwritten.{Unwritten}
 
 -- a sink that held `old`, with its count of faults before, now holds `new`
 module _ (old new : Option (List ℕ)) (before now : ℕ) where
@@ -12,5 +12,5 @@ module _ (old new : Option (List ℕ)) (before now : ℕ) where
   SpooledIf true text waits = WroteFront old new before now text
 
   -- the text was put
-  abbrev pub Spooled : List ℕ → Waiting → Type 0
+  abbrev pub Spooled : List ℕ → Unwritten → Type 0
   Spooled text spool = SpooledIf spool.failed text spool.waits

@@ -1,9 +1,9 @@
--- The exit status of each answer, and which answer follows a verdict and its delivery.
+-- The exit status of each answer, and which answer follows a judgement and its delivery.
 use Rattle.std.specs.Prelude.{ℕ}
 use Rattle.commands.specs.declared.statuses.Status.{Status}
 use Rattle.commands.specs.declared.statuses.Status.TheVariants.{Done, Usage, BadInput, RunFailed, ReadFault, WriteFault, NetFault, OutOfMemory, Differs}
-use Rattle.commands.specs.declared.statuses.Verdict.{Verdict}
-use Rattle.commands.specs.declared.statuses.Verdict.TheVariants.{Good, Refused}
+use Rattle.commands.specs.declared.statuses.Judgement.{Judgement}
+use Rattle.commands.specs.declared.statuses.Judgement.TheVariants.{Good, Refused}
 use Rattle.commands.specs.declared.statuses.Delivery.{Delivery}
 use Rattle.commands.specs.declared.statuses.Delivery.TheVariants.{Whole, Cut}
 
@@ -19,7 +19,7 @@ status_code OutOfMemory = 7
 status_code Differs = 8
 
 -- a refusal stays one where its line could not be written
-abbrev pub status_after : Verdict → Delivery → Status
+abbrev pub status_after : Judgement → Delivery → Status
 status_after Good Whole = Done
 status_after Good Cut = WriteFault
 status_after Refused Whole = BadInput

@@ -2,7 +2,7 @@
 
 ghost use Rattle.std.specs.Prelude.{◌≡◌};
 ghost use Rattle.std.specs.Process.{exit_status};
-ghost use Rattle.commands.specs.Programs.{Ends};
+ghost use Rattle.commands.specs.Programs.{ExitsWith};
 
 use crate::top_calls::run_words;
 use crate::word_lists::Words;
@@ -30,7 +30,7 @@ pub fn run_program<R: io::Read + Drop, W: io::Write + Drop>(
     reader: R,
     writer: W,
 ) -> Ended<R, W>
-    ensures outcome { Ends words.now (R.remaining reader) (R.remaining result.reader) (W.contents writer) (W.contents result.writer) (exit_status result.code) }
+    ensures outcome { ExitsWith words.now (R.remaining reader) (R.remaining result.reader) (W.contents writer) (W.contents result.writer) (exit_status result.code) }
     ensures unread { exit_status result.code ≡ 1 → result.reader ≡ reader }
     ensures unwritten { exit_status result.code ≡ 4 → result.writer ≡ writer }
 {

@@ -1,10 +1,11 @@
 //! The lines that say why an input is refused.
 
 ghost use Rattle.std.specs.Prelude.{◌≡◌, IfOk};
-ghost use Rattle.commands.specs.Refusals.{Refuses, byte_refusal, line_refusal, past_limit};
+ghost use Rattle.commands.specs.Refusals.{Refuses, byte_refusal, line_refusal};
+ghost use Rattle.commands.specs.Said.{past_limit};
 
 use crate::said::{Said, Text};
-use crate::statuses::Verdict;
+use crate::statuses::Judgement;
 use dcp_types::OutOfMemory;
 use std::alloc::Global;
 
@@ -13,7 +14,7 @@ fn refused(line: Vec<u8>) -> Said
     ensures { Refuses line.items result }
 {
     Said {
-        verdict: Verdict::Refused,
+        judgement: Judgement::Refused,
         text: Text::Whole(line),
     }
 }
@@ -35,9 +36,11 @@ pub fn refuse_byte(alloc: Global, at: usize, word: &str) -> Result<Said, OutOfMe
 }
 
 /// Refuses a text that is longer than an input may be.
-pub fn refuse_past_limit(alloc: Global) -> Result<Said, OutOfMemory>
-    ensures { IfOk result (Refuses past_limit) }
+pub fn refuse_past_limit() -> Said
+    ensures { Refuses past_limit result }
 {
-    let text = b"input: line 0 LIMIT\n".to_vec(alloc)?;
-    Ok(refused(text))
+    Said {
+        judgement: Judgement::Refused,
+        text: Text::PastLimit,
+    }
 }

@@ -1,7 +1,7 @@
 //! The rows of a run, printed one a line.
 
 ghost use Rattle.std.specs.Prelude.{◌≡◌, ◌≤◌, ◌++◌, ℕ, List, Option, length, decimal};
-ghost use Rattle.commands.specs.Rows.{closing_line, row_text, rows_text, run_end, spaced};
+ghost use Rattle.commands.specs.Rows.{closing_line, row_text, rows_text, run_end, spaced_value};
 ghost use Rattle.commands.specs.Spools.{Spooled};
 
 use crate::spools::Spool;
@@ -25,7 +25,7 @@ pub fn put_row<K: Sink>(spool: &mut Spool, out: &mut K, number: usize, values: &
 /// Puts a value behind a space.
 fn put_value<K: Sink>(spool: &mut Spool, out: &mut K, value: &i128)
     ensures { (old : Option (List ℕ)) (before : ℕ) (text : List ℕ) → Spooled old (K.written out.old) before (K.faults out.old) text spool.old
-        → Spooled old (K.written out.new) before (K.faults out.new) (text ++ spaced value.now) spool.new }
+        → Spooled old (K.written out.new) before (K.faults out.new) (text ++ spaced_value value.now) spool.new }
 {
     let mut digits = Buffer::new();
     spool.put(out, b" ");

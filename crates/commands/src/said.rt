@@ -8,7 +8,7 @@ ghost use Rattle.commands.specs.Said.{text_of};
 use crate::outputs::write_all;
 use crate::row_texts::{put_closing, put_rows};
 use crate::spools::Spool;
-use crate::statuses::{Delivery, Verdict};
+use crate::statuses::{Delivery, Judgement};
 use dcp_io::Sink;
 use lockstep::Reference;
 
@@ -16,7 +16,7 @@ use lockstep::Reference;
 #[derive(Drop)]
 pub struct Said {
     /// What the command makes of the input.
-    pub verdict: Verdict,
+    pub judgement: Judgement,
     /// What is to be written.
     pub text: Text,
 }
@@ -26,6 +26,8 @@ pub struct Said {
 pub enum Text {
     /// Bytes that stand in memory: a text, a line, or a message.
     Whole(Vec<u8>),
+    /// The line that refuses a text past its limit.
+    PastLimit,
     /// The rows of a run over so many steps and the line after them, which are printed while they are
     /// written.
     Rows { steps: u32, reference: Reference },
@@ -37,6 +39,7 @@ pub fn write_text<K: Sink>(out: &mut K, text: &Text) -> Delivery
 {
     match text {
         Text::Whole(bytes) => write_all(out, bytes.as_slice()),
+        Text::PastLimit => write_all(out, b"input: line 0 LIMIT\n"),
         Text::Rows { steps, reference } => write_rows(out, *steps, reference),
     }
 }

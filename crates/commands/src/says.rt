@@ -16,7 +16,7 @@ use std::alloc::Global;
 
 /// What the command says of an input that was read.
 pub fn say(alloc: Global, command: Command, input: &[u8]) -> Result<Said, OutOfMemory>
-    ensures { IfOk result (λ said. Says command input.now said.verdict (text_of said.text)) }
+    ensures { IfOk result (λ said. Says command input.now said.judgement (text_of said.text)) }
 {
     match command {
         Command::Decode => decode::say_decoded(alloc, input),

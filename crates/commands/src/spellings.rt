@@ -23,9 +23,9 @@ impl Model for Spelling {
 
     ghost Value = { List (List ℕ) };
 
-    ghost use Rattle.commands.specs.Taken.{taken_of};
+    ghost use Rattle.commands.specs.SpellingTaken.{spelling_of};
 
-    ghost view = { λ s. taken_of s.taken s.len s.room };
+    ghost view = { λ s. spelling_of s.taken s.len s.room };
 
     ghost invariant = { λ s. s.len ≤ 1024 };
 }

@@ -23,9 +23,9 @@ pub struct Spool {
 
 impl Model for Spool {
     ghost use Rattle.std.specs.Prelude.{take, ◌≤◌};
-    ghost use Rattle.commands.specs.Waiting.{Waiting};
+    ghost use Rattle.commands.specs.Unwritten.{Unwritten};
 
-    ghost Value = { Waiting };
+    ghost Value = { Unwritten };
 
     ghost view = { λ s. record { waits = take s.len s.room; failed = s.failed } };
 

@@ -58,7 +58,7 @@ impl Status {
 
 /// What a command makes of an input.
 #[derive(Clone, Copy, Debug, PartialEq, Eq)]
-pub enum Verdict {
+pub enum Judgement {
     /// The form of the input is good, and what is said is the command's result.
     Good,
     /// The form of the input is refused, and what is said is the line that names the place and the
@@ -75,16 +75,16 @@ pub enum Delivery {
     Cut,
 }
 
-impl Verdict {
+impl Judgement {
     /// The status after what was said was delivered so. A refusal stays one where its line could not
     /// be written.
     pub fn status(self, delivery: Delivery) -> Status
         ensures { result ≡ status_after self delivery }
     {
         match (self, delivery) {
-            (Verdict::Good, Delivery::Whole) => Status::Done,
-            (Verdict::Good, Delivery::Cut) => Status::WriteFault,
-            (Verdict::Refused, _) => Status::BadInput,
+            (Judgement::Good, Delivery::Whole) => Status::Done,
+            (Judgement::Good, Delivery::Cut) => Status::WriteFault,
+            (Judgement::Refused, _) => Status::BadInput,
         }
     }
 }

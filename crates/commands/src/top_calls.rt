@@ -41,7 +41,7 @@ pub fn run_words<S: Source, K: Sink>(
         Gathered::OutOfMemory => return Status::OutOfMemory,
     };
     match say(alloc, command, input.as_slice()) {
-        Ok(said) => said.verdict.status(write_text(out, &said.text)),
+        Ok(said) => said.judgement.status(write_text(out, &said.text)),
         Err(OutOfMemory) => Status::OutOfMemory,
     }
 }

@@ -6,7 +6,7 @@ ghost use Rattle.commands.specs.SaysDecoded.{SaysDecoded, decode_word};
 
 use crate::refusals::refuse_byte;
 use crate::said::{Said, Text};
-use crate::statuses::Verdict;
+use crate::statuses::Judgement;
 use dcp_types::OutOfMemory;
 use pdu_codec::{DecodeWhy, decode};
 use pdu_text::print_pdu;
@@ -14,7 +14,7 @@ use std::alloc::Global;
 
 /// The line of the message that the bytes spell, or where and why they spell none.
 pub fn say_decoded(alloc: Global, input: &[u8]) -> Result<Said, OutOfMemory>
-    ensures { IfOk result (λ said. SaysDecoded input.now said.verdict (text_of said.text)) }
+    ensures { IfOk result (λ said. SaysDecoded input.now said.judgement (text_of said.text)) }
 {
     let pdu = match decode(input) {
         Ok(pdu) => pdu,
@@ -22,7 +22,7 @@ pub fn say_decoded(alloc: Global, input: &[u8]) -> Result<Said, OutOfMemory>
     };
     let line = print_pdu(alloc, &pdu)?;
     Ok(Said {
-        verdict: Verdict::Good,
+        judgement: Judgement::Good,
         text: Text::Whole(line.into_bytes()),
     })
 }

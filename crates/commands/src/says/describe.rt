@@ -8,18 +8,18 @@ ghost use Rattle.commands.specs.SaysDescribed.{SaysDescribed};
 use crate::inputs::LIMIT;
 use crate::refusals::{refuse_line, refuse_past_limit};
 use crate::said::{Said, Text};
-use crate::statuses::Verdict;
+use crate::statuses::Judgement;
 use dcp_types::OutOfMemory;
 use desc_text::{print_desc, read_desc};
-use text_lines::TextRefused;
 use std::alloc::Global;
+use text_lines::TextRefused;
 
 /// The canonical text of the description, or the first line that is refused.
 pub fn say_described(alloc: Global, input: &[u8]) -> Result<Said, OutOfMemory>
-    ensures { IfOk result (λ said. OfText SaysDescribed input.now said.verdict (text_of said.text)) }
+    ensures { IfOk result (λ said. OfText SaysDescribed input.now said.judgement (text_of said.text)) }
 {
     if input.len() > LIMIT {
-        return refuse_past_limit(alloc);
+        return Ok(refuse_past_limit());
     }
     let desc = match read_desc(alloc, input) {
         Ok(desc) => desc,
@@ -28,7 +28,7 @@ pub fn say_described(alloc: Global, input: &[u8]) -> Result<Said, OutOfMemory>
     };
     let text = print_desc(alloc, &desc)?;
     Ok(Said {
-        verdict: Verdict::Good,
+        judgement: Judgement::Good,
         text: Text::Whole(text.into_bytes()),
     })
 }

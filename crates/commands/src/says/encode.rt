@@ -9,17 +9,17 @@ use crate::inputs::LIMIT;
 use crate::refusals::{refuse_line, refuse_past_limit};
 use crate::said::{Said, Text};
 use crate::spellings::Spelling;
-use crate::statuses::Verdict;
+use crate::statuses::Judgement;
 use dcp_types::OutOfMemory;
 use pdu_text::{TextRefused, with_pdu_text};
 use std::alloc::Global;
 
 /// The bytes of the message that the line says, or the first rule that it breaks.
 pub fn say_encoded(alloc: Global, input: &[u8]) -> Result<Said, OutOfMemory>
-    ensures { IfOk result (λ said. OfText SaysEncoded input.now said.verdict (text_of said.text)) }
+    ensures { IfOk result (λ said. OfText SaysEncoded input.now said.judgement (text_of said.text)) }
 {
     if input.len() > LIMIT {
-        return refuse_past_limit(alloc);
+        return Ok(refuse_past_limit());
     }
     let mut spelling = Spelling::new();
     match with_pdu_text(alloc, input, &mut spelling) {
@@ -29,7 +29,7 @@ pub fn say_encoded(alloc: Global, input: &[u8]) -> Result<Said, OutOfMemory>
     }
     let bytes = spelling.as_slice().to_vec(alloc)?;
     Ok(Said {
-        verdict: Verdict::Good,
+        judgement: Judgement::Good,
         text: Text::Whole(bytes),
     })
 }

@@ -8,19 +8,19 @@ ghost use Rattle.commands.specs.SaysReference.{SaysReference};
 use crate::inputs::LIMIT;
 use crate::refusals::{refuse_line, refuse_past_limit};
 use crate::said::{Said, Text};
-use crate::statuses::Verdict;
+use crate::statuses::Judgement;
 use dcp_types::OutOfMemory;
 use lockstep::reference;
 use scenario_text::read_scenario;
-use text_lines::TextRefused;
 use std::alloc::Global;
+use text_lines::TextRefused;
 
 /// The rows of the scenario and the line after them, or the first line that is refused.
 pub fn say_reference(alloc: Global, input: &[u8]) -> Result<Said, OutOfMemory>
-    ensures { IfOk result (λ said. OfText SaysReference input.now said.verdict (text_of said.text)) }
+    ensures { IfOk result (λ said. OfText SaysReference input.now said.judgement (text_of said.text)) }
 {
     if input.len() > LIMIT {
-        return refuse_past_limit(alloc);
+        return Ok(refuse_past_limit());
     }
     let scenario = match read_scenario(alloc, input) {
         Ok(scenario) => scenario,
@@ -30,7 +30,7 @@ pub fn say_reference(alloc: Global, input: &[u8]) -> Result<Said, OutOfMemory>
     let steps = scenario.steps;
     let reference = reference(alloc, &scenario)?;
     Ok(Said {
-        verdict: Verdict::Good,
+        judgement: Judgement::Good,
         text: Text::Rows { steps, reference },
     })
 }

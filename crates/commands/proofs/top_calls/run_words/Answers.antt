@@ -14,5 +14,5 @@ returns-in-Ok-clause-outcome g c =
     let P : Status → Type 0 = λ s. Outcome c.args.words.now left rest (g.S.Source.faults c.args.source.now) (g.S.Source.faults c.read_input.new.source) held holds (g.K.Sink.faults c.args.out.now) (g.K.Sink.faults c.write_text.new.out) s in
     let Q : List ℕ → Type 0 = λ input. TakesInput left rest input in
     subst P (sym c.status.ensures)
-    (outcome_is _ left rest _ _ held holds _ _ c.in-Ok.said.verdict c.write_text.result
+    (outcome_is _ left rest _ _ held holds _ _ c.in-Ok.said.judgement c.write_text.result
     (c.in-Some.command, c.as_slice.result.now, _, c.in-Some.ensures, subst Q (sym c.as_slice.ensures) c.in-Bytes.ensures.0, c.in-Bytes.ensures.2, c.in-Ok.ensures, c.write_text.ensures))

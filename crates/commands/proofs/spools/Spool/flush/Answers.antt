@@ -2,7 +2,7 @@ use Rattle.std.proofs.Common.{◌≡◌, Bool, true, false, List, ℕ, [], sym, 
 use Rattle.commands.specs.declared.statuses.Delivery.{Delivery}
 use Rattle.commands.specs.Outputs.{Delivers}
 use Rattle.commands.specs.Spools.{Spooled, SpooledIf}
-use Rattle.commands.specs.Waiting.{Waiting}
+use Rattle.commands.specs.Unwritten.{Unwritten}
 use Rattle.commands.proofs.Spooling.{flushed_whole, flushed_cut}
 use Rattle.commands.proofs.spools.Spool.flush.Goals as goal
 use Rattle.commands.proofs.spools.Spool.flush.Goals.{in-Whole, in-Cut}
@@ -14,7 +14,7 @@ returns-clause-spooled g c = λ old before text spooled.
     let new = g.K.Sink.written c.write_all.new.out in
     let at = g.K.Sink.faults c.args.out.now in
     let now = g.K.Sink.faults c.write_all.new.out in
-    let P : Waiting → Type 0 = λ s. Spooled old last before at text s in
+    let P : Unwritten → Type 0 = λ s. Spooled old last before at text s in
     let Q : Bool → Type 0 = λ b. SpooledIf old last before at b text waits in
     let R : Bool → Type 0 = λ b. SpooledIf old new before now b text [] in
     let unfailed = subst Q c.if-self.false (subst P (sym c.self.view_is) spooled) in
