@@ -1,2 +1,4 @@
 pub mod Lasting
 pub mod Soundness
+pub mod Enduring
+pub mod Regular

@@ -1,14 +1,15 @@
 -- What the reader answers.
 use Rattle.std.proofs.Common.{◌≡◌, ℕ, List, Result, Ok, Err, IfOk, IfErr}
 use Rattle.std.specs.Str.Lines.{lines}
-use Rattle.text_lines.specs.Reasons.{GivesText}
+use Rattle.text_lines.specs.Outcomes.{GivesText}
 use Rattle.text_lines.specs.Runs.{run_of}
 use Rattle.text_lines.specs.declared.reasons.TextFault.{TextFault}
 use Rattle.text_lines.specs.declared.reasons.TextRefused.{TextRefused}
 use Rattle.text_lines.specs.declared.reasons.TextRefused.TheVariants as refusals
 use Rattle.slave_desc.specs.Descriptions.{IsDesc}
 use Rattle.talk_text.specs.Talks.{IsTalk}
-use Rattle.talk_text.specs.Judging.{IsFirstBad}
+use Rattle.text_lines.specs.Readings.{IsFirstBad}
+use Rattle.talk_text.specs.Judging.{talk_why_at}
 use Rattle.talk_text.specs.Machine.{start, take_line, finished}
 use Rattle.talk_text.specs.declared.events.Talk.{Talk}
 use Rattle.talk_text.proofs.Judged.{reads, first_bad, talk_desc}
@@ -24,7 +25,7 @@ pub answered_range : (text : List ℕ) (r : Result Talk TextRefused) → GivesTe
 answered_range text (Ok t) e = talk_desc text t (reads text t e)
 answered_range text (Err f) e = tt
 
-pub answered_fault : (text : List ℕ) (r : Result Talk TextRefused) → GivesText r (meant text) → IfErr r (λ e. IsFirstBad text e)
+pub answered_fault : (text : List ℕ) (r : Result Talk TextRefused) → GivesText r (meant text) → IfErr r (λ e. IsFirstBad talk_why_at text e)
 answered_fault text (Ok t) e = tt
 answered_fault text (Err refusals.OutOfMemory) e = tt
 answered_fault text (Err (refusals.Fault f)) e = first_bad text f e

@@ -18,8 +18,9 @@ use Rattle.pdu_text.specs.declared.reasons.PduTextWhy.{PduTextWhy}
 use Rattle.pdu_text.specs.Machine.{text_said}
 use Rattle.pdu_text.proofs.Judged.{said_reads}
 use Rattle.text_lines.specs.Texts.{words, is_skipped}
-use Rattle.text_lines.specs.Reasons.{◌>>=◌}
-use Rattle.text_lines.specs.Runs.{run_of, IsFirst}
+use Rattle.text_lines.specs.Causes.{◌>>=◌, or_else, refused_if, unless}
+use Rattle.text_lines.specs.Runs.{run_of}
+use Rattle.text_lines.specs.Readings.{FirstBad}
 use Rattle.text_lines.proofs.Results.{bind_ok, given, given_same}
 use Rattle.text_lines.proofs.Runs.{Judges, run_ok, run_err}
 use Rattle.text_lines.specs.declared.reasons.TextWhy.{TextWhy}
@@ -28,9 +29,9 @@ use Rattle.text_lines.specs.declared.reasons.TextFault.{TextFault}
 use Rattle.slave_desc.specs.declared.descriptions.SlaveDesc.{SlaveDesc}
 use Rattle.slave_desc.specs.Descriptions.{IsDesc}
 use Rattle.desc_text.specs.Judging as block
-use Rattle.desc_text.specs.Judging.{items_in, item_in, why_end, or_else, refused_if}
+use Rattle.desc_text.specs.Judging.{why_end}
+use Rattle.desc_text.specs.Said.{items_in, item_in}
 use Rattle.desc_text.specs.Machine as machine
-use Rattle.desc_text.specs.Machine.{unless}
 use Rattle.desc_text.specs.Reads.{is_read, Describes}
 use Rattle.desc_text.proofs.Held.{Holds, holds_nothing}
 use Rattle.desc_text.proofs.Judged.{HoldsLines, line_ok, line_err, end_ok, end_err, items_push, slice_get-at, unless_ok}
@@ -39,7 +40,7 @@ use Rattle.desc_text.proofs.Ranges.{items_desc}
 use Rattle.desc_text.specs.declared.items.Item.{Item}
 use Rattle.desc_text.specs.declared.partials.Partial.{Partial}
 use Rattle.talk_text.specs.Talks.{AreTalk, IsTalk, Says, SayAll, Tells, IsBegin}
-use Rattle.talk_text.specs.Judging.{why_of, first_is, is_begin, has_begun, why_more, why_block, why_message, why_event, why_entry, why_at}
+use Rattle.talk_text.specs.Judging.{why_of, first_is, is_begin, has_begun, why_more, why_block, why_message, why_event, why_entry, talk_why_at}
 use Rattle.talk_text.specs.Machine.{opened, begun, kept, take_block, message_event, event_said, added, take_event, take_line, finished, start}
 use Rattle.talk_text.specs.declared.events.Talk.{Talk}
 use Rattle.talk_text.specs.declared.events.TalkEvent.{TalkEvent}
@@ -92,12 +93,12 @@ talk_more done line t es a u s = record {
 
 -- ---- what the judging says after the lines that are done
 
-at_next : (done : List (List ℕ)) (line : List ℕ) (rest : List (List ℕ)) → why_at (done ++ line ∷ rest) (length done + 1) ≡ why_entry (Some line) done
+at_next : (done : List (List ℕ)) (line : List ℕ) (rest : List (List ℕ)) → talk_why_at (done ++ line ∷ rest) (length done + 1) ≡ why_entry (Some line) done
 at_next done line rest =
     let before : length done + 1 - 1 ≡ length done = omega arith in
     rw (before, slice_get-at done line rest, take_at done (line ∷ rest) (length done) refl) refl
 
-at_end : (done : List (List ℕ)) → why_at done (length done + 1) ≡ why_entry None done
+at_end : (done : List (List ℕ)) → talk_why_at done (length done + 1) ≡ why_entry None done
 at_end done =
     let before : length done + 1 - 1 ≡ length done = omega arith in
     rw (before, slice_get_past done (length done) (omega arith), take-length done) refl
@@ -117,7 +118,7 @@ in_events done line h = ap (λ (x : Bool). cond x (why_event line) (why_block do
 -- ---- a line of the block
 
 abbrev Took : List (List ℕ) → List ℕ → List (List ℕ) → Stage → Type 0
-Took done line rest t = (why_at (done ++ line ∷ rest) (length done + 1) ≡ None) × HoldsStage (done ++ line ∷ []) t
+Took done line rest t = (talk_why_at (done ++ line ∷ rest) (length done + 1) ≡ None) × HoldsStage (done ++ line ∷ []) t
 
 abbrev events : SlaveDesc → Stage
 events d = Events (record { desc = d; events = [] })
@@ -178,7 +179,7 @@ module _ (done rest : List (List ℕ)) (line : List ℕ) (p : Partial) (h : Hold
       ap (λ (x : Option TextWhy). or_else x (why_more (words line))) (end_err (items_in done) p h.0 v is) ∙ ap (λ (x : TextWhy). Some x) same
 
   block_refused : (b : Bool) → is_begin line ≡ b → (w : TextWhy) → (if b then begun p (words line) else (machine.take_line p line >>= kept)) ≡ Err w
-      → why_at (done ++ line ∷ rest) (length done + 1) ≡ Some w
+      → talk_why_at (done ++ line ∷ rest) (length done + 1) ≡ Some w
   block_refused true is w e = at_next done line rest ∙ in_block done line true not_yet is ∙ closed_by (machine.finished p) w refl e
   block_refused false is w e = at_next done line rest ∙ in_block done line false not_yet is ∙ line_err (items_in done) p h.0 line w (kept_never (machine.take_line p line) w e)
 
@@ -249,17 +250,17 @@ owes_taken done rest line (Events a) t h e =
     let k = event_took done rest line a h.0 h.1 (is_utf8 line) (is_skipped (words line)) refl refl t e in
     (at_next done line rest ∙ in_events done line h.1 ∙ k.0, k.1)
 
-owes_refused : (done rest : List (List ℕ)) (line : List ℕ) (s : Stage) (w : TextWhy) → HoldsStage done s → take_line s line ≡ Err w → why_at (done ++ line ∷ rest) (length done + 1) ≡ Some w
+owes_refused : (done rest : List (List ℕ)) (line : List ℕ) (s : Stage) (w : TextWhy) → HoldsStage done s → take_line s line ≡ Err w → talk_why_at (done ++ line ∷ rest) (length done + 1) ≡ Some w
 owes_refused done rest line (Block p) w h e = block_refused done rest line p h.0 h.1 (is_begin line) refl w e
 owes_refused done rest line (Events a) w h e = at_next done line rest ∙ in_events done line h.1 ∙ event_refused done rest line a h.0 h.1 (is_utf8 line) (is_skipped (words line)) w e
 
-owes_end : (done : List (List ℕ)) (s : Stage) (w : TextWhy) → HoldsStage done s → finished s ≡ Err w → why_at done (length done + 1) ≡ Some w
+owes_end : (done : List (List ℕ)) (s : Stage) (w : TextWhy) → HoldsStage done s → finished s ≡ Err w → talk_why_at done (length done + 1) ≡ Some w
 owes_end done (Block p) w h e =
     let same : why.Missing ≡ w = cc in
     at_end done ∙ ap (λ (x : Bool). cond x None (Some why.Missing)) h.1 ∙ ap (λ (x : TextWhy). Some x) same
 owes_end done (Events a) w h e = absurd cc
 
-judges : Judges take_line finished why_at HoldsStage
+judges : Judges take_line finished talk_why_at HoldsStage
 judges = record { taken = owes_taken; refused = owes_refused; ended = owes_end }
 
 at_last : (done : List (List ℕ)) (s : Stage) (t : Talk) → HoldsStage done s → finished s ≡ Ok t → AreTalk done t
@@ -272,11 +273,11 @@ holds_none = (holds_nothing, λ k x below. absurd (omega arith))
 -- the two answers
 pub reads : (text : List ℕ) (t : Talk) → run_of take_line finished 1 start (lines text) ≡ Ok t → IsTalk text t
 reads text t e =
-    let r = run_ok take_line finished why_at HoldsStage judges [] (lines text) start t (holds_none, refl) e in
+    let r = run_ok take_line finished talk_why_at HoldsStage judges [] (lines text) start t (holds_none, refl) e in
     at_last (lines text) r.0 t r.1 r.2
 
-pub first_bad : (text : List ℕ) (f : TextFault) → run_of take_line finished 1 start (lines text) ≡ Err f → IsFirst why_at (lines text) f.line f.why
-first_bad text f e = run_err take_line finished why_at HoldsStage judges [] (lines text) start f (holds_none, refl) (λ n below some. absurd (omega arith)) e
+pub first_bad : (text : List ℕ) (f : TextFault) → run_of take_line finished 1 start (lines text) ≡ Err f → FirstBad talk_why_at text f.line f.why
+first_bad text f e = run_err take_line finished talk_why_at HoldsStage judges [] (lines text) start f (holds_none, refl) (λ n below some. absurd (omega arith)) e
 
 pub talk_desc : (text : List ℕ) (t : Talk) → IsTalk text t → IsDesc t.desc
 talk_desc text t a = items_desc a.block t.desc a.describes

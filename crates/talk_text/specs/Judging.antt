@@ -2,19 +2,17 @@
 use Rattle.std.specs.Prelude.{◌≡◌, ℕ, ◌-◌, ◌&&◌, not, nat_lt, Bool, true, false, List, [], ◌∷◌, length, take, slice_get, if◌then◌else◌, Option, Some, None, Result, Ok, Err, codes}
 use Rattle.std.specs.List.{list_any}
 use Rattle.std.specs.Str.{is_utf8, bytes_eq}
-use Rattle.std.specs.Str.Lines.{lines}
 use Rattle.pdu_layout.specs.Message.{Message}
 use Rattle.pdu_text.specs.declared.reasons.PduTextWhy.{PduTextWhy}
 use Rattle.pdu_text.specs.declared.reasons.PduTextWhy.TheVariants as message
 use Rattle.pdu_text.specs.Machine.{text_said}
 use Rattle.text_lines.specs.Texts.{words, is_skipped}
-use Rattle.text_lines.specs.Runs.{IsFirst}
 use Rattle.text_lines.specs.declared.reasons.TextWhy.{TextWhy}
 use Rattle.text_lines.specs.declared.reasons.TextWhy.TheVariants as why
-use Rattle.text_lines.specs.declared.reasons.TextRefused.{TextRefused}
-use Rattle.text_lines.specs.declared.reasons.TextRefused.TheVariants as refusals
 use Rattle.desc_text.specs.Judging as block
-use Rattle.desc_text.specs.Judging.{items_in, why_end, or_else, refused_if}
+use Rattle.desc_text.specs.Judging.{why_end}
+use Rattle.desc_text.specs.Said.{items_in}
+use Rattle.text_lines.specs.Causes.{or_else, refused_if}
 
 -- the causes of a message's line, among those of all texts
 abbrev pub why_of : PduTextWhy → TextWhy
@@ -61,10 +59,5 @@ why_entry (Some line) before = if has_begun before then why_event line else why_
 why_entry None before = if has_begun before then None else Some why.Missing
 
 -- what is wrong with the line of this number, the end being the line after the last
-abbrev pub why_at : List (List ℕ) → ℕ → Option TextWhy
-why_at all n = why_entry (slice_get all (n - 1)) (take (n - 1) all)
-
--- the fault that was answered is the first line that is refused
-abbrev pub IsFirstBad : List ℕ → TextRefused → Type 0
-IsFirstBad text refusals.OutOfMemory = Unit {0}
-IsFirstBad text (refusals.Fault fault) = IsFirst why_at (lines text) fault.line fault.why
+abbrev pub talk_why_at : List (List ℕ) → ℕ → Option TextWhy
+talk_why_at all n = why_entry (slice_get all (n - 1)) (take (n - 1) all)

@@ -6,12 +6,11 @@ use Rattle.pdu_layout.specs.Reading.{spelling}
 use Rattle.pdu_text.specs.declared.reasons.PduTextWhy.{PduTextWhy}
 use Rattle.pdu_text.specs.Machine.{text_said}
 use Rattle.text_lines.specs.Texts.{words, is_skipped}
-use Rattle.text_lines.specs.Reasons.{◌>>=◌}
+use Rattle.text_lines.specs.Causes.{◌>>=◌, unless}
 use Rattle.text_lines.specs.declared.reasons.TextWhy.{TextWhy}
 use Rattle.text_lines.specs.declared.reasons.TextWhy.TheVariants as why
 use Rattle.slave_desc.specs.declared.descriptions.SlaveDesc.{SlaveDesc}
 use Rattle.desc_text.specs.Machine as block
-use Rattle.desc_text.specs.Machine.{unless}
 use Rattle.desc_text.specs.declared.partials.Partial.{Partial}
 use Rattle.talk_text.specs.Judging.{why_of, first_is, is_begin, why_more}
 use Rattle.talk_text.specs.declared.events.Talk.{Talk}

@@ -8,7 +8,7 @@ use Rattle.pdu_layout.specs.Message.{Message}
 use Rattle.pdu_layout.specs.Reading.{spelling}
 use Rattle.pdu_text.specs.Reading.{Reads}
 use Rattle.text_lines.specs.Texts.{words, is_skipped}
-use Rattle.desc_text.specs.Judging.{items_in}
+use Rattle.desc_text.specs.Said.{items_in}
 use Rattle.desc_text.specs.Reads.{is_read, Describes}
 use Rattle.talk_text.specs.declared.events.Talk.{Talk}
 use Rattle.talk_text.specs.declared.events.TalkEvent.{TalkEvent}

@@ -2,11 +2,12 @@
 
 ghost use Rattle.std.specs.Prelude.{IfOk, IfErr};
 ghost use Rattle.std.specs.Str.Lines.{lines};
-ghost use Rattle.text_lines.specs.Reasons.{GivesText};
+ghost use Rattle.text_lines.specs.Outcomes.{GivesText};
 ghost use Rattle.text_lines.specs.Runs.{run_of};
 ghost use Rattle.slave_desc.specs.Descriptions.{IsDesc};
 ghost use Rattle.talk_text.specs.Talks.{IsTalk};
-ghost use Rattle.talk_text.specs.Judging.{IsFirstBad};
+ghost use Rattle.text_lines.specs.Readings.{IsFirstBad};
+ghost use Rattle.talk_text.specs.Judging.{talk_why_at};
 ghost use Rattle.talk_text.specs.Machine.{start, take_line, finished};
 
 use crate::events::Talk;
@@ -52,7 +53,7 @@ pub fn read_talk(alloc: Global, text: &[u8]) -> Result<Talk, TextRefused>
     ensures range { IfOk result (λ t. IsDesc t.desc) }
 
     // Else the fault is the first line that is refused.
-    ensures fault { IfErr result (λ e. IsFirstBad text.now e) }
+    ensures fault { IfErr result (λ e. IsFirstBad talk_why_at text.now e) }
 {
     read(alloc, text)
 }

@@ -2,7 +2,7 @@
 
 ghost use Rattle.std.specs.Prelude.{◌≡◌, ℕ, List, [], ◌∷◌};
 ghost use Rattle.pdu_text.specs.Machine.{text_said};
-ghost use Rattle.text_lines.specs.Reasons.{Gives};
+ghost use Rattle.text_lines.specs.Outcomes.{Gives};
 ghost use Rattle.talk_text.specs.Judging.{why_of};
 ghost use Rattle.talk_text.specs.Machine.{message_event};
 

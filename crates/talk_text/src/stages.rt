@@ -2,7 +2,7 @@
 
 ghost use Rattle.std.specs.Prelude.{◌≡◌, map};
 ghost use Rattle.text_lines.specs.Texts.{words};
-ghost use Rattle.text_lines.specs.Reasons.{Gives};
+ghost use Rattle.text_lines.specs.Outcomes.{Gives};
 ghost use Rattle.talk_text.specs.Judging.{first_is, is_begin, why_more};
 ghost use Rattle.talk_text.specs.Machine.{begun, take_block, event_said, take_event, take_line, finished};
 

@@ -1,5 +1,6 @@
 use Rattle.std.proofs.Common.{◌≡◌, ◌+◌, map, drop}
-use Rattle.text_lines.specs.Runs.{run_of, line_number}
+use Rattle.text_lines.specs.Runs.{run_of}
+use Rattle.text_lines.specs.Readings.{line_number}
 use Rattle.talk_text.specs.Machine.{take_line, finished, start}
 use Rattle.talk_text.proofs.reading.read.Given as goal
 
