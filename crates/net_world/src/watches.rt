@@ -8,8 +8,8 @@ ghost use Rattle.net_world.specs.Lines.{end_named, type_named, nth_named};
 ghost use Rattle.net_world.specs.Messages.{is_end, is_of};
 ghost use Rattle.net_world.specs.Watches.{counted, fresh, line_of, watch_names};
 
-use scenario::NetLine;
 use dcp_types::Address;
+use scenario::NetLine;
 use std::alloc::{AllocError, Global};
 
 /// A line of the plan, and how many messages of its end and type code were sent.
