@@ -4,7 +4,7 @@ use Rattle.commands.specs.declared.statuses.Judgement.{Judgement}
 use Rattle.commands.specs.declared.statuses.Judgement.TheVariants.{Good, Refused}
 use Rattle.commands.specs.declared.statuses.Delivery.{Delivery}
 use Rattle.commands.specs.declared.statuses.Delivery.TheVariants.{Whole, Cut}
-use Rattle.commands.specs.Answers.{Answered, Outcome}
+use Rattle.commands.specs.Outcomes.{Answered, Outcome}
 use Rattle.commands.specs.Statuses.{status_after}
 
 module _ (words : List (List ℕ)) (left rest : Option (List ℕ)) (read_before read_now : ℕ) (held holds : Option (List ℕ)) (write_before write_now : ℕ) where

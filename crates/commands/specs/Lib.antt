@@ -11,7 +11,7 @@ pub mod SaysEncoded
 pub mod SaysDescribed
 pub mod SaysReference
 pub mod Says
-pub mod Answers
+pub mod Outcomes
 pub mod Programs
 -- The code's own bookkeeping, which no promise of the program names: a message that was handed over, and a text that is put piece by piece.
 pub mod SpellingTaken

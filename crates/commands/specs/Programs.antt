@@ -1,7 +1,7 @@
 -- How the program ends over a reader and a writer.
 use Rattle.std.specs.Prelude.{◌≡◌, ℕ, List, Option}
 use Rattle.commands.specs.declared.statuses.Status.{Status}
-use Rattle.commands.specs.Answers.{Outcome}
+use Rattle.commands.specs.Outcomes.{Outcome}
 use Rattle.commands.specs.Statuses.{status_code}
 
 -- the exit status is that of an outcome of the words, over a source and a sink that have had no fault before

@@ -2,7 +2,7 @@
 
 ghost use Rattle.std.specs.Prelude.{◌≡◌};
 ghost use Rattle.dcp_io.specs.Faults.{Rose};
-ghost use Rattle.commands.specs.Answers.{ComesBeforeWriting, IsFree, Outcome};
+ghost use Rattle.commands.specs.Outcomes.{ComesBeforeWriting, IsFree, Outcome};
 ghost use Rattle.commands.specs.CommandWords.{IsCommand};
 
 use crate::inputs::{Gathered, read_input};

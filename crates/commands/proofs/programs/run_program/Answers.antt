@@ -1,6 +1,6 @@
 use Rattle.std.proofs.Common.{◌≡◌, ℕ, List, Option, ap, subst, sym, ◌∙◌}
 use Rattle.commands.specs.declared.statuses.Status.{Status}
-use Rattle.commands.specs.Answers.{Outcome}
+use Rattle.commands.specs.Outcomes.{Outcome}
 use Rattle.commands.proofs.programs.run_program.Goals as goal
 
 -- the same outcome where what the source has left and what the sink holds is said in other words

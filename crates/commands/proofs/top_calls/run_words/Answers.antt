@@ -1,6 +1,6 @@
 use Rattle.std.proofs.Common.{ℕ, List, sym, subst}
 use Rattle.commands.specs.declared.statuses.Status.{Status}
-use Rattle.commands.specs.Answers.{Outcome}
+use Rattle.commands.specs.Outcomes.{Outcome}
 use Rattle.commands.specs.Inputs.{TakesInput}
 use Rattle.commands.proofs.Outcomes.{outcome_is}
 use Rattle.commands.proofs.top_calls.run_words.Goals as goal
