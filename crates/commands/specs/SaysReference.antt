@@ -3,7 +3,8 @@ use Rattle.std.specs.Prelude.{◌≡◌, ℕ, ℤ, List, Option}
 use Rattle.text_lines.specs.declared.reasons.TextWhy.{TextWhy}
 use Rattle.text_lines.specs.Causes.{cause_word}
 use Rattle.scenario.specs.declared.scenarios.Scenario.{Scenario}
-use Rattle.scenario_text.specs.Reads.{Reads}
+use Rattle.scenario_text.specs.Reads.{ReadsAsScenario}
+use Rattle.scenario_text.specs.Judging.{scenario_why_at}
 use Rattle.text_lines.specs.Readings.{FirstBad}
 use Rattle.lockstep.specs.declared.references.RefFault.{RefFault}
 use Rattle.lockstep.specs.Lockstep.{IsReference}
@@ -16,5 +17,5 @@ use Rattle.commands.specs.Rows.{run_text}
 abbrev pub SaysReference : List ℕ → Judgement → List ℕ → Type 0
 SaysReference input judged.Good text =
     (scenario : Scenario) × (rows : List (List ℤ)) × (fault : Option RefFault)
-    × Reads input scenario × IsReference scenario rows fault × (text ≡ run_text scenario.steps rows fault)
-SaysReference input judged.Refused text = (line : ℕ) × (why : TextWhy) × FirstBad input line why × (text ≡ line_refusal line (cause_word why))
+    × ReadsAsScenario input scenario × IsReference scenario rows fault × (text ≡ run_text scenario.steps rows fault)
+SaysReference input judged.Refused text = (line : ℕ) × (why : TextWhy) × FirstBad scenario_why_at input line why × (text ≡ line_refusal line (cause_word why))
