@@ -8,7 +8,6 @@ pub mod Reads
 pub mod Checks
 pub mod Clashes
 pub mod Judging
-
 -- The code's own bookkeeping: what the reader keeps of the lines so far.
 pub mod Collecting
 pub mod LastSettings

@@ -9,6 +9,5 @@ pub mod Causes
 pub mod Outcomes
 pub mod Readings
 pub mod Printed
-
 -- The code's own bookkeeping: a text line by line.
 pub mod Runs

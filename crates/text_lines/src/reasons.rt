@@ -7,8 +7,7 @@ ghost use Rattle.text_lines.specs.Causes.{cause_word};
 
 use dcp_types::OutOfMemory;
 use std::alloc::{AllocError, AllocFailed};
-use std::error;
-use std::fmt;
+use std::{error, fmt};
 use thiserror::Error;
 
 /// Why a line of a description or of a scenario is refused. The order is that in which causes are
