@@ -1,9 +1,9 @@
 -- The parameters of a run, setting by setting.
-use Rattle.std.proofs.Common.{◌≡◌, ℕ, suc, ◌+◌, ◌≤◌, ◌<◌, Bool, true, false, ◌==◌, ◌&&◌, cond, List, [], ◌∷◌, ◌++◌, length, take, drop, map, get_or, refl, sym, ◌∙◌, ap, arith, ℤ, Option, Some}
+use Rattle.std.proofs.Common.{◌≡◌, ℕ, suc, ◌+◌, ◌≤◌, ◌<◌, Bool, true, false, ◌==◌, ◌&&◌, List, [], ◌∷◌, ◌++◌, length, take, map, refl, sym, ◌∙◌, ap, arith, ℤ, Option, Some}
 use Rattle.std.specs.Prelude.{filter, nat_le, All, AllPairs}
 use Rattle.std.proofs.Math.Seq.{take-append-add}
 use Rattle.std.proofs.lemmas.Bool.{leb-false, lt-leb}
-use Rattle.std.proofs.lemmas.List.{at_drop_more, take-map, length-map}
+use Rattle.std.proofs.lemmas.List.{take-map, length-map}
 use Rattle.fixed_models.specs.Kinds.{takes, has_inputs, output_count}
 use Rattle.slave_desc.specs.declared.descriptions.SlaveDesc.{SlaveDesc}
 use Rattle.slave_desc.specs.Descriptions.{IsDesc}
@@ -11,7 +11,7 @@ use Rattle.scenario.specs.declared.scenarios.Scenario.{Scenario}
 use Rattle.scenario.specs.declared.scenarios.Setting.{Setting}
 use Rattle.scenario.specs.declared.scenarios.Rerun.{Rerun}
 use Rattle.scenario.specs.Lookups.{slave_at, parameters_at, parameters_in}
-use Rattle.scenario.specs.Settings.{changed, changed_by, setting_in, taken_by, takes_at, settings_until, parameters}
+use Rattle.scenario.specs.Settings.{changed, setting_in, taken_by, takes_at, settings_until, parameters}
 use Rattle.scenario.specs.Sound.{IsScenario, changes}
 use Rattle.fixed_models.specs.Views.{accepts}
 use Rattle.lockstep.specs.Parts.{types_of}

@@ -1,10 +1,10 @@
 //! Which output each input reads, looked up once before the first step.
 
-ghost use Rattle.std.specs.Prelude.{◌≡◌, ◌==◌, ◌&&◌, ◌<◌, ◌≤◌, ◌-◌, ◌%◌, ◌^◌, length, map, All, OnOk, IfOk, sum_by};
+ghost use Rattle.std.specs.Prelude.{◌≡◌, ◌==◌, ◌<◌, ◌≤◌, ◌-◌, ◌%◌, ◌^◌, length, map, All, OnOk, IfOk};
 ghost use Rattle.std.specs.Option.{ForSome};
 ghost use Rattle.scenario.specs.Totals.{total_outputs};
 ghost use Rattle.scenario.specs.Sound.{IsWire, IsScenario};
-ghost use Rattle.scenario.specs.Wiring.{wire_into, every_between, interval};
+ghost use Rattle.scenario.specs.Wiring.{wire_into, interval};
 ghost use Rattle.lockstep.specs.Feeds.{feed_of, feeds_of, fed, IsFeed};
 
 use crate::tables::Table;

@@ -12,7 +12,7 @@ use Rattle.text_lines.specs.declared.reasons.TextWhy.TheVariants as why
 use Rattle.desc_text.specs.Items.{item_of}
 use Rattle.desc_text.specs.Said.{name_in, items_in}
 use Rattle.desc_text.specs.Judging.{came_before, why_key, why_end}
-use Rattle.desc_text.specs.Machine.{newer, longer, has, put, why_held, nothing}
+use Rattle.desc_text.specs.Machine.{has, put, why_held, nothing}
 use Rattle.desc_text.specs.Machine as block
 use Rattle.desc_text.proofs.Held.{Holds, holds_nothing, same_has, same_named, same_why}
 use Rattle.desc_text.proofs.Judged.{unless_ok, end_ok, end_err}

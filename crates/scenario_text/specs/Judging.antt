@@ -9,7 +9,6 @@ use Rattle.desc_text.specs.Items.{item_of}
 use Rattle.desc_text.specs.Said.{name_in, items_in}
 use Rattle.desc_text.specs.Judging.{came_before, why_key, why_item, why_end}
 use Rattle.text_lines.specs.Causes.{came, or_else, refused_if, when, bad}
-use Rattle.desc_text.specs.declared.keys.Key.{Key}
 use Rattle.desc_text.specs.declared.keys.Key.TheVariants as keys
 use Rattle.desc_text.specs.declared.items.Item.{Item}
 use Rattle.slave_desc.specs.declared.descriptions.SlaveDesc.{SlaveDesc}

@@ -7,7 +7,7 @@ ghost use Rattle.scenario.specs.Lookups.{type_at};
 ghost use Rattle.scenario.specs.Wiring.{same_input};
 ghost use Rattle.scenario_text.specs.Checks.{why_wire, why_change, why_setting, why_rerun, why_every, why_net, why_link};
 ghost use Rattle.scenario_text.specs.Said.{set_in, rerun_in};
-ghost use Rattle.scenario.specs.Settings.{changed, takes_at};
+ghost use Rattle.scenario.specs.Settings.{takes_at};
 ghost use Rattle.scenario_text.specs.LastSettings.{SameSettings, IsLastRun};
 ghost use Rattle.scenario.specs.declared.scenarios.Rerun.{Rerun};
 

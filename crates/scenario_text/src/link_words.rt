@@ -1,9 +1,9 @@
 //! What the lines of the links say, after the slaves.
 
-ghost use Rattle.std.specs.Prelude.{◌≡◌, ◌<◌, ◌≤◌, map, length, slice_get, IfSome, option_copied};
+ghost use Rattle.std.specs.Prelude.{◌≡◌, ◌<◌, ◌≤◌, map, length, IfSome};
 ghost use Rattle.std.specs.Str.{bytes_eq};
 ghost use Rattle.scenario_text.specs.Links.{place_of, slave_of, index_of, end_of, hex_value, type_of, wire_of, setting_of, rerun_of, every_of, message_of, drop_of, copy_of, hold_of, chaos_of, link_of};
-ghost use Rattle.scenario.specs.Lookups.{slave_at, outputs_at, inputs_at, parameters_at};
+ghost use Rattle.scenario.specs.Lookups.{outputs_at, inputs_at, parameters_at};
 
 use crate::keys::LinkKey;
 use dcp_types::is_name;

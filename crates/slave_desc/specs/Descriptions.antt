@@ -1,5 +1,5 @@
 -- Which descriptions are sound.
-use Rattle.std.specs.Prelude.{◌≡◌, ◌≢◌, ℕ, ◌≤◌, ◌<◌, ◌^◌, true, List, length, FitsSigned, All, AllPairs}
+use Rattle.std.specs.Prelude.{◌≡◌, ◌≢◌, ◌≤◌, ◌<◌, ◌^◌, true, List, length, FitsSigned, All, AllPairs}
 use Rattle.std.specs.Int.{w64}
 use Rattle.dcp_types.specs.Names.{is_name}
 use Rattle.fixed_models.specs.Kinds.{takes, has_ports}
