@@ -6,8 +6,8 @@ use Rattle.pdu_codec.specs.declared.faults.DecodeWhy.{DecodeWhy}
 use Rattle.pdu_codec.specs.Refusals.{Refusal}
 
 -- no two messages have the same bytes
-abbrev pub OneToOne : Type 0
-OneToOne = (p q : Message) (b : List ℕ) → Spells p b → Spells q b → p ≡ q
+abbrev pub MessagesDiffer : Type 0
+MessagesDiffer = (p q : Message) (b : List ℕ) → Spells p b → Spells q b → p ≡ q
 
 -- bytes have one refusal at most
 abbrev pub OneRefusal : Type 0

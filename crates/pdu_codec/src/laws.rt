@@ -2,16 +2,16 @@
 
 ghost use Rattle.std.specs.Prelude.{◌≡◌, IfOk, IfErr};
 ghost use Rattle.pdu_layout.specs.Message.{message_of, HasSpelling};
-ghost use Rattle.pdu_codec.specs.Laws.{OneToOne, OneRefusal, ReadAsSpelled, SpelledOnce, SpellingSpells};
+ghost use Rattle.pdu_codec.specs.Laws.{MessagesDiffer, OneRefusal, ReadAsSpelled, SpelledOnce, SpellingSpells};
 
-use crate::decoding::decode;
-use crate::encoding::encode;
 use crate::faults::DecodeFault;
+use crate::from_bytes::decode;
+use crate::to_bytes::encode;
 use pdu_layout::Pdu;
 
 /// No two messages have the same bytes.
 pub fn spellings_are_one_to_one()
-    ensures { OneToOne }
+    ensures { MessagesDiffer }
 {}
 
 /// Bytes that are no message have one refusal: one place and one cause.

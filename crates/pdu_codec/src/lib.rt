@@ -5,28 +5,20 @@
 //! written is the message's one spelling, and is read back as the same message. No call takes memory.
 #![tactic(auto)]
 
-mod access;
-mod answers;
-mod configuration;
-mod decoding;
-mod encoding;
+mod cuts;
 mod faults;
+mod from_bytes;
 mod laws;
 mod leaves;
-mod notices;
-mod questions;
 mod reading;
-mod state_requests;
+mod to_bytes;
 mod walker;
 
-pub use decoding::decode;
-pub use encoding::{encode, put_message};
 pub use faults::{DecodeFault, DecodeWhy};
+pub use from_bytes::decode;
 pub use laws::{
     bytes_say_what_they_spell, messages_have_one_spelling, refusals_are_unique,
     spellings_are_one_to_one, written_and_read,
 };
 pub use reading::read;
-
-#[cfg(test)]
-mod tests;
+pub use to_bytes::{encode, put_message};

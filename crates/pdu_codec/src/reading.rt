@@ -4,7 +4,7 @@ ghost use Rattle.std.specs.Prelude.{◌≡◌, MatchOption, Some, None};
 ghost use Rattle.pdu_layout.specs.Message.{message_of};
 ghost use Rattle.pdu_layout.specs.Reading.{message_in};
 
-use crate::decoding::decode;
+use crate::from_bytes::decode;
 use pdu_layout::Pdu;
 
 /// The message that the bytes spell, where they spell one. A payload is a part of the bytes.

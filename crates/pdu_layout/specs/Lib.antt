@@ -4,3 +4,4 @@ pub mod Message
 pub mod Parts
 pub mod Ranges
 pub mod Reading
+pub mod Held

@@ -6,18 +6,18 @@ use Rattle.pdu_text.specs.Reasons.{Fails, Gives}
 use Rattle.pdu_text.specs.Reading.{Reads}
 use Rattle.pdu_text.specs.Machine.{text_said}
 use Rattle.pdu_text.specs.Takers.{IsRefused}
-use Rattle.pdu_text.specs.declared.reasons.TextRefused.{TextRefused}
-use Rattle.pdu_text.specs.declared.reasons.TextRefused.TheVariants as refused
+use Rattle.pdu_text.specs.declared.reasons.PduTextRefused.{PduTextRefused}
+use Rattle.pdu_text.specs.declared.reasons.PduTextRefused.TheVariants as refused
 use Rattle.pdu_text.proofs.Judged.{said_reads, said_refused}
 
-pub fails_refused : (text : List ℕ) (e : TextRefused) → Fails e (text_said text) → IsRefused text e
+pub fails_refused : (text : List ℕ) (e : PduTextRefused) → Fails e (text_said text) → IsRefused text e
 fails_refused text refused.OutOfMemory h = tt
 fails_refused text (refused.Line why) h = said_refused text why h
 
-pub answered_ok : (text : List ℕ) (r : Result SaidMessage TextRefused) → Gives message_in r (text_said text) → IfOk r (λ m. Reads text (message_in m))
+pub answered_ok : (text : List ℕ) (r : Result SaidMessage PduTextRefused) → Gives message_in r (text_said text) → IfOk r (λ m. Reads text (message_in m))
 answered_ok text (Ok m) h = said_reads text (message_in m) h
 answered_ok text (Err e) h = tt
 
-pub answered_err : (text : List ℕ) (r : Result SaidMessage TextRefused) → Gives message_in r (text_said text) → IfErr r (λ e. IsRefused text e)
+pub answered_err : (text : List ℕ) (r : Result SaidMessage PduTextRefused) → Gives message_in r (text_said text) → IfErr r (λ e. IsRefused text e)
 answered_err text (Ok m) h = tt
 answered_err text (Err e) h = fails_refused text e h

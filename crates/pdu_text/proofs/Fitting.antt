@@ -1,5 +1,5 @@
 -- What the words say of the fields fits them, and the bytes have room.
-use Rattle.std.proofs.Common.{◌≡◌, ℕ, ◌+◌, ◌*◌, ◌-◌, ◌^◌, ◌<◌, ◌≤◌, ltb, leb, Bool, true, false, List, [], ◌∷◌, length, map, Option, Some, None, cond, eqb, Result, Ok, Err, refl, sym, ap, subst, arith}
+use Rattle.std.proofs.Common.{◌≡◌, ℕ, suc, ◌+◌, ◌*◌, ◌-◌, ◌^◌, ◌<◌, ◌≤◌, ltb, leb, Bool, true, false, List, [], ◌∷◌, length, map, Option, Some, None, cond, eqb, Result, Ok, Err, refl, sym, ap, subst, ◌∙◌, arith}
 use Rattle.std.specs.Prelude.{ℤ}
 use Rattle.std.specs.List.{slice_split}
 use Rattle.std.specs.Option.{option_and_then}
@@ -25,15 +25,16 @@ use Rattle.pdu_layout.specs.declared.fields.FieldKind.{FieldKind}
 use Rattle.pdu_layout.specs.declared.fields.FieldKind.TheVariants.{I64, StateCode, TypeCode, Value, Uuid, Ip, Rest}
 use Rattle.pdu_layout.specs.Fields.{FieldValue, type_from, limit, Fits, FitEach, bytes_of, type_after, spelled}
 use Rattle.pdu_layout.specs.Fields.FieldValue.{Number, Signed, Bytes}
-use Rattle.pdu_layout.specs.Table.{FieldRow, kinds_in}
+use Rattle.pdu_layout.specs.Table.{FieldRow, Row, row_of, kinds_in}
 use Rattle.pdu_layout.specs.Message.{Message, HasSpelling}
 use Rattle.pdu_layout.proofs.Contents.{length-number, length-signed}
 use Rattle.pdu_text.specs.Reasons.{◌>>=◌, or_why, within}
-use Rattle.pdu_text.specs.Words.{state_named, is_signed, below_said, typed_said, value_said, size_of, placed, text_after, field_said, type_said}
-use Rattle.pdu_text.specs.Reading.{SayEach, Reads}
+use Rattle.pdu_text.specs.Words.{word_said, state_named, is_signed, below_said, typed_said, value_said, size_of, placed, text_after, field_said, type_said}
+use Rattle.pdu_text.specs.Machine.{SayInRoom}
+use Rattle.pdu_text.specs.Reading.{SayEach}
 use Rattle.pdu_text.specs.declared.reasons.PduTextWhy.{PduTextWhy}
 use Rattle.pdu_text.specs.declared.reasons.PduTextWhy.TheVariants as why
-use Rattle.pdu_text.proofs.Judged.{bind_ok}
+use Rattle.pdu_text.proofs.WordByWord.{bind_ok, ReadsInRoom}
 
 abbrev pub field_ok : FieldValue → Result FieldValue PduTextWhy
 field_ok v = Ok v
@@ -166,7 +167,7 @@ kinds fs = map (λ f. f.kind) fs
 abbrev pub Room : List FieldRow → ℕ → List FieldValue → ℕ → Type 0
 Room fs t vs room = FitEach (kinds fs) t vs × (length (spelled (kinds fs) t vs) ≤ room)
 
-say_room : (fs : List FieldRow) (room t : ℕ) (ws : List (List ℕ)) (vs : List FieldValue) → SayEach fs room t ws vs → Room fs t vs room
+say_room : (fs : List FieldRow) (room t : ℕ) (ws : List (List ℕ)) (vs : List FieldValue) → SayInRoom fs room t ws vs → Room fs t vs room
 say_room [] room t [] [] h = (tt, omega arith)
 say_room [] room t [] (v ∷ vs) h = absurd h
 say_room [] room t (w ∷ ws) vs h = absurd h
@@ -182,9 +183,73 @@ say_room (f ∷ fs) room t (w ∷ ws) (v ∷ vs) h =
     let others = rest.1 in
     ((here.0.fits, rest.0), omega (arith, length-append x (spelled (kinds fs) (type_after f.kind t x) vs), size, small, others))
 
--- what a text reads as has a spelling
-pub read_spelling : (text : List ℕ) (p : Message) → Reads text p → HasSpelling p
-read_spelling text p h =
+-- what a text reads as in the room of a message has a spelling
+pub in_room_spelled : (text : List ℕ) (p : Message) → ReadsInRoom text p → HasSpelling p
+in_room_spelled text p h =
     let fill = say_room h.row.fields 1023 0 h.given p.values h.said in
     let few = fill.1 in
     (p.code ∷ spelled (kinds h.row.fields) 0 p.values, record { kinds = kinds h.row.fields; listed = ap kinds_in h.listed; fits = fill.0; bytes = refl; at_most = omega (arith, few) })
+
+pub stands : (k : FieldKind) (t : ℕ) (v : FieldValue) → Fits k t v → Stands k t v
+stands k t (Number n) h = number_stands k t n h
+stands k t (Signed z) h = signed_stands k t z h
+stands Rest t (Bytes bytes) h = record { fits = h; size = refl; type = refl }
+stands k t (Bytes bytes) h = absurd h
+
+-- ---- words without room and in room
+
+room_left : (m n : ℕ) → m ≤ n → leb m n ≡ true
+room_left m n h = grind (arith, nat_tests)
+
+said_word : (f : FieldRow) (room t : ℕ) (w : List ℕ) (v : FieldValue) → field_said f room t w ≡ Ok v → word_said f t w ≡ Ok v
+unfolding field_said word_said
+said_word f room t w v e =
+    let a = bind_ok (or_why (text_after f.name w) why.UnknownKey) (λ text. value_said f.kind t text >>= λ value. placed f.kind room t value) v e in
+    let b = bind_ok (value_said f.kind t a.0) (λ value. placed f.kind room t value) v a.2 in
+    let c = within_ok (leb (size_of f.kind t b.0) room) b.0 v b.2 in
+    ap (λ r. r >>= λ text. value_said f.kind t text) a.1 ∙ b.1 ∙ ap field_ok c.1
+
+word_in_room : (f : FieldRow) (room t : ℕ) (w : List ℕ) (v : FieldValue) → word_said f t w ≡ Ok v → size_of f.kind t v ≤ room → field_said f room t w ≡ Ok v
+unfolding field_said word_said
+word_in_room f room t w v e small =
+    let a = bind_ok (or_why (text_after f.name w) why.UnknownKey) (λ text. value_said f.kind t text) v e in
+    ap (λ r. r >>= λ text. value_said f.kind t text >>= λ value. placed f.kind room t value) a.1
+    ∙ ap (λ r. r >>= λ value. placed f.kind room t value) a.2
+    ∙ ap (λ (b : Bool). within b v) (room_left (size_of f.kind t v) room small)
+
+pub drop_room : (fs : List FieldRow) (room t : ℕ) (ws : List (List ℕ)) (vs : List FieldValue) → SayInRoom fs room t ws vs → SayEach fs t ws vs
+drop_room [] room t [] [] h = tt
+drop_room [] room t [] (v ∷ vs) h = absurd h
+drop_room [] room t (w ∷ ws) vs h = absurd h
+drop_room (f ∷ fs) room t [] vs h = absurd h
+drop_room (f ∷ fs) room t (w ∷ ws) [] h = absurd h
+drop_room (f ∷ fs) room t (w ∷ ws) (v ∷ vs) h = (said_word f room t w v h.0, drop_room fs (room - size_of f.kind t v) (type_said f.kind t v) ws vs h.1)
+
+pub in_room : (fs : List FieldRow) (room t : ℕ) (ws : List (List ℕ)) (vs : List FieldValue) → SayEach fs t ws vs → Room fs t vs room → SayInRoom fs room t ws vs
+in_room [] room t [] [] h r = tt
+in_room [] room t [] (v ∷ vs) h r = absurd h
+in_room [] room t (w ∷ ws) vs h r = absurd h
+in_room (f ∷ fs) room t [] vs h r = absurd h
+in_room (f ∷ fs) room t (w ∷ ws) [] h r = absurd h
+in_room (f ∷ fs) room t (w ∷ ws) (v ∷ vs) h r =
+    let here = stands f.kind t v r.0.0 in
+    let x = bytes_of f.kind t v in
+    let size = here.size in
+    let total = r.1 in
+    let both_sizes = length-append x (spelled (kinds fs) (type_after f.kind t x) vs) in
+    let small : size_of f.kind t v ≤ room = omega (arith, both_sizes, size, total) in
+    let left : Room fs (type_after f.kind t x) vs (room - size_of f.kind t v) = (r.0.1, omega (arith, both_sizes, size, total)) in
+    (word_in_room f room t w v h.0 small, in_room fs (room - size_of f.kind t v) (type_said f.kind t v) ws vs h.1 (subst (λ (u : ℕ). Room fs u vs (room - size_of f.kind t v)) here.type left))
+
+row_kinds : (o : Option Row) (row : Row) (ks : List FieldKind) → o ≡ Some row → kinds_in o ≡ Some ks → kinds row.fields ≡ ks
+row_kinds (Some r) row ks e f = cc
+row_kinds None row ks e f = cc
+
+-- the values of a message with a spelling have room
+pub spelled_room : (p : Message) (row : Row) → row_of p.code ≡ Some row → HasSpelling p → Room row.fields 0 p.values 1023
+spelled_room p row listed h =
+    let s = h.1 in
+    let same : kinds row.fields ≡ s.kinds = row_kinds (row_of p.code) row s.kinds listed s.listed in
+    let size : length h.0 ≡ suc (length (spelled s.kinds 0 p.values)) = ap length s.bytes in
+    let most = s.at_most in
+    (subst (λ ks. FitEach ks 0 p.values) (sym same) s.fits, subst (λ ks. length (spelled ks 0 p.values) ≤ 1023) (sym same) (omega (arith, size, most)))

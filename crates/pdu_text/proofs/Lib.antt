@@ -8,3 +8,4 @@ pub mod Spelled
 pub mod PrintedLines
 pub mod ReadBackValues
 pub mod ReadBack
+pub mod WordByWord

@@ -1,6 +1,7 @@
 -- The codes that may have a name, one after another.
-use Rattle.std.proofs.Common.{◌≡◌, ℕ, suc, ◌+◌, ◌-◌, ◌<◌, ◌≤◌, cond, true, false, List, Option, Some, None, ap, ◌∙◌, arith}
-use Rattle.pdu_text.specs.Lines.{is_named, code_among}
+use Rattle.std.proofs.Common.{◌≡◌, ℕ, suc, ◌+◌, ◌-◌, ◌<◌, ◌≤◌, cond, true, false, List, Option, Some, None, refl, ap, ◌∙◌, arith}
+use Rattle.pdu_text.specs.Lines.{code_named}
+use Rattle.pdu_text.specs.Scan.{is_named, code_among}
 
 abbrev some_code : ℕ → Option ℕ
 some_code code = Some code
@@ -22,3 +23,8 @@ unfolding code_among
 none code w past =
     let no : 256 - code ≡ 0 = omega (arith, past) in
     ap (λ (n : ℕ). code_among n code w) no
+
+-- going through all codes finds the row with the name
+pub scanned : (w : List ℕ) → code_among 256 0 w ≡ code_named w
+unfolding code_among is_named code_named
+scanned w = refl

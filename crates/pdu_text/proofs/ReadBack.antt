@@ -22,14 +22,14 @@ use Rattle.pdu_layout.specs.Fields.{FieldValue, Fits, FitEach, bytes_of, type_af
 use Rattle.pdu_layout.specs.Fields.FieldValue.{Number, Signed, Bytes}
 use Rattle.pdu_layout.specs.Table.{FieldRow, Row, table, row_in, row_of, kinds_in}
 use Rattle.pdu_layout.specs.Message.{Message, HasSpelling}
-use Rattle.pdu_text.specs.Reasons.{◌>>=◌, or_why, within}
-use Rattle.pdu_text.specs.Words.{value_said, size_of, placed, text_after, field_said, type_said}
-use Rattle.pdu_text.specs.Lines.{first_of, has_words, is_named, code_among, code_named}
+use Rattle.pdu_text.specs.Reasons.{◌>>=◌, or_why}
+use Rattle.pdu_text.specs.Words.{value_said, text_after, word_said, type_said}
+use Rattle.pdu_text.specs.Lines.{first_of, has_words, code_named}
 use Rattle.pdu_text.specs.Printed.{value_text, fields_text, line_in, line_of}
 use Rattle.pdu_text.specs.Reading.{SayEach, Reads}
 use Rattle.pdu_text.specs.declared.reasons.PduTextWhy.{PduTextWhy}
 use Rattle.pdu_text.specs.declared.reasons.PduTextWhy.TheVariants as why
-use Rattle.pdu_text.proofs.Fitting.{Stands, number_stands, signed_stands, kinds, Room}
+use Rattle.pdu_text.proofs.Fitting.{stands, kinds, Room}
 use Rattle.pdu_text.proofs.ReadBackValues.{are_plain, value_back, less}
 
 -- ---- the names of the table
@@ -50,7 +50,7 @@ abbrev is_told : Row → Bool
 is_told row = is_plain row.name && list_all has_name row.fields && is_code (code_named row.name) row.code
 
 table_told : list_all is_told table ≡ true
-unfolding is_code code_named code_among is_named
+unfolding is_code code_named
 table_told = refl
 
 code_is : (o : Option ℕ) (n : ℕ) → is_code o n ≡ true → o ≡ Some n
@@ -103,24 +103,17 @@ text_back name x h =
 abbrev word : FieldRow → FieldValue → List ℕ
 word f v = f.name ++ (61 ∷ value_text f.kind v)
 
-field_back : (f : FieldRow) (room t : ℕ) (v : FieldValue) → has_name f ≡ true → Fits f.kind t v → size_of f.kind t v ≤ room → field_said f room t (word f v) ≡ Ok v
-unfolding field_said
-field_back f room t v named fits small =
-    ap (λ (o : Option (List ℕ)). or_why o why.UnknownKey >>= λ text. value_said f.kind t text >>= λ value. placed f.kind room t value) (text_back f.name (value_text f.kind v) named)
-    ∙ ap (λ (r : Result FieldValue PduTextWhy). r >>= λ value. placed f.kind room t value) (value_back f.kind t v fits).said
-    ∙ ap (λ (b : Bool). within b v) (at_most (size_of f.kind t v) room small)
+field_back : (f : FieldRow) (t : ℕ) (v : FieldValue) → has_name f ≡ true → Fits f.kind t v → word_said f t (word f v) ≡ Ok v
+unfolding word_said
+field_back f t v named fits =
+    ap (λ (o : Option (List ℕ)). or_why o why.UnknownKey >>= λ text. value_said f.kind t text) (text_back f.name (value_text f.kind v) named)
+    ∙ (value_back f.kind t v fits).said
 
 plain_word : (f : FieldRow) (t : ℕ) (v : FieldValue) → has_name f ≡ true → Fits f.kind t v → is_plain (word f v) ≡ true
 plain_word f t v named fits =
     let x = value_text f.kind v in
     let bytes : are_plain (word f v) ≡ true = list_all-append is_plain_byte f.name (61 ∷ x) ∙ both {a = are_plain f.name} {b = are_plain (61 ∷ x)} (all_by is_name_byte is_plain_byte (λ b h. (name_byte b h).0) f.name named) (value_back f.kind t v fits).plain in
     both (less 0 (length (word f v)) (omega (arith, length-append f.name (61 ∷ x)))) bytes
-
-stands : (k : FieldKind) (t : ℕ) (v : FieldValue) → Fits k t v → Stands k t v
-stands k t (Number n) h = number_stands k t n h
-stands k t (Signed z) h = signed_stands k t z h
-stands Rest t (Bytes bytes) h = record { fits = h; size = refl; type = refl }
-stands k t (Bytes bytes) h = absurd h
 
 -- ---- all fields
 
@@ -130,23 +123,16 @@ given (f ∷ fs) [] = []
 given (f ∷ fs) (v ∷ vs) = word f v ∷ given fs vs
 
 -- the words are plain and say the values
-fields_back : (fs : List FieldRow) (room t : ℕ) (vs : List FieldValue) → list_all has_name fs ≡ true → Room fs t vs room → SayEach fs room t (given fs vs) vs × (list_all is_plain (given fs vs) ≡ true)
+fields_back : (fs : List FieldRow) (t : ℕ) (vs : List FieldValue) → list_all has_name fs ≡ true → FitEach (kinds fs) t vs → SayEach fs t (given fs vs) vs × (list_all is_plain (given fs vs) ≡ true)
 unfolding given
-fields_back [] room t [] named r = (tt, refl)
-fields_back [] room t (v ∷ vs) named r = absurd r.0
-fields_back (f ∷ fs) room t [] named r = absurd r.0
-fields_back (f ∷ fs) room t (v ∷ vs) named r =
+fields_back [] t [] named r = (tt, refl)
+fields_back [] t (v ∷ vs) named r = absurd r
+fields_back (f ∷ fs) t [] named r = absurd r
+fields_back (f ∷ fs) t (v ∷ vs) named r =
     let n = and_both (has_name f) (list_all has_name fs) named in
-    let fits = r.0.0 in
-    let here = stands f.kind t v fits in
-    let x = bytes_of f.kind t v in
-    let size = here.size in
-    let total = r.1 in
-    let both_sizes = length-append x (spelled (kinds fs) (type_after f.kind t x) vs) in
-    let small : size_of f.kind t v ≤ room = omega (arith, both_sizes, size, total) in
-    let left : Room fs (type_after f.kind t x) vs (room - size_of f.kind t v) = (r.0.1, omega (arith, both_sizes, size, total)) in
-    let others = fields_back fs (room - size_of f.kind t v) (type_said f.kind t v) vs n.1 (subst (λ (u : ℕ). Room fs u vs (room - size_of f.kind t v)) here.type left) in
-    ((field_back f room t v n.0 fits small, others.0), both (plain_word f t v n.0 fits) others.1)
+    let here = stands f.kind t v r.0 in
+    let others = fields_back fs (type_said f.kind t v) vs n.1 (subst (λ (u : ℕ). FitEach (kinds fs) u vs) here.type r.1) in
+    ((field_back f t v n.0 r.0, others.0), both (plain_word f t v n.0 r.0) others.1)
 
 -- ---- the line
 
@@ -178,13 +164,13 @@ one_line ws h = ap lines (sym (append-nil (printed.line_of ws))) ∙ lines_joine
 
 -- ---- the message
 
-words_read : (p : Message) (row : Row) → row_of p.code ≡ Some row → Room row.fields 0 p.values 1023 → Reads (printed.line_of (row.name ∷ given row.fields p.values)) p
-words_read p row listed room =
+words_read : (p : Message) (row : Row) → row_of p.code ≡ Some row → FitEach (kinds row.fields) 0 p.values → HasSpelling p → Reads (printed.line_of (row.name ∷ given row.fields p.values)) p
+words_read p row listed fit spelling =
     let ws = row.name ∷ given row.fields p.values in
     let f = found_in table p.code row listed table_told in
     let t = and_both (is_plain row.name && list_all has_name row.fields) (is_code (code_named row.name) row.code) f.0 in
     let n = and_both (is_plain row.name) (list_all has_name row.fields) t.0 in
-    let each = fields_back row.fields 1023 0 p.values n.1 room in
+    let each = fields_back row.fields 0 p.values n.1 fit in
     let plain = both n.0 each.1 in
     let cut = one_line ws plain in
     record {
@@ -196,6 +182,7 @@ words_read p row listed room =
       named = code_is (code_named row.name) row.code t.1 ∙ ap (λ k. Some k) f.1;
       listed = listed;
       said = each.0;
+      spelled = spelling;
       alone = ap (λ (ls : List (List ℕ)). list_any has_words (drop 1 ls)) cut;
     }
 
@@ -207,8 +194,5 @@ printed_reads p h =
     let r = listed_row (row_of p.code) s.kinds s.listed in
     let row = r.0 in
     let fit : FitEach (kinds row.fields) 0 p.values = subst (λ ks. FitEach ks 0 p.values) (sym r.2) s.fits in
-    let size : length h.0 ≡ suc (length (spelled s.kinds 0 p.values)) = ap length s.bytes in
-    let most = s.at_most in
-    let small : length (spelled (kinds row.fields) 0 p.values) ≤ 1023 = subst (λ ks. length (spelled ks 0 p.values) ≤ 1023) (sym r.2) (omega (arith, size, most)) in
     let text : line_of p ≡ printed.line_of (row.name ∷ given row.fields p.values) = ap (λ (o : Option Row). line_in o p.values) r.1 ∙ line_words row.name row.fields p.values in
-    subst (λ (l : List ℕ). Reads l p) (sym text) (words_read p row r.1 (fit, small))
+    subst (λ (l : List ℕ). Reads l p) (sym text) (words_read p row r.1 fit h)

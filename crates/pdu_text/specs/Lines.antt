@@ -1,10 +1,10 @@
 -- The one line of a text, and the message that its first word names.
-use Rattle.std.specs.Prelude.{ℕ, zero, suc, ◌+◌, Bool, false, nat_lt, List, [], ◌∷◌, length, drop, if◌then◌else◌, Option, Some, None}
+use Rattle.std.specs.Prelude.{ℕ, Bool, nat_lt, List, [], ◌∷◌, length, drop, if◌then◌else◌, Option, Some, None}
 use Rattle.std.specs.List.{list_any}
 use Rattle.std.specs.Str.{bytes_eq}
 use Rattle.std.specs.Str.Lines.{lines}
 use Rattle.text_lines.specs.Texts.{words}
-use Rattle.pdu_layout.specs.Table.{Row, row_of}
+use Rattle.pdu_layout.specs.Table.{Row, table}
 
 abbrev pub first_of : List (List ℕ) → List ℕ
 first_of [] = []
@@ -21,19 +21,11 @@ has_words line = nat_lt 0 (length (words line))
 abbrev pub goes_on : List ℕ → Bool
 goes_on text = list_any has_words (drop 1 (lines text))
 
-abbrev pub has_name : Option Row → List ℕ → Bool
-has_name None w = false
-has_name (Some row) w = bytes_eq w row.name
-
--- the message with this type code has this name
-unfoldable pub is_named : ℕ → List ℕ → Bool
-is_named code w = has_name (row_of code) w
-
--- the first of so many type codes, from this one on, whose message has this name
-unfoldable pub code_among : ℕ → ℕ → List ℕ → Option ℕ
-code_among zero code w = None
-code_among (suc n) code w = if is_named code w then Some code else code_among n (code + 1) w
+-- the type code of the first row with this name
+abbrev pub code_in : List Row → List ℕ → Option ℕ
+code_in [] w = None
+code_in (row ∷ rows) w = if bytes_eq w row.name then Some row.code else code_in rows w
 
 -- the type code of the message with this name
 unfoldable pub code_named : List ℕ → Option ℕ
-code_named w = code_among 256 0 w
+code_named w = code_in table w

@@ -1,5 +1,5 @@
 -- The reading of a text word by word, as the code does it.
-use Rattle.std.specs.Prelude.{ℕ, ◌-◌, Bool, List, [], ◌∷◌, drop, if◌then◌else◌, Option, Some, None, Result, Ok, Err}
+use Rattle.std.specs.Prelude.{◌≡◌, ℕ, ◌-◌, Bool, List, [], ◌∷◌, drop, if◌then◌else◌, Option, Some, None, Result, Ok, Err}
 use Rattle.std.specs.List.{list_any}
 use Rattle.std.specs.Str.{is_utf8}
 use Rattle.std.specs.Str.Lines.{lines}
@@ -41,3 +41,9 @@ lines_said ls = line_said (list_any has_words (drop 1 ls)) (words (first_of ls))
 
 abbrev pub text_said : List ℕ → Result Message PduTextWhy
 text_said text = if is_utf8 text then lines_said (lines text) else Err why.NotUtf8
+
+-- Each word says the value of its field, and the bytes of all of them have room.
+abbrev pub SayInRoom : List FieldRow → ℕ → ℕ → List (List ℕ) → List FieldValue → Type 0
+SayInRoom [] room t [] [] = Unit {0}
+SayInRoom (f ∷ fs) room t (w ∷ ws) (v ∷ vs) = (field_said f room t w ≡ Ok v) × SayInRoom fs (room - size_of f.kind t v) (type_said f.kind t v) ws vs
+SayInRoom _ room t _ _ = ⊥

@@ -2,8 +2,8 @@
 use Rattle.std.specs.Prelude.{◌≡◌, ℕ, List, Bool, if◌then◌else◌, Option, Some, None, Result, Ok, Err, codes}
 use Rattle.pdu_text.specs.declared.reasons.PduTextWhy.{PduTextWhy}
 use Rattle.pdu_text.specs.declared.reasons.PduTextWhy.TheVariants as why
-use Rattle.pdu_text.specs.declared.reasons.TextRefused.{TextRefused}
-use Rattle.pdu_text.specs.declared.reasons.TextRefused.TheVariants as refused
+use Rattle.pdu_text.specs.declared.reasons.PduTextRefused.{PduTextRefused}
+use Rattle.pdu_text.specs.declared.reasons.PduTextRefused.TheVariants as refused
 
 -- the printed word
 abbrev pub why_word : PduTextWhy → List ℕ
@@ -34,11 +34,11 @@ Sees view (Ok x) meant = meant ≡ Ok (view x)
 Sees view (Err why) meant = meant ≡ Err why
 
 -- an error is the cause that is meant, or want of memory
-abbrev pub Fails : {Y : Type 0} → TextRefused → Result Y PduTextWhy → Type 0
+abbrev pub Fails : {Y : Type 0} → PduTextRefused → Result Y PduTextWhy → Type 0
 Fails refused.OutOfMemory meant = Unit {0}
 Fails (refused.Line why) meant = meant ≡ Err why
 
 -- what was returned, seen by view, is what is meant, unless memory ran out
-abbrev pub Gives : {X Y : Type 0} → (X → Y) → Result X TextRefused → Result Y PduTextWhy → Type 0
+abbrev pub Gives : {X Y : Type 0} → (X → Y) → Result X PduTextRefused → Result Y PduTextWhy → Type 0
 Gives view (Ok x) meant = meant ≡ Ok (view x)
 Gives view (Err e) meant = Fails e meant

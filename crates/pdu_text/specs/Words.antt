@@ -103,6 +103,12 @@ placed kind room t value = within (nat_le (size_of kind t value) room) value
 abbrev pub text_after : List ℕ → List ℕ → Option (List ℕ)
 text_after name w = option_and_then (λ at. if bytes_eq (take at w) name then Some (drop (at + 1) w) else None) (position (λ b. b == 61) w)
 
+-- what a word says of a field
+unfoldable pub word_said : FieldRow → ℕ → List ℕ → Result FieldValue PduTextWhy
+word_said f t w = do
+  text ← or_why (text_after f.name w) why.UnknownKey
+  value_said f.kind t text
+
 -- what a word says of a field, where the message has room for so many bytes more
 unfoldable pub field_said : FieldRow → ℕ → ℕ → List ℕ → Result FieldValue PduTextWhy
 field_said f room t w = do

@@ -5,10 +5,10 @@ ghost use Rattle.pdu_layout.specs.Message.{HasSpelling, Spells};
 ghost use Rattle.pdu_codec.specs.Refusals.{IsSpelling};
 ghost use Rattle.pdu_layout.specs.Parts.{value_of};
 ghost use Rattle.pdu_text.specs.Contents.{value_in, message_in};
-ghost use Rattle.pdu_text.specs.Takers.{Adds, Handed, IsRefused};
+ghost use Rattle.pdu_text.specs.Takers.{Adds, Handed, IsRefused, ReadsAndSpells};
 
 use crate::contents::{Said, SaidMessage};
-use crate::reasons::TextRefused;
+use crate::reasons::PduTextRefused;
 use crate::takers::PduTaker;
 use crate::texts_read::read_message;
 use dcp_types::OutOfMemory;
@@ -52,6 +52,26 @@ fn put_said(alloc: Global, said: &SaidMessage, room: &mut [u8; 1024]) -> Result<
     }
 }
 
+/// Reads a text as one message, writes its bytes to the front of the room, and answers how many there
+/// are.
+///
+/// The text is one line: a message's name, and for each field the field's name, `=` and what it
+/// holds. A text that does not read is refused by the first rule that it breaks. Want of memory is an
+/// answer of its own. After a refusal the room may hold anything.
+pub fn put_pdu_text(
+    alloc: Global,
+    text: &[u8],
+    room: &mut [u8; 1024],
+) -> Result<usize, PduTextRefused>
+    ensures at_most { IfOk result (λ n. n ≤ 1024) }
+    ensures ok { IfOk result (λ n. ReadsAndSpells text.now (take n room.new)) }
+    ensures err { IfErr result (λ e. IsRefused text.now e) }
+{
+    let said = read_message(alloc, text)?;
+    let length = put_said(alloc, &said, room)?;
+    Ok(length)
+}
+
 /// Hands the message that the bytes spell to the taker.
 ///
 /// The bytes spell a message, and the taker has room for it.
@@ -75,15 +95,14 @@ pub fn with_pdu_text<R: PduTaker>(
     alloc: Global,
     text: &[u8],
     taker: &mut R,
-) -> Result<(), TextRefused>
+) -> Result<(), PduTextRefused>
     requires { R.can_take taker.old }
     ensures ok { IfOk result (λ _. Handed text.now (R.taken taker.old) (R.taken taker.new)) }
     ensures err { IfErr result (λ e. IsRefused text.now e) }
     ensures not_called { IfErr result (λ _. taker.new ≡ taker.old) }
 {
-    let said = read_message(alloc, text)?;
     let mut room = [0; 1024];
-    let length = put_said(alloc, &said, &mut room)?;
+    let length = put_pdu_text(alloc, text, &mut room)?;
     hand(&room[..length], taker);
     Ok(())
 }

@@ -2,7 +2,7 @@
 //!
 //! What it promises: `print_pdu` writes exactly the line that `specs/Printed.antt` gives, and
 //! the line of a message that has a spelling reads back as that message.
-//! `with_pdu_text` hands exactly the message as which a text reads (`specs/Reading.antt`) to its taker,
+//! `put_pdu_text` writes the bytes of the message as which a text reads; `with_pdu_text` hands exactly that message (`specs/Reading.antt`) to its taker,
 //! once, and refuses any other text by the first rule that it breaks (`specs/Refusals.antt`), the taker
 //! not called. Only want of memory has no cause in a contract.
 #![tactic(auto)]
@@ -20,11 +20,8 @@ mod value_texts;
 mod word_values;
 
 pub use contents::{Said, SaidMessage};
-pub use handing::with_pdu_text;
+pub use handing::{put_pdu_text, with_pdu_text};
 pub use laws::{printed_messages_read_back, texts_are_judged_once};
 pub use print::print_pdu;
-pub use reasons::{PduTextWhy, TextRefused};
+pub use reasons::{PduTextRefused, PduTextWhy};
 pub use takers::PduTaker;
-
-#[cfg(test)]
-mod tests;

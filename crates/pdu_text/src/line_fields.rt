@@ -7,7 +7,7 @@ ghost use Rattle.pdu_text.specs.Machine.{fields_said};
 ghost use Rattle.pdu_text.specs.Reasons.{Gives};
 
 use crate::contents::Said;
-use crate::reasons::{PduTextWhy, TextRefused};
+use crate::reasons::{PduTextRefused, PduTextWhy};
 use crate::word_values::{read_field, size_of, type_after};
 use pdu_layout::Field;
 use std::alloc::Global;
@@ -21,7 +21,7 @@ pub fn read_fields(
     fields: &[Field],
     more: bool,
     words: &[&[u8]],
-) -> Result<Vec<Said>, TextRefused>
+) -> Result<Vec<Said>, PduTextRefused>
     ensures { Gives (λ v. map value_in v.items) result (fields_said (rows_of fields.now) 1023 0 more (map (λ w. w.now) words.now)) }
 {
     let mut values = Vec::new(alloc);
@@ -37,13 +37,13 @@ pub fn read_fields(
                 values.push(value)?;
                 rest = others;
             }
-            [] => return Err(TextRefused::Line {
+            [] => return Err(PduTextRefused::Line {
                 why: PduTextWhy::Words,
             }),
         }
     }
     if more || !rest.is_empty() {
-        return Err(TextRefused::Line {
+        return Err(PduTextRefused::Line {
             why: PduTextWhy::Words,
         });
     }

@@ -1,7 +1,8 @@
 //! The message that a name names.
 
 ghost use Rattle.std.specs.Prelude.{◌≡◌};
-ghost use Rattle.pdu_text.specs.Lines.{is_named, code_named};
+ghost use Rattle.pdu_text.specs.Lines.{code_named};
+ghost use Rattle.pdu_text.specs.Scan.{is_named};
 
 use pdu_layout::listed_row;
 
@@ -9,7 +10,7 @@ use pdu_layout::listed_row;
 const TYPE_CODES: u16 = 256;
 
 /// Whether the message with this type code has this name.
-#[tactic(auto, unfolding(crate::specs::Lines::is_named))]
+#[tactic(auto, unfolding(crate::specs::Scan::is_named))]
 fn is_named(code: u8, word: &[u8]) -> bool
     ensures { result ≡ is_named code word.now }
 {

@@ -13,7 +13,7 @@ ghost use Rattle.pdu_text.specs.Takers.{IsRefused};
 use crate::contents::{Said, SaidMessage};
 use crate::line_fields::read_fields;
 use crate::message_names::code_of;
-use crate::reasons::{PduTextWhy, TextRefused};
+use crate::reasons::{PduTextRefused, PduTextWhy};
 use dcp_types::OutOfMemory;
 use pdu_layout::listed_row;
 use std::alloc::Global;
@@ -32,7 +32,12 @@ fn have_words(alloc: Global, lines: &[&[u8]]) -> Result<bool, OutOfMemory>
 }
 
 /// The values of the fields of the message with this type code.
-fn read_row(alloc: Global, code: u8, more: bool, words: &[&[u8]]) -> Result<Vec<Said>, TextRefused>
+fn read_row(
+    alloc: Global,
+    code: u8,
+    more: bool,
+    words: &[&[u8]],
+) -> Result<Vec<Said>, PduTextRefused>
     ensures { Gives (λ v. map value_in v.items) result (row_said (row_of code) more (map (λ w. w.now) words.now)) }
 {
     match listed_row(code) {
@@ -42,7 +47,7 @@ fn read_row(alloc: Global, code: u8, more: bool, words: &[&[u8]]) -> Result<Vec<
 }
 
 /// The message that the words of a line say. `more` tells that a later line has a word.
-fn read_words(alloc: Global, more: bool, words: &[&[u8]]) -> Result<SaidMessage, TextRefused>
+fn read_words(alloc: Global, more: bool, words: &[&[u8]]) -> Result<SaidMessage, PduTextRefused>
     ensures { Gives message_in result (line_said more (map (λ w. w.now) words.now)) }
 {
     match words {
@@ -57,7 +62,7 @@ fn read_words(alloc: Global, more: bool, words: &[&[u8]]) -> Result<SaidMessage,
     }
 }
 
-fn read_lines(alloc: Global, lines: &[&[u8]]) -> Result<SaidMessage, TextRefused>
+fn read_lines(alloc: Global, lines: &[&[u8]]) -> Result<SaidMessage, PduTextRefused>
     ensures { Gives message_in result (lines_said (map (λ l. l.now) lines.now)) }
 {
     match lines {
@@ -71,7 +76,7 @@ fn read_lines(alloc: Global, lines: &[&[u8]]) -> Result<SaidMessage, TextRefused
 }
 
 /// The message that a text says, word by word.
-fn read_text(alloc: Global, text: &[u8]) -> Result<SaidMessage, TextRefused>
+fn read_text(alloc: Global, text: &[u8]) -> Result<SaidMessage, PduTextRefused>
     ensures { Gives message_in result (text_said text.now) }
 {
     if !is_utf8(text) {
@@ -82,7 +87,7 @@ fn read_text(alloc: Global, text: &[u8]) -> Result<SaidMessage, TextRefused>
 }
 
 /// The message as which a text reads, or the first rule that the text breaks.
-pub fn read_message(alloc: Global, text: &[u8]) -> Result<SaidMessage, TextRefused>
+pub fn read_message(alloc: Global, text: &[u8]) -> Result<SaidMessage, PduTextRefused>
     ensures ok { IfOk result (λ m. Reads text.now (message_in m)) }
     ensures err { IfErr result (λ e. IsRefused text.now e) }
 {

@@ -10,7 +10,7 @@ ghost use Rattle.pdu_text.specs.Reasons.{Gives, Sees};
 ghost use Rattle.pdu_text.specs.Words.{state_in, early_states, late_states, state_named, is_signed, below_said, typed_said, state_said, identity_said, ip_said, bytes_said, value_said, size_of, placed, text_after, field_said, type_said};
 
 use crate::contents::Said;
-use crate::reasons::{PduTextWhy, TextRefused};
+use crate::reasons::{PduTextRefused, PduTextWhy};
 use dcp_types::{DataType, State, fits};
 use hex::FromHexError;
 use pdu_layout::{Field, FieldKind};
@@ -143,25 +143,25 @@ fn identity_number(word: &[u8]) -> Result<Said, PduTextWhy>
     }
 }
 
-fn ip_number(alloc: Global, word: &[u8]) -> Result<Said, TextRefused>
+fn ip_number(alloc: Global, word: &[u8]) -> Result<Said, PduTextRefused>
     ensures { Gives value_in result (ip_said word.now) }
 {
     match ip(alloc, word) {
         Ok(n) => Ok(Said::Number(n as u128)),
-        Err(LineRefused::OutOfMemory) => Err(TextRefused::OutOfMemory),
-        Err(LineRefused::Why(_)) => Err(TextRefused::Line {
+        Err(LineRefused::OutOfMemory) => Err(PduTextRefused::OutOfMemory),
+        Err(LineRefused::Why(_)) => Err(PduTextRefused::Line {
             why: PduTextWhy::BadNumber,
         }),
     }
 }
 
-fn payload(alloc: Global, word: &[u8]) -> Result<Said, TextRefused>
+fn payload(alloc: Global, word: &[u8]) -> Result<Said, PduTextRefused>
     ensures { Gives value_in result (bytes_said word.now) }
 {
     match hex::decode(alloc, word) {
         Ok(bytes) => Ok(Said::Bytes(bytes)),
-        Err(FromHexError::OutOfMemory) => Err(TextRefused::OutOfMemory),
-        Err(_) => Err(TextRefused::Line {
+        Err(FromHexError::OutOfMemory) => Err(PduTextRefused::OutOfMemory),
+        Err(_) => Err(PduTextRefused::Line {
             why: PduTextWhy::BadNumber,
         }),
     }
@@ -183,7 +183,7 @@ fn type_with(code: u128) -> DataType
     }
 }
 
-fn value(alloc: Global, kind: FieldKind, last: u128, word: &[u8]) -> Result<Said, TextRefused>
+fn value(alloc: Global, kind: FieldKind, last: u128, word: &[u8]) -> Result<Said, PduTextRefused>
     ensures { Gives value_in result (value_said kind last word.now) }
 {
     match kind {
@@ -258,13 +258,13 @@ fn text_after<'a>(name: &str, word: &'a [u8]) -> Option<&'a [u8]>
     }
 }
 
-fn placed(kind: FieldKind, room: usize, last: u128, value: Said) -> Result<Said, TextRefused>
+fn placed(kind: FieldKind, room: usize, last: u128, value: Said) -> Result<Said, PduTextRefused>
     ensures { Gives value_in result (placed kind room last (value_in value)) }
 {
     if size_of(kind, last, &value) <= room {
         Ok(value)
     } else {
-        Err(TextRefused::Line {
+        Err(PduTextRefused::Line {
             why: PduTextWhy::Limit,
         })
     }
@@ -279,7 +279,7 @@ pub fn read_field(
     room: usize,
     last: u128,
     word: &[u8],
-) -> Result<Said, TextRefused>
+) -> Result<Said, PduTextRefused>
     ensures { Gives value_in result (field_said (record { name = field.now.name.now; kind = field.now.kind }) room last word.now) }
 {
     match text_after(field.name, word) {
@@ -287,7 +287,7 @@ pub fn read_field(
             let value = value(alloc, field.kind, last, text)?;
             placed(field.kind, room, last, value)
         }
-        None => Err(TextRefused::Line {
+        None => Err(PduTextRefused::Line {
             why: PduTextWhy::UnknownKey,
         }),
     }

@@ -1,4 +1,3 @@
-use Rattle.pdu_text.proofs.Fitting.{read_spelling}
 use Rattle.pdu_text.proofs.Once.{reads_or_breaks, never_both, one_reading, one_cause}
 use Rattle.pdu_text.proofs.laws.texts_are_judged_once.Goals as goal
 
@@ -15,4 +14,4 @@ pub returns-clause-one_cause : goal.returns-clause-one_cause
 returns-clause-one_cause c = one_cause
 
 pub returns-clause-spelled : goal.returns-clause-spelled
-returns-clause-spelled c = read_spelling
+returns-clause-spelled c = λ text p h. h.spelled

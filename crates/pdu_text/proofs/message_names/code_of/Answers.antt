@@ -1,11 +1,9 @@
-use Rattle.std.proofs.Common.{refl, sym, ◌∙◌, arith}
-use Rattle.pdu_text.specs.Lines.{code_named}
-use Rattle.pdu_text.proofs.Names.{here, next, none}
+use Rattle.std.proofs.Common.{sym, ◌∙◌, arith}
+use Rattle.pdu_text.proofs.Names.{here, next, none, scanned}
 use Rattle.pdu_text.proofs.message_names.code_of.Goals as goal
 
 pub loop-code-init : goal.loop-code-init
-unfolding code_named
-loop-code-init c = refl
+loop-code-init c = scanned c.args.word.now
 
 pub returns-then-is_named : goal.returns-then-is_named
 returns-then-is_named c =

@@ -1,0 +1,6 @@
+use Rattle.std.proofs.Common.{◌∙◌, ap, List, ℕ, ◌++◌, drop}
+use Rattle.dcp_types.proofs.Digits.{low_bytes}
+use Rattle.pdu_codec.proofs.to_bytes.put_u16.Goals as goal
+
+pub returns-clause-bytes : goal.returns-clause-bytes
+returns-clause-bytes c = c.write_u16.ensures ∙ ap (λ (l : List ℕ). l ++ drop 2 c.args.room.now) (low_bytes 2 c.args.n)
