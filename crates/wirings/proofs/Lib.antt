@@ -1,0 +1,4 @@
+pub mod Finding
+pub mod Ascending
+pub mod Known
+pub mod Sending
