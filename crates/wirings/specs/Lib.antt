@@ -1,3 +1,4 @@
 pub mod Ids
 pub mod Ports
 pub mod Sending
+pub mod Payloads

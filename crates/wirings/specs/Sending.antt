@@ -1,12 +1,9 @@
 -- What is kept of the output ids, by the changes so far.
 use Rattle.std.specs.Prelude.{◌≡◌, ℕ, ◌%◌, ◌+◌, ◌/◌, Bool, true, false, List, [], ◌∷◌, length, map, reverse, slice_index_or, Option, Some, None, ℤ, pos, if◌then◌else◌}
-use Rattle.std.specs.List.{flat_map}
-use Rattle.dcp_types.specs.Values.{fits, value_bytes}
 use Rattle.slave_desc.specs.declared.lists.Port.{Port}
 use Rattle.slave_desc.specs.declared.descriptions.SlaveDesc.{SlaveDesc}
 use Rattle.slave_wiring.specs.Changes.{Change, output, entries, has_id, ids, target, interval, base}
 use Rattle.wirings.specs.Ports.{place_with}
-use Rattle.wirings.specs.declared.places.Place.{Place}
 use Rattle.wirings.specs.declared.tables.OutputRow.{OutputRow}
 use Rattle.wirings.specs.declared.tables.Outputs.{Outputs}
 
@@ -29,10 +26,3 @@ pub record AreOutputs (d : SlaveDesc) (changes : List Change) (o : Outputs) : Ty
 -- a row after a restart
 abbrev pub row_restarted : ℕ → OutputRow → OutputRow
 row_restarted steps row = record row { base = (row.base + (steps / row.interval + 1)) % 65536 }
-
--- the value at a place, where it fits the type
-abbrev pub value_for : List ℤ → Place → ℤ
-value_for values place = (let z = slice_index_or values place.index (pos 0) in if fits place.kind z then z else pos 0)
-
-abbrev pub bytes_at : List ℤ → Place → List ℕ
-bytes_at values place = value_bytes place.kind (value_for values place)

@@ -10,6 +10,7 @@ mod addresses;
 mod data_ids;
 mod numbers;
 mod outputs;
+mod payloads;
 mod places;
 mod ports;
 mod tables;

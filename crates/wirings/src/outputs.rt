@@ -11,12 +11,13 @@ ghost use Rattle.wirings.specs.Ids.{IsThere, IsPlaceFor};
 ghost use Rattle.wirings.specs.Sending.{AreOutputs, row_restarted};
 
 use crate::data_ids::{DataIds, IDS};
-use crate::numbers::{base_after, is_end};
+use crate::numbers::{base_after, is_end, number_after};
+use crate::payloads::{PAYLOAD, put_data, write_payload};
 use crate::places::{POSITIONS, Places};
 use crate::ports::place_of;
 use crate::tables::{OutputRow, Outputs};
 use crate::addresses::address_of;
-use dcp_types::{ErrorCode, OutOfMemory};
+use dcp_types::{Address, ErrorCode, OutOfMemory};
 use pdu_layout::NetInfo;
 use slave_desc::Port;
 use std::alloc::Global;
@@ -165,5 +166,32 @@ impl Outputs {
         for row in self.rows.iter_mut() {
             row.base = base_after(row.base, steps, row.interval);
         }
+    }
+
+    /// Writes the data message of an id, by its place, to the front of the room; answers where it goes
+    /// and how many bytes it has.
+    pub(crate) fn build(
+        &self,
+        i: usize,
+        steps: u32,
+        outputs: &[i128],
+        room: &mut [u8; 1024],
+    ) -> Option<(Address, usize)>
+        ensures sized { IfSome result (λ built. (1 ≤ built.1) × (built.1 ≤ 1024)) }
+        ensures built { (d : SlaveDesc) (changes : List Change) → AreOutputs d changes self.now → (id : ℕ) → slice_get (ids output changes) i ≡ Some id
+            → IsBuilt d changes steps outputs.now id room.new result }
+    {
+        if i >= self.rows.len() {
+            return None;
+        }
+        let row = &self.rows[i];
+        let Some(target) = row.target else {
+            return None;
+        };
+        let mut payload = [0; PAYLOAD];
+        let length = write_payload(row.places.as_slice(), outputs, &mut payload);
+        let number = number_after(row.base, steps, row.interval);
+        let size = put_data(number, self.ids.at(i), &payload[..length], room);
+        Some((target, size))
     }
 }
