@@ -32,8 +32,8 @@ pub above_put : (x n : ℕ) (xs : List ℕ) → x < n → Above x xs → Above x
 above_put x n [] h a = (h, tt)
 above_put x n (y ∷ ys) h a =
     elim (nat_lt n y) as (λ b. Above x (cond b (n ∷ y ∷ ys) (cond (n == y) (y ∷ ys) (y ∷ put_ascending n ys)))) [
-      true ↦ (h, (a.0, a.1))
-    | false ↦ elim (n == y) as (λ b. Above x (cond b (y ∷ ys) (y ∷ put_ascending n ys))) [ true ↦ (a.0, a.1) | false ↦ (a.0, above_put x n ys h a.1) ]
+      | true ↦ (h, (a.0, a.1))
+      | false ↦ elim (n == y) as (λ b. Above x (cond b (y ∷ ys) (y ∷ put_ascending n ys))) [ true ↦ (a.0, a.1) | false ↦ (a.0, above_put x n ys h a.1) ]
     ]
 
 pub ascends_put : (n : ℕ) (xs : List ℕ) → Ascends xs → Ascends (put_ascending n xs)
@@ -42,8 +42,8 @@ ascends_put n (y ∷ ys) a =
     by_test (nat_lt n y)
     (λ e. let h : n < y = grind (arith, nat_tests, e) in rw e ((h, above_less n y ys h a.0), (a.0, a.1)))
     (λ e. by_test (n == y)
-      (λ f. rw (e, f) (a.0, a.1))
-      (λ f. let h : y < n = grind (arith, nat_tests, e, f) in rw (e, f) (above_put y n ys h a.0, ascends_put n ys a.1)))
+    (λ f. rw (e, f) (a.0, a.1))
+    (λ f. let h : y < n = grind (arith, nat_tests, e, f) in rw (e, f) (above_put y n ys h a.0, ascends_put n ys a.1)))
 
 pub ascending_ascends : (xs : List ℕ) → Ascends (ascending xs)
 ascending_ascends [] = tt
@@ -58,23 +58,23 @@ among_put m n [] =
 among_put m n (y ∷ ys) =
     by_test (nat_lt n y)
     (λ e. by_test (nat_lt n m)
-      (λ f. let g : (n == m) ≡ false = grind (arith, nat_tests, f) in rw (e, f, g) refl)
-      (λ f. by_test (n == m)
-        (λ g. rw (e, f, g) refl)
-        (λ g. let less : nat_lt y m ≡ false = grind (arith, nat_tests, e, f) in
-              let other : (y == m) ≡ false = grind (arith, nat_tests, e, f) in
-              rw (e, f, g, less, other) refl)))
+    (λ f. let g : (n == m) ≡ false = grind (arith, nat_tests, f) in rw (e, f, g) refl)
+    (λ f. by_test (n == m)
+    (λ g. rw (e, f, g) refl)
+    (λ g. let less : nat_lt y m ≡ false = grind (arith, nat_tests, e, f) in
+    let other : (y == m) ≡ false = grind (arith, nat_tests, e, f) in
+    rw (e, f, g, less, other) refl)))
     (λ e. by_test (n == y)
-      (λ f. let same : n ≡ y = grind (arith, nat_tests, f) in
-        by_test (n == m)
-        (λ g. let less : nat_lt y m ≡ false = grind (arith, nat_tests, g, same) in
-              let here : (y == m) ≡ true = grind (arith, nat_tests, g, same) in
-              rw (e, f, g, less, here) refl)
-        (λ g. rw (e, f, g) refl))
-      (λ f. rw (e, f)
-        (by_test (nat_lt y m)
-          (λ l. rw l (among_put m n ys))
-          (λ l. let g : (n == m) ≡ false = grind (arith, nat_tests, e, f, l) in rw (l, g) refl))))
+    (λ f. let same : n ≡ y = grind (arith, nat_tests, f) in
+    by_test (n == m)
+    (λ g. let less : nat_lt y m ≡ false = grind (arith, nat_tests, g, same) in
+    let here : (y == m) ≡ true = grind (arith, nat_tests, g, same) in
+    rw (e, f, g, less, here) refl)
+    (λ g. rw (e, f, g) refl))
+    (λ f. rw (e, f)
+    (by_test (nat_lt y m)
+    (λ l. rw l (among_put m n ys))
+    (λ l. let g : (n == m) ≡ false = grind (arith, nat_tests, e, f, l) in rw (l, g) refl))))
 
 behind_rest : {x n i : ℕ} {xs : List ℕ} → IsBehindSmaller (x ∷ xs) n (suc i) → IsBehindSmaller xs n i
 behind_rest b = record { within = omega arith; front = λ k h. b.front (suc k) (omega arith) }

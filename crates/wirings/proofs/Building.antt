@@ -129,6 +129,6 @@ message d changes o id i steps values room r to size number at bytes h e read fi
     let a' : at ≡ id = a ∙ ap (λ (l : List ℕ). get_or l i 0) h.sorted ∙ (got (ids output changes) i id e).is in
     let b' : bytes ≡ payload d id changes values = b ∙ ap (λ (q : OutputRow). flat_map (bytes_at values) q.places) row ∙ payload_same d.outputs values (reverse (entries output id changes)) fit in
     let s' : take size room ≡ spelling (data_message (ordinal output id changes steps % 65536) id (payload d id changes values)) =
-      s ∙ ap (λ (m : ℕ). spelling (data_message m at bytes)) n' ∙ ap (λ (m : ℕ). spelling (data_message (ordinal output id changes steps % 65536) m bytes)) a'
-      ∙ ap (λ (l : List ℕ). spelling (data_message (ordinal output id changes steps % 65536) id l)) b' in
+    s ∙ ap (λ (m : ℕ). spelling (data_message m at bytes)) n' ∙ ap (λ (m : ℕ). spelling (data_message (ordinal output id changes steps % 65536) m bytes)) a'
+    ∙ ap (λ (l : List ℕ). spelling (data_message (ordinal output id changes steps % 65536) id l)) b' in
     subst (λ (x : Option Address). IsMessage d changes steps values id room x (Some (to, size))) (sym t) (size, refl, s')

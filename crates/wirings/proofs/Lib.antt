@@ -3,3 +3,9 @@ pub mod Ascending
 pub mod Known
 pub mod Sending
 pub mod Building
+pub mod Placing
+pub mod Receiving
+pub mod Entering
+pub mod Taking
+pub mod Wired
+pub mod Whole

@@ -60,7 +60,7 @@ own_row ports changes id position vr place p =
     let e : (id == id) ≡ true = grind (arith, nat_tests) in
     let f : Place → List Place = λ q. map (place_with ports) (reverse (entries output id changes)) ++ q ∷ [] in
     let m : map (place_with ports) (reverse (vr ∷ entries output id changes)) ≡ map (place_with ports) (reverse (entries output id changes)) ++ place ∷ [] =
-      ap (map (place_with ports)) (reverse-append (vr ∷ []) (entries output id changes)) ∙ map-append (place_with ports) (reverse (entries output id changes)) (vr ∷ []) ∙ ap f (sym p) in
+    ap (map (place_with ports)) (reverse-append (vr ∷ []) (entries output id changes)) ∙ map-append (place_with ports) (reverse (entries output id changes)) (vr ∷ []) ∙ ap f (sym p) in
     rw e (ap (λ (l : List Place). record (output_row ports changes id) { places = l }) m)
 
 pub told_still : (d : SlaveDesc) (changes : List Change) (id position vr : ℕ) → ((y : ℕ) → has_id output y changes ≡ false → target y changes ≡ None)
@@ -79,16 +79,16 @@ extended d changes o n id i position vr r places place h t p read pushed ports s
     let kept : put_ascending id all ≡ all = put_there id i all at in
     let own : r ≡ f id = read ∙ ap (λ (l : List OutputRow). get_or l i r) h.rows ∙ row_at f id i all r at in
     let mine : record r { places = places } ≡ g id =
-      ap (λ (l : List Place). record r { places = l }) pushed
-      ∙ ap (λ (q : OutputRow). record q { places = q.places ++ place ∷ [] }) own
-      ∙ sym (own_row d.outputs changes id position vr place p.same) in
+    ap (λ (l : List Place). record r { places = l }) pushed
+    ∙ ap (λ (q : OutputRow). record q { places = q.places ++ place ∷ [] }) own
+    ∙ sym (own_row d.outputs changes id position vr place p.same) in
     record {
       listed = ports ∙ h.listed;
       sorted = same ∙ h.sorted ∙ sym kept;
       rows = rows ∙ ap (λ (l : List OutputRow). set l i (record r { places = places })) h.rows
-        ∙ ap (set (map f all) i) mine
-        ∙ sym (map_set f g id i all (ids_ascend output changes) at (λ y ne. other_row d.outputs changes id position vr y ne))
-        ∙ ap (map g) (sym kept);
+          ∙ ap (set (map f all) i) mine
+          ∙ sym (map_set f g id i all (ids_ascend output changes) at (λ y ne. other_row d.outputs changes id position vr y ne))
+          ∙ ap (map g) (sym kept);
       told = told_still d changes id position vr h.told;
     }
 
@@ -109,10 +109,10 @@ first_row ports changes id position vr place r p new none places target' every f
     let e : entries output id changes ≡ [] = has_none (entries output id changes) new in
     let b : base output id changes ≡ 0 = base_new output id changes new in
     same_row r _ _ _ _
-      (places ∙ ap (λ (q : Place). q ∷ []) p ∙ ap (λ (l : List ℕ). map (place_with ports) (reverse l) ++ place_with ports vr ∷ []) (sym e))
-      (target' ∙ sym none)
-      (every ∙ sym (interval_new output id changes new))
-      (first ∙ ap (λ (n : ℕ). n % 65536) (sym b))
+    (places ∙ ap (λ (q : Place). q ∷ []) p ∙ ap (λ (l : List ℕ). map (place_with ports) (reverse l) ++ place_with ports vr ∷ []) (sym e))
+    (target' ∙ sym none)
+    (every ∙ sym (interval_new output id changes new))
+    (first ∙ ap (λ (n : ℕ). n % 65536) (sym b))
     ∙ ap (λ (q : Place). record (output_row ports changes id) { places = (output_row ports changes id).places ++ q ∷ [] }) (sym p)
     ∙ sym (own_row ports changes id position vr place p)
 
@@ -133,9 +133,9 @@ begun d changes o n id i position vr r place h t p places none every first ports
       listed = ports ∙ h.listed;
       sorted = ids' ∙ ap (λ (l : List ℕ). insert l i id) h.sorted ∙ sym put;
       rows = rows ∙ ap (λ (l : List OutputRow). insert l i r) h.rows
-        ∙ ap (insert (map f all) i) mine
-        ∙ sym (map_insert f g id i all (ids_ascend output changes) at (λ y ne. other_row d.outputs changes id position vr y ne))
-        ∙ ap (map g) (sym put);
+          ∙ ap (insert (map f all) i) mine
+          ∙ sym (map_insert f g id i all (ids_ascend output changes) at (λ y ne. other_row d.outputs changes id position vr y ne))
+          ∙ ap (map g) (sym put);
       told = told_still d changes id position vr h.told;
     }
 
@@ -227,15 +227,15 @@ targeted d changes o n net i r a h t read address ports same rows =
     let at : IsThere all id i = there_at d changes o id i h t in
     let own : r ≡ f id = read ∙ ap (λ (l : List OutputRow). get_or l i r) h.rows ∙ row_at f id i all r at in
     let mine : record r { target = Some a } ≡ g id =
-      ap (λ (b : Address). record r { target = Some b }) address
-      ∙ ap (λ (q : OutputRow). record q { target = Some (record { ip = net.ip; port = net.port }) }) own
-      ∙ sym (own_target d.outputs changes net) in
+    ap (λ (b : Address). record r { target = Some b }) address
+    ∙ ap (λ (q : OutputRow). record q { target = Some (record { ip = net.ip; port = net.port }) }) own
+    ∙ sym (own_target d.outputs changes net) in
     record {
       listed = ports ∙ h.listed;
       sorted = same ∙ h.sorted;
       rows = rows ∙ ap (λ (l : List OutputRow). set l i (record r { target = Some a })) h.rows
-        ∙ ap (set (map f all) i) mine
-        ∙ sym (map_set f g id i all (ids_ascend output changes) at (λ y ne. other_target d.outputs changes net y ne));
+          ∙ ap (set (map f all) i) mine
+          ∙ sym (map_set f g id i all (ids_ascend output changes) at (λ y ne. other_target d.outputs changes net y ne));
       told = target_still changes net (known output id i changes at) h.told;
     }
 
@@ -261,13 +261,13 @@ paced d changes o n id q i r h t read ports same rows =
     let at : IsThere all id i = there_at d changes o id i h t in
     let own : r ≡ f id = read ∙ ap (λ (l : List OutputRow). get_or l i r) h.rows ∙ row_at f id i all r at in
     let mine : record r { interval = q } ≡ g id =
-      ap (λ (p : OutputRow). record p { interval = q }) own ∙ sym (own_interval d.outputs changes id q (known output id i changes at)) in
+    ap (λ (p : OutputRow). record p { interval = q }) own ∙ sym (own_interval d.outputs changes id q (known output id i changes at)) in
     record {
       listed = ports ∙ h.listed;
       sorted = same ∙ h.sorted;
       rows = rows ∙ ap (λ (l : List OutputRow). set l i (record r { interval = q })) h.rows
-        ∙ ap (set (map f all) i) mine
-        ∙ sym (map_set f g id i all (ids_ascend output changes) at (λ y ne. other_interval d.outputs changes id q y ne));
+          ∙ ap (set (map f all) i) mine
+          ∙ sym (map_set f g id i all (ids_ascend output changes) at (λ y ne. other_interval d.outputs changes id q y ne));
       told = h.told;
     }
 
@@ -304,7 +304,7 @@ restarted d changes o n steps h ports same rows =
       listed = ports ∙ h.listed;
       sorted = same ∙ h.sorted;
       rows = rows ∙ ap (map (row_restarted steps)) h.rows ∙ map-map (row_restarted steps) f (ids output changes)
-        ∙ sym (map_known output changes k g (λ y e. after_restart d.outputs changes steps y e));
+          ∙ sym (map_known output changes k g (λ y e. after_restart d.outputs changes steps y e));
       told = h.told;
     }
 

@@ -10,11 +10,11 @@ use Rattle.wirings.specs.declared.tables.Outputs.{Outputs}
 -- what is kept of an output id
 abbrev pub output_row : List Port → List Change → ℕ → OutputRow
 output_row ports changes id = record {
-    places = map (place_with ports) (reverse (entries output id changes));
-    target = target id changes;
-    interval = interval output id changes;
-    base = base output id changes % 65536;
-  }
+  places = map (place_with ports) (reverse (entries output id changes));
+  target = target id changes;
+  interval = interval output id changes;
+  base = base output id changes % 65536;
+}
 
 -- what is kept of a slave's output ids after these changes
 pub record AreOutputs (d : SlaveDesc) (changes : List Change) (o : Outputs) : Type 0 where

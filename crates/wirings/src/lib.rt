@@ -8,9 +8,14 @@
 
 mod addresses;
 mod data_ids;
+mod inputs;
 mod numbers;
 mod outputs;
 mod payloads;
 mod places;
 mod ports;
+mod segments;
 mod tables;
+mod wirings;
+
+pub use wirings::Wiring;

@@ -10,13 +10,13 @@ ghost use Rattle.pdu_layout.specs.declared.messages.Cfg.TheVariants as cfg;
 ghost use Rattle.wirings.specs.Ids.{IsThere, IsPlaceFor};
 ghost use Rattle.wirings.specs.Sending.{AreOutputs, row_restarted};
 
+use crate::addresses::address_of;
 use crate::data_ids::{DataIds, IDS};
 use crate::numbers::{base_after, is_end, number_after};
 use crate::payloads::{PAYLOAD, put_data, write_payload};
 use crate::places::{POSITIONS, Places};
 use crate::ports::place_of;
 use crate::tables::{OutputRow, Outputs};
-use crate::addresses::address_of;
 use dcp_types::{Address, ErrorCode, OutOfMemory};
 use pdu_layout::NetInfo;
 use slave_desc::Port;

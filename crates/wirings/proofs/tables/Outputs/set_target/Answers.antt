@@ -9,6 +9,7 @@ pub returns-then-is_some : goal.returns-then-is_some
 returns-then-is_some c = λ d changes h. (target_told d changes c.args.self.now c.args.net.now c.in-Ok.i c.index.result.now false h c.in-Ok.ensures c.requires c.index.ensures (sym c.is_some.ensures ∙ c.if-is_some.true), h)
 
 pub returns : goal.returns
-returns c = λ d changes h.
-    (target_told d changes c.args.self.now c.args.net.now c.in-Ok.i c.index.result.now true h c.in-Ok.ensures c.requires c.index.ensures (sym c.is_some.ensures ∙ c.if-is_some.false),
-    targeted d changes c.args.self.now _ c.args.net.now c.in-Ok.i c.index_mut.result.now _ h c.in-Ok.ensures c.index_mut.ensures.value c.address_of.ensures refl refl refl)
+returns c = λ d changes h. (
+  target_told d changes c.args.self.now c.args.net.now c.in-Ok.i c.index.result.now true h c.in-Ok.ensures c.requires c.index.ensures (sym c.is_some.ensures ∙ c.if-is_some.false),
+  targeted d changes c.args.self.now _ c.args.net.now c.in-Ok.i c.index_mut.result.now _ h c.in-Ok.ensures c.index_mut.ensures.value c.address_of.ensures refl refl refl,
+)
