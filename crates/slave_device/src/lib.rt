@@ -14,7 +14,9 @@ mod machines;
 mod notes;
 mod sending;
 mod settings;
+mod slaves;
 mod turns;
 mod works;
 
 pub use devices::Device;
+pub use slaves::slave_over;

@@ -1,0 +1,11 @@
+pub mod Finding
+pub mod Ascending
+pub mod Known
+pub mod Sending
+pub mod Building
+pub mod Placing
+pub mod Receiving
+pub mod Entering
+pub mod Taking
+pub mod Wired
+pub mod Whole
