@@ -1,10 +1,9 @@
 //! Descriptions that read and are printed, and those that are refused.
 
-use crate::tables::{parted, unfolded};
+use crate::tables::{parted, told, unfolded};
 use desc_text::{print_desc, read_desc};
-use std::alloc::{AllocError, Global};
 use std::test::Fail;
-use text_lines::{TextRefused, lines};
+use text_lines::lines;
 
 const COUNT: &str =
     "slave count\nuuid 00000000-0000-0000-0000-000000000001\naddress 127.0.0.1 9001\nmodel counter 1000\nbusy 0\nheartbeat 0\nresolution 1 1000\noutput 1 uint32\n";
@@ -78,25 +77,16 @@ fn texts_print_canonically(rt: HostRuntime) -> Result<(), Fail> {
     Ok(())
 }
 
-/// The line and the cause of a refusal; nothing where the text reads.
-fn told(alloc: Global, text: &[u8]) -> Result<String, AllocError> {
-    match read_desc(alloc, text) {
-        Err(TextRefused::Fault(fault)) => {
-            let line = fault.line;
-            let word = fault.why.word();
-            format!(in alloc; "{line} {word}")
-        }
-        _ => Ok(String::new(alloc)),
-    }
-}
-
 #[test]
 fn refusals_have_their_lines(rt: HostRuntime) -> Result<(), Fail> {
     let alloc = rt.alloc();
     for row in &lines(alloc, REFUSED)? {
         let (wanted, folded) = parted(row, b':');
         let text = unfolded(alloc, folded)?;
-        assert_eq!(rt; told(alloc, &text)?.as_bytes(), wanted);
+        assert_eq!(rt;
+            told(alloc, read_desc(alloc, &text).err())?.as_bytes(),
+            wanted
+        );
     }
     Ok(())
 }

@@ -1,12 +1,11 @@
 //! Scenarios that read, and those that are refused, with lines and causes from an independent model.
 
-use crate::tables::{parted, unfolded};
+use crate::tables::{parted, told, unfolded};
 use dcp_types::{Address, Limits, Protocol};
 use scenario::{Chaos, Every, NetLine, Rerun, Scenario, Setting, Wire};
 use scenario_text::read_scenario;
-use std::alloc::{AllocError, Global};
 use std::test::Fail;
-use text_lines::{TextRefused, lines, number, words};
+use text_lines::{lines, number, words};
 
 /// The line and the cause, and the text that is refused.
 const REFUSED: &[u8] = b"\
@@ -88,25 +87,16 @@ const READ: &[u8] = b"\
 5 5 1 2 2 2 0 0 1:# c^;micro 5^;protocol tcp^;&set amp 0 5;set acc 0 -7;chaos 7 0 1 2;copy 2 B0 0 3
 ";
 
-/// The line and the cause of a refusal; nothing where the text reads.
-fn told(alloc: Global, text: &[u8]) -> Result<String, AllocError> {
-    match read_scenario(alloc, text) {
-        Err(TextRefused::Fault(fault)) => {
-            let line = fault.line;
-            let word = fault.why.word();
-            format!(in alloc; "{line} {word}")
-        }
-        _ => Ok(String::new(alloc)),
-    }
-}
-
 #[test]
 fn refusals_have_their_lines(rt: HostRuntime) -> Result<(), Fail> {
     let alloc = rt.alloc();
     for row in &lines(alloc, REFUSED)? {
         let (wanted, folded) = parted(row, b':');
         let text = unfolded(alloc, folded)?;
-        assert_eq!(rt; told(alloc, &text)?.as_bytes(), wanted);
+        assert_eq!(rt;
+            told(alloc, read_scenario(alloc, &text).err())?.as_bytes(),
+            wanted
+        );
     }
     Ok(())
 }
@@ -122,9 +112,15 @@ fn slaves_are_few(rt: HostRuntime) -> Result<(), Fail> {
             "address 127.0.0.1 90{n}\nmodel counter 5\noutput 1 uint8\n"
         )?;
     }
-    assert_eq!(rt; told(alloc, text.as_bytes())?.as_str(), "");
+    assert_eq!(rt;
+        told(alloc, read_scenario(alloc, text.as_bytes()).err())?.as_str(),
+        ""
+    );
     write!(text, "slave s27\n")?;
-    assert_eq!(rt; told(alloc, text.as_bytes())?.as_str(), "83 LIMIT");
+    assert_eq!(rt;
+        told(alloc, read_scenario(alloc, text.as_bytes()).err())?.as_str(),
+        "83 LIMIT"
+    );
     Ok(())
 }
 
@@ -135,9 +131,15 @@ fn net_lines_are_few(rt: HostRuntime) -> Result<(), Fail> {
     for _ in 0..64 {
         text.extend_from_slice(b"drop 0 01 0\n")?;
     }
-    assert_eq!(rt; told(alloc, &text)?.as_str(), "");
+    assert_eq!(rt;
+        told(alloc, read_scenario(alloc, &text).err())?.as_str(),
+        ""
+    );
     text.extend_from_slice(b"drop 0 01 0\n")?;
-    assert_eq!(rt; told(alloc, &text)?.as_str(), "72 LIMIT");
+    assert_eq!(rt;
+        told(alloc, read_scenario(alloc, &text).err())?.as_str(),
+        "72 LIMIT"
+    );
     Ok(())
 }
 

@@ -1,6 +1,7 @@
 //! Tables of cases: a table is one text with a case on each line, so that it is one literal.
 
 use std::alloc::{AllocError, Global};
+use text_lines::TextRefused;
 
 /// The begin of a scenario.
 pub const HEAD: &[u8] = b"steps 3\nmaster 127.0.0.1 9000\n";
@@ -42,4 +43,16 @@ pub fn unfolded(alloc: Global, row: &[u8]) -> Result<Vec<u8>, AllocError> {
         }
     }
     Ok(text)
+}
+
+/// The line and the cause of a refusal; nothing where there is none.
+pub fn told(alloc: Global, refused: Option<TextRefused>) -> Result<String, AllocError> {
+    match refused {
+        Some(TextRefused::Fault(fault)) => {
+            let line = fault.line;
+            let word = fault.why.word();
+            format!(in alloc; "{line} {word}")
+        }
+        _ => Ok(String::new(alloc)),
+    }
 }
