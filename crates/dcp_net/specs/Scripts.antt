@@ -23,14 +23,14 @@ took_at at (Idle a) = if same_address at a then Some false else None
 took_at at (Turn a) = None
 
 -- the newer of two answers, where there is one
-abbrev pub newer : Option Bool → Bool → Bool
-newer None before = before
-newer (Some now) before = now
+abbrev pub newest_of : Option Bool → Bool → Bool
+newest_of None before = before
+newest_of (Some now) before = now
 
 -- whether the last take at this address gave a datagram, after these calls too
 abbrev pub rests_after : Address → Bool → List LogEntry → Bool
 rests_after at rests [] = rests
-rests_after at rests (call ∷ calls) = rests_after at (newer (took_at at call) rests) calls
+rests_after at rests (call ∷ calls) = rests_after at (newest_of (took_at at call) rests) calls
 
 abbrev pub is_for : Address → ScriptGram → Bool
 is_for at gram = same_address gram.at at

@@ -15,16 +15,16 @@ TellsWaits None (Some now) outcome = ⊥
 TellsWaits (Some before) (Some now) outcome = now ≡ ready_after before outcome
 
 -- waits of which one fails: its number, how many calls were made up to it, whether there were more after it, and how many calls failed
-pub record Waiting : Type 0 where
+pub record WaitCount : Type 0 where
   pub nth : ℕ
   pub calls : ℕ
   pub past : Bool
   pub faults : ℕ
 
 -- the next wait is the one that fails
-abbrev pub fails_next : Waiting → Bool
+abbrev pub fails_next : WaitCount → Bool
 fails_next s = nat_eq (s.calls + 1) s.nth
 
 -- up to the failing call, that one excepted, each wait has answered Ready; of later ones nothing is told
-abbrev pub waits_told : Waiting → Option ℕ
+abbrev pub waits_told : WaitCount → Option ℕ
 waits_told s = if s.past then None else Some (min s.calls (s.nth - 1))

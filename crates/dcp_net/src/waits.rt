@@ -58,9 +58,9 @@ pub struct FailingWait {
 
 impl Model for FailingWait {
     ghost use Rattle.std.specs.Prelude.{◌≤◌};
-    ghost use Rattle.dcp_net.specs.Waits.{Waiting};
+    ghost use Rattle.dcp_net.specs.Waits.{WaitCount};
 
-    ghost Value = { Waiting };
+    ghost Value = { WaitCount };
 
     ghost view = { λ s. record { nth = s.nth; calls = s.calls; past = s.past; faults = s.faults } };
 

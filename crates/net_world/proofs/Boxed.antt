@@ -7,7 +7,7 @@ use Rattle.std.proofs.lemmas.Bool.Decides.{nat_tests}
 use Rattle.std.proofs.lemmas.List.{take_more}
 use Rattle.dcp_types.specs.declared.addresses.Address.{Address}
 use Rattle.dcp_ends.specs.Logs.{same_address}
-use Rattle.net_world.specs.declared.deliveries.Delivery.{Delivery}
+use Rattle.net_world.specs.declared.deliveries.Arrival.{Arrival}
 use Rattle.net_world.specs.declared.mailboxes.Mailbox.{Mailbox}
 use Rattle.net_world.specs.Mailboxes.{is_box, queue_of, NoBox, IsFirstBox}
 
@@ -119,7 +119,7 @@ pub box_of_one : (at a : Address) (box : Mailbox) → is_box at box ≡ true →
 box_of_one at a box mine other = ap (λ (p : Address). same_address p a) (same_is_one box.at at mine) ∙ other
 
 -- the queue of one box is replaced
-module _ (at : Address) (boxes : List Mailbox) (i : ℕ) (x : Mailbox) (first : IsFirstBox at boxes i) (queue : VecDeque Delivery Global) where
+module _ (at : Address) (boxes : List Mailbox) (i : ℕ) (x : Mailbox) (first : IsFirstBox at boxes i) (queue : VecDeque Arrival Global) where
   box : Mailbox
   box = record { at = (get_or boxes i x).at; queue = queue }
 

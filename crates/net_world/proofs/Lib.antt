@@ -5,3 +5,4 @@ pub mod Watched
 pub mod Kept
 pub mod Append
 pub mod TiedSteps
+pub mod Recent

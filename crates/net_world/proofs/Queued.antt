@@ -3,8 +3,8 @@ use Rattle.std.proofs.Common.{get_or, ◌≡◌, ℕ, ◌+◌, ◌-◌, ◌<◌,
 use Rattle.std.specs.List.{filter}
 use Rattle.std.proofs.lemmas.Bool.Decides.{nat_tests}
 use Rattle.dcp_net.specs.Firsts.{first_that, without_first}
-use Rattle.net_world.specs.declared.deliveries.Delivery.{Delivery}
-use Rattle.net_world.specs.Deliveries.{is_due}
+use Rattle.net_world.specs.declared.deliveries.Arrival.{Arrival}
+use Rattle.net_world.specs.Deliveries.{is_due_now}
 use Rattle.net_world.specs.Queues.{NoneBefore, InOrder}
 use Rattle.net_world.proofs.Placed.{NoneBefore-filter}
 
@@ -21,17 +21,17 @@ pub due_now : (due sent : ℕ) → due ≤ sent → nat_le due sent ≡ true
 due_now due sent h = grind (arith, nat_tests)
 
 -- where nothing is due yet, none is
-pub none_due : (sent n : ℕ) (q : List Delivery) → NoneBefore n q → sent < n → first_that (is_due sent) q ≡ None
+pub none_due : (sent n : ℕ) (q : List Arrival) → NoneBefore n q → sent < n → first_that (is_due_now sent) q ≡ None
 none_due sent n [] h lt = refl
 none_due sent n (d ∷ q) h lt = let later : sent < d.due = omega (arith, h.0) in rw (due_later d.due sent later) (none_due sent n q h.1 lt)
 
-pub all_stay : (sent n : ℕ) (q : List Delivery) → NoneBefore n q → sent < n → without_first (is_due sent) q ≡ q
+pub all_stay : (sent n : ℕ) (q : List Arrival) → NoneBefore n q → sent < n → without_first (is_due_now sent) q ≡ q
 all_stay sent n [] h lt = refl
-all_stay sent n (d ∷ q) h lt = let later : sent < d.due = omega (arith, h.0) in rw (due_later d.due sent later) (ap (λ (r : List Delivery). d ∷ r) (all_stay sent n q h.1 lt))
+all_stay sent n (d ∷ q) h lt = let later : sent < d.due = omega (arith, h.0) in rw (due_later d.due sent later) (ap (λ (r : List Arrival). d ∷ r) (all_stay sent n q h.1 lt))
 
 -- nothing is due in a queue whose first is due later
-pub nothing_due : (p : Delivery → Bool) (sent : ℕ) (q : List Delivery) (x : Delivery) → 0 < length q → InOrder q → x ≡ get_or q 0 x → sent < x.due
-    → (first_that (is_due sent) (filter p q) ≡ None) × (without_first (is_due sent) (filter p q) ≡ filter p q)
+pub nothing_due : (p : Arrival → Bool) (sent : ℕ) (q : List Arrival) (x : Arrival) → 0 < length q → InOrder q → x ≡ get_or q 0 x → sent < x.due
+    → (first_that (is_due_now sent) (filter p q) ≡ None) × (without_first (is_due_now sent) (filter p q) ≡ filter p q)
 nothing_due p sent [] x some order is lt = absurd (omega arith)
 nothing_due p sent (d ∷ q) x some order is lt =
     let later : sent < d.due = rw (← is) lt in

@@ -6,7 +6,7 @@ use Rattle.dcp_ends.specs.declared.entries.LogEntry.TheVariants.{Sent, Got, Idle
 use Rattle.dcp_net.specs.declared.openings.Opening.{Opening}
 use Rattle.dcp_net.specs.declared.nets.Taken.{Taken}
 use Rattle.dcp_net.specs.declared.nets.Taken.TheVariants as taken
-use Rattle.net_world.specs.declared.deliveries.Delivery.{Delivery}
+use Rattle.net_world.specs.declared.deliveries.Arrival.{Arrival}
 use Rattle.net_world.specs.Deliveries.{due}
 use Rattle.net_world.specs.Messages.{messages}
 
@@ -16,7 +16,7 @@ pub record Carried : Type 0 where
   pub calls : List LogEntry
 
 -- a take gives what is due, and nothing exactly where nothing is
-abbrev pub TakesDue : Option Delivery → Taken → List ℕ → Type 0
+abbrev pub TakesDue : Option Arrival → Taken → List ℕ → Type 0
 TakesDue None taken.Nothing room = Unit {0}
 TakesDue (Some d) taken.Nothing room = ⊥
 TakesDue None (taken.Gram from len) room = ⊥
@@ -25,21 +25,21 @@ TakesDue due taken.Failed room = Unit {0}
 TakesDue due taken.OutOfMemory room = Unit {0}
 
 -- a Got brings what is due
-abbrev pub Brings : Option Delivery → Address → List ℕ → Type 0
-Brings None from bytes = ⊥
-Brings (Some d) from bytes = (from ≡ d.from) × (bytes ≡ d.bytes)
+abbrev pub BringsDue : Option Arrival → Address → List ℕ → Type 0
+BringsDue None from bytes = ⊥
+BringsDue (Some d) from bytes = (from ≡ d.from) × (bytes ≡ d.bytes)
 
 -- a call that a network makes after these calls: a Got of what is due, and an Idle where nothing is
-abbrev pub MayFollow : Opening → List LogEntry → LogEntry → Type 0
-MayFollow o calls (Sent from to bytes) = Unit {0}
-MayFollow o calls (Got at from bytes) = Brings (due o calls at) from bytes
-MayFollow o calls (Idle at) = due o calls at ≡ None
-MayFollow o calls (Turn at) = ⊥
+abbrev pub MayBeMade : Opening → List LogEntry → LogEntry → Type 0
+MayBeMade o calls (Sent from to bytes) = Unit {0}
+MayBeMade o calls (Got at from bytes) = BringsDue (due o calls at) from bytes
+MayBeMade o calls (Idle at) = due o calls at ≡ None
+MayBeMade o calls (Turn at) = ⊥
 
 -- each of these calls, after those before it, is one that the network makes
-abbrev pub Delivers : Opening → List LogEntry → List LogEntry → Type 0
-Delivers o calls [] = Unit {0}
-Delivers o calls (call ∷ more) = MayFollow o calls call × Delivers o (calls ++ call ∷ []) more
+abbrev pub GivesDue : Opening → List LogEntry → List LogEntry → Type 0
+GivesDue o calls [] = Unit {0}
+GivesDue o calls (call ∷ more) = MayBeMade o calls call × GivesDue o (calls ++ call ∷ []) more
 
 -- what a Got brings was sent so, and at most 32,767 messages were sent after it
 pub record IsRecent (calls : List LogEntry) (at from : Address) (bytes : List ℕ) : Type 0 where

@@ -3,12 +3,12 @@ use Rattle.std.specs.Prelude.{ℕ, zero, suc, ◌+◌, ◌*◌, ◌/◌, ◌%◌
 use Rattle.scenario.specs.declared.net_plans.Chaos.{Chaos}
 
 -- one step of the generator
-abbrev pub step : ℕ → ℕ
-step x = (x * 6364136223846793005 + 1442695040888963407) % 2 ^ 64
+abbrev pub generator_step : ℕ → ℕ
+generator_step x = (x * 6364136223846793005 + 1442695040888963407) % 2 ^ 64
 
 abbrev pub after_steps : ℕ → ℕ → ℕ
 after_steps zero x = x
-after_steps (suc n) x = step (after_steps n x)
+after_steps (suc n) x = generator_step (after_steps n x)
 
 -- what is drawn where the generator stands at x
 abbrev pub draw : ℕ → ℕ
@@ -25,7 +25,7 @@ lags_of_draws chaos a b c d =
 
 -- the same where the generator stands at x before the draws
 abbrev pub lags_of_chaos : Chaos → ℕ → List ℕ
-lags_of_chaos chaos x = lags_of_draws chaos (draw (step x)) (draw (step (step x))) (draw (step (step (step x)))) (draw (step (step (step (step x)))))
+lags_of_chaos chaos x = lags_of_draws chaos (draw (generator_step x)) (draw (generator_step (generator_step x))) (draw (generator_step (generator_step (generator_step x)))) (draw (generator_step (generator_step (generator_step (generator_step x)))))
 
 -- where the generator stands after so many messages, each of which takes four draws
 abbrev pub generator_at : Option Chaos → ℕ → ℕ
@@ -38,6 +38,6 @@ lags_by_chance None x = 0 ∷ []
 lags_by_chance (Some chaos) x = lags_of_chaos chaos x
 
 -- where the generator stands after the draws of one more message
-abbrev pub stepped : Option Chaos → ℕ → ℕ
-stepped None x = x
-stepped (Some chaos) x = step (step (step (step x)))
+abbrev pub after_draws : Option Chaos → ℕ → ℕ
+after_draws None x = x
+after_draws (Some chaos) x = generator_step (generator_step (generator_step (generator_step x)))

@@ -5,7 +5,7 @@ use Rattle.dcp_ends.specs.declared.entries.LogEntry.{LogEntry}
 use Rattle.scenario.specs.declared.net_plans.NetLine.{NetLine}
 use Rattle.scenario.specs.declared.net_plans.NetLine.TheVariants.{Drop, Copy, Hold}
 use Rattle.dcp_net.specs.Firsts.{first_that}
-use Rattle.net_world.specs.Messages.{is_of, messages_of}
+use Rattle.net_world.specs.Messages.{is_from_end, messages_from}
 
 -- the end, the type code and the place that a line names
 abbrev pub end_named : NetLine → ℕ
@@ -25,16 +25,16 @@ nth_named (Hold end type_id nth lag) = nth
 
 -- how many messages were sent in these calls that the line's end and type code name
 abbrev pub seen_by : List Address → List LogEntry → NetLine → ℕ
-seen_by all calls line = messages_of all (end_named line) (type_named line) calls
+seen_by all calls line = messages_from all (end_named line) (type_named line) calls
 
 -- the line names the message that is sent after these calls: every one of its end and type code, or the nth
-abbrev pub names : List Address → List LogEntry → Address → List ℕ → NetLine → Bool
-names all calls from bytes line =
-    is_of all (end_named line) (type_named line) from bytes && ((nth_named line == 0) || (seen_by all calls line == nth_named line - 1))
+abbrev pub line_names : List Address → List LogEntry → Address → List ℕ → NetLine → Bool
+line_names all calls from bytes line =
+    is_from_end all (end_named line) (type_named line) from bytes && ((nth_named line == 0) || (seen_by all calls line == nth_named line - 1))
 
 -- the line that applies to this message: the first that names it
 abbrev pub line_for : List Address → List NetLine → List LogEntry → Address → List ℕ → Option NetLine
-line_for all lines calls from bytes = first_that (names all calls from bytes) lines
+line_for all lines calls from bytes = first_that (line_names all calls from bytes) lines
 
 -- how many more messages are sent before each delivery of the message
 abbrev pub lags_of_line : NetLine → List ℕ

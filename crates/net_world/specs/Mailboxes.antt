@@ -3,14 +3,14 @@ use Rattle.std.specs.Prelude.{◌≡◌, ℕ, zero, suc, ◌+◌, ◌≤◌, Lis
 use Rattle.std.specs.VecDeque.{deque_len, deque_capacity}
 use Rattle.dcp_types.specs.declared.addresses.Address.{Address}
 use Rattle.dcp_ends.specs.Logs.{same_address}
-use Rattle.net_world.specs.declared.deliveries.Delivery.{Delivery}
+use Rattle.net_world.specs.declared.deliveries.Arrival.{Arrival}
 use Rattle.net_world.specs.declared.mailboxes.Mailbox.{Mailbox}
 
 abbrev pub is_box : Address → Mailbox → Bool
 is_box at mailbox = same_address mailbox.at at
 
 -- the deliveries for an address: those of its first mailbox
-abbrev pub queue_of : Address → List Mailbox → List Delivery
+abbrev pub queue_of : Address → List Mailbox → List Arrival
 queue_of at [] = []
 queue_of at (mailbox ∷ boxes) = if is_box at mailbox then mailbox.queue.items else queue_of at boxes
 

@@ -25,15 +25,15 @@ abbrev pub is_end : List Address → ℕ → Address → Bool
 is_end all end a = is_at a (slice_get all end)
 
 -- a message with this type code from this end: the code is its first byte
-abbrev pub is_of : List Address → ℕ → ℕ → Address → List ℕ → Bool
-is_of all end type_id from bytes = is_end all end from && (slice_index bytes 0 == type_id)
+abbrev pub is_from_end : List Address → ℕ → ℕ → Address → List ℕ → Bool
+is_from_end all end type_id from bytes = is_end all end from && (slice_index bytes 0 == type_id)
 
 abbrev pub is_call_of : List Address → ℕ → ℕ → LogEntry → Bool
-is_call_of all end type_id (Sent from to bytes) = is_of all end type_id from bytes
+is_call_of all end type_id (Sent from to bytes) = is_from_end all end type_id from bytes
 is_call_of all end type_id (Got at from bytes) = false
 is_call_of all end type_id (Idle at) = false
 is_call_of all end type_id (Turn at) = false
 
 -- how many messages with this type code this end sent in these calls
-abbrev pub messages_of : List Address → ℕ → ℕ → List LogEntry → ℕ
-messages_of all end type_id calls = count_by (is_call_of all end type_id) calls
+abbrev pub messages_from : List Address → ℕ → ℕ → List LogEntry → ℕ
+messages_from all end type_id calls = count_by (is_call_of all end type_id) calls

@@ -2,7 +2,7 @@
 
 ghost use Rattle.std.specs.Prelude.{◌≡◌, ◌++◌, ◌<◌, ◌^◌, List, Option};
 ghost use Rattle.scenario.specs.declared.net_plans.NetLine.{NetLine};
-ghost use Rattle.net_world.specs.Chances.{draw, held, lags_by_chance, lags_of_chaos, lags_of_draws, step, stepped};
+ghost use Rattle.net_world.specs.Chances.{draw, held, lags_by_chance, lags_of_chaos, lags_of_draws, generator_step, after_draws};
 ghost use Rattle.net_world.specs.Lags.{lags_in};
 ghost use Rattle.net_world.specs.Lines.{lags_of_line};
 
@@ -23,8 +23,8 @@ pub struct Lags {
 }
 
 /// One step of the generator.
-fn step(x: u64) -> u64
-    ensures { result ≡ step x }
+fn generator_step(x: u64) -> u64
+    ensures { result ≡ generator_step x }
 {
     x.wrapping_mul(FACTOR).wrapping_add(SUMMAND)
 }
@@ -38,10 +38,10 @@ fn draw(x: u64) -> u64
 
 /// Where the generator stands after the four draws of a message.
 pub fn after_message(chaos: Option<Chaos>, x: u64) -> u64
-    ensures { result ≡ stepped chaos x }
+    ensures { result ≡ after_draws chaos x }
 {
     match chaos {
-        Some(_) => step(step(step(step(x)))),
+        Some(_) => generator_step(generator_step(generator_step(generator_step(x)))),
         None => x,
     }
 }
@@ -52,10 +52,10 @@ pub fn by_chance(chaos: Option<Chaos>, x: u64) -> Lags
 {
     match chaos {
         Some(chaos) => {
-            let a = step(x);
-            let b = step(a);
-            let c = step(b);
-            by_draws(chaos, draw(a), draw(b), draw(c), draw(step(c)))
+            let a = generator_step(x);
+            let b = generator_step(a);
+            let c = generator_step(b);
+            by_draws(chaos, draw(a), draw(b), draw(c), draw(generator_step(c)))
         }
         None => Lags {
             first: Some(0),

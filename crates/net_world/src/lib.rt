@@ -7,10 +7,12 @@
 
 mod chances;
 mod deliveries;
+mod laws;
 mod mailboxes;
 mod memory_nets;
 mod queues;
 mod traffics;
 mod watches;
 
+pub use laws::deliveries_are_recent;
 pub use memory_nets::{MemoryNet, NetCall};

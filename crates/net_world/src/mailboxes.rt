@@ -7,11 +7,11 @@ ghost use Rattle.std.specs.VecDeque.{deque_len, deque_capacity};
 ghost use Rattle.dcp_types.specs.declared.addresses.Address.{Address};
 ghost use Rattle.dcp_ends.specs.Logs.{same_address};
 ghost use Rattle.dcp_net.specs.Firsts.{first_that, without_first};
-ghost use Rattle.net_world.specs.Deliveries.{all_placed, is_due, is_young};
-ghost use Rattle.net_world.specs.Queues.{AllFit, InOrder};
+ghost use Rattle.net_world.specs.Deliveries.{all_placed, is_due_now, is_young};
+ghost use Rattle.net_world.specs.Queues.{AllShort, InOrder};
 ghost use Rattle.net_world.specs.Mailboxes.{FindsBox, HasRoomAt, IsFirstBox, is_box, queue_of};
 
-use crate::deliveries::Delivery;
+use crate::deliveries::Arrival;
 use crate::queues::{next_due, place_all};
 use dcp_types::Address;
 use std::alloc::{AllocError, Global};
@@ -21,7 +21,7 @@ use std::collections::VecDeque;
 #[derive(Drop)]
 pub struct Mailbox {
     pub at: Address,
-    pub queue: VecDeque<Delivery>,
+    pub queue: VecDeque<Arrival>,
 }
 
 /// The place of the mailbox of this address.
@@ -69,13 +69,13 @@ fn own_box(alloc: Global, boxes: &mut Vec<Mailbox>, at: Address) -> Result<usize
 }
 
 /// Takes the next delivery that is due at this address when so many messages have been sent.
-pub fn next_for(boxes: &mut [Mailbox], at: Address, sent: u64) -> Option<Delivery>
+pub fn next_for(boxes: &mut [Mailbox], at: Address, sent: u64) -> Option<Arrival>
     requires order { InOrder (queue_of at boxes.old) }
-    requires fit { AllFit (queue_of at boxes.old) }
-    ensures due { result ≡ first_that (is_due sent) (filter (is_young sent) (queue_of at boxes.old)) }
-    ensures rest { filter (is_young sent) (queue_of at boxes.new) ≡ without_first (is_due sent) (filter (is_young sent) (queue_of at boxes.old)) }
+    requires fit { AllShort (queue_of at boxes.old) }
+    ensures due { result ≡ first_that (is_due_now sent) (filter (is_young sent) (queue_of at boxes.old)) }
+    ensures rest { filter (is_young sent) (queue_of at boxes.new) ≡ without_first (is_due_now sent) (filter (is_young sent) (queue_of at boxes.old)) }
     ensures order { InOrder (queue_of at boxes.new) }
-    ensures fit { AllFit (queue_of at boxes.new) }
+    ensures fit { AllShort (queue_of at boxes.new) }
     ensures others { (a : Address) → same_address at a ≡ false → queue_of a boxes.new ≡ queue_of a boxes.old }
     ensures fits { IfSome result (λ d. length d.bytes ≤ 1025) }
 {
@@ -92,14 +92,14 @@ pub fn post(
     boxes: &mut [Mailbox],
     i: usize,
     to: Address,
-    first: Option<Delivery>,
-    second: Option<Delivery>,
+    first: Option<Arrival>,
+    second: Option<Arrival>,
 )
     requires found { IsFirstBox to boxes.old i }
     requires within { i < length boxes.old }
     requires room { HasRoomAt i boxes.old }
     requires order { InOrder (queue_of to boxes.old) }
-    ensures placed { queue_of to boxes.new ≡ all_placed (option_to_list first ++ option_to_list second) (queue_of to boxes.old) }
+    ensures after { queue_of to boxes.new ≡ all_placed (option_to_list first ++ option_to_list second) (queue_of to boxes.old) }
     ensures others { (a : Address) → same_address to a ≡ false → queue_of a boxes.new ≡ queue_of a boxes.old }
 {
     let mailbox = &mut boxes[i];

@@ -1,11 +1,13 @@
 //! The network in memory.
 
-ghost use Rattle.std.specs.Prelude.{◌≡◌, ◌≤◌, ◌+◌, true, false, length, IsTrue, Some, None};
+ghost use Rattle.std.specs.Prelude.{◌≡◌, ◌≤◌, ◌+◌, ◌-◌, ◌↔◌, [], true, false, length, IfSome, IsTrue, MatchOption, Some, None, is_some, ⊤, if◌then◌else◌};
 ghost use Rattle.dcp_io.specs.Faults.{Rose};
 ghost use Rattle.dcp_net.specs.Nets.{HasCause, IsWithinRoom, sent_entries, told_more, took_entries};
-ghost use Rattle.net_world.specs.World.{TakesOpened, calls_of, is_begun, opening_of};
+ghost use Rattle.net_world.specs.Calls.{AllRecent, GivesDue};
+ghost use Rattle.net_world.specs.World.{TakesOpened, calls_of, fails_now, is_opened, is_chosen, opening_of};
 
 use crate::traffics::Traffic;
+use dcp_ends::LogEntry;
 use dcp_net::{Done, Net, Opening, Taken};
 use dcp_types::Address;
 use std::alloc::Global;
@@ -66,14 +68,31 @@ impl MemoryNet {
         }
     }
 
+    /// The successful calls since the network was opened, and none before that. Each take among them gave
+    /// what was due, and nothing only where nothing was.
+    pub fn told(&self) -> Option<&[LogEntry]>
+        ensures calls { IfSome result (λ calls. calls_of self.now.traffic ≡ Some calls.now) }
+        ensures open { IsTrue (is_some result) ↔ IsTrue (is_opened self.now.traffic) }
+        ensures given { IfSome self.now.traffic (λ carried. GivesDue carried.opening [] carried.calls) }
+        ensures recent { IfSome self.now.traffic (λ carried. AllRecent [] carried.calls) }
+    {
+        match &self.traffic {
+            Some(traffic) => Some(traffic.calls()),
+            None => None,
+        }
+    }
+
     /// Whether this call is the one that fails.
     fn strikes(&mut self, call: NetCall) -> bool
+        ensures fails { result ≡ fails_now call self.old.fails self.old.before_it }
+        ensures once { result ≡ true → self.new.fails ≡ None }
+        ensures before { result ≡ false → (self.new.fails ≡ self.old.fails) × (self.new.before_it ≡ (if is_chosen call self.old.fails then self.old.before_it - 1 else self.old.before_it)) }
         ensures later { self.old.faults ≤ self.new.faults }
         ensures rose { result ≡ true → Rose self.old.faults self.new.faults }
         ensures same { result ≡ false → self.new.faults ≡ self.old.faults }
         ensures traffic { self.new.traffic ≡ self.old.traffic }
     {
-        if self.fails != Some(call) {
+        if !is_chosen(call, self.fails) {
             return false;
         }
         if self.before_it > 0 {
@@ -86,6 +105,18 @@ impl MemoryNet {
     }
 }
 
+/// Whether calls of this kind were chosen.
+fn is_chosen(call: NetCall, chosen: Option<NetCall>) -> bool
+    ensures { result ≡ is_chosen call chosen }
+{
+    match (chosen, call) {
+        (Some(NetCall::Begin), NetCall::Begin)
+        | (Some(NetCall::Send), NetCall::Send)
+        | (Some(NetCall::Take), NetCall::Take) => true,
+        _ => false,
+    }
+}
+
 impl Net for MemoryNet {
     ghost calls = { λ s. calls_of s.traffic };
 
@@ -93,9 +124,15 @@ impl Net for MemoryNet {
 
     ghost count = { λ s. s.faults };
 
-    ghost is_open = { λ s. is_begun s.traffic };
+    ghost is_open = { λ s. is_opened s.traffic };
 
-    fn begin(&mut self, plan: &Opening) -> Done {
+    fn begin(&mut self, plan: &Opening) -> Done
+        ensures opened { result ≡ Done.Ok → IsTrue (is_opened self.new.traffic) }
+        ensures empty { result ≡ Done.Ok → MatchOption (calls_of self.new.traffic) ⊤ (λ l. l ≡ []) }
+        ensures plan { result ≡ Done.Ok → MatchOption (opening_of self.new.traffic) ⊤ (λ o. o ≡ plan.now) }
+        ensures cause { HasCause self.old.faults self.new.faults (result ≡ Done.Failed) }
+        ensures fails { (result ≡ Done.Failed) ↔ IsTrue (fails_now NetCall.Begin self.old.fails self.old.before_it) }
+    {
         if self.strikes(NetCall::Begin) {
             return Done::Failed;
         }
@@ -108,7 +145,16 @@ impl Net for MemoryNet {
         }
     }
 
-    fn send(&mut self, from: Address, to: Address, bytes: &[u8]) -> Done {
+    fn send(&mut self, from: Address, to: Address, bytes: &[u8]) -> Done
+        requires is_open { IsTrue (is_opened self.old.traffic) }
+        requires low { 1 ≤ length bytes.now }
+        requires high { length bytes.now ≤ 1024 }
+        ensures is_open { IsTrue (is_opened self.new.traffic) }
+        ensures calls { calls_of self.new.traffic ≡ told_more (calls_of self.old.traffic) (sent_entries result from to bytes.now) }
+        ensures opening { opening_of self.new.traffic ≡ opening_of self.old.traffic }
+        ensures cause { HasCause self.old.faults self.new.faults (result ≡ Done.Failed) }
+        ensures fails { (result ≡ Done.Failed) ↔ IsTrue (fails_now NetCall.Send self.old.fails self.old.before_it) }
+    {
         if self.strikes(NetCall::Send) {
             return Done::Failed;
         }
@@ -123,13 +169,14 @@ impl Net for MemoryNet {
 
     /// Gives what is due by the plan and the list of calls, and nothing exactly where nothing is.
     fn take(&mut self, at: Address, room: &mut [u8; 1025]) -> Taken
-        requires { IsTrue (is_begun self.old.traffic) }
-        ensures is_open { IsTrue (is_begun self.new.traffic) }
+        requires { IsTrue (is_opened self.old.traffic) }
+        ensures is_open { IsTrue (is_opened self.new.traffic) }
         ensures len { IsWithinRoom result }
         ensures calls { calls_of self.new.traffic ≡ told_more (calls_of self.old.traffic) (took_entries at result room.new) }
         ensures opening { opening_of self.new.traffic ≡ opening_of self.old.traffic }
         ensures cause { HasCause self.old.faults self.new.faults (result ≡ Taken.Failed) }
         ensures due { TakesOpened self.old.traffic at result room.new }
+        ensures fails { (result ≡ Taken.Failed) ↔ IsTrue (fails_now NetCall.Take self.old.fails self.old.before_it) }
     {
         if self.strikes(NetCall::Take) {
             return Taken::Failed;

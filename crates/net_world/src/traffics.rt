@@ -5,14 +5,14 @@ ghost use Rattle.std.specs.Option.{option_map};
 ghost use Rattle.dcp_ends.specs.declared.entries.LogEntry.TheVariants.{Sent};
 ghost use Rattle.dcp_net.specs.Firsts.{first_that};
 ghost use Rattle.dcp_net.specs.Nets.{IsWithinRoom, took_entries};
-ghost use Rattle.net_world.specs.Calls.{Delivers, TakesDue};
+ghost use Rattle.net_world.specs.Calls.{GivesDue, TakesDue};
 ghost use Rattle.net_world.specs.Chances.{lags_by_chance};
 ghost use Rattle.net_world.specs.Deliveries.{delivery, due, lags_by};
 ghost use Rattle.net_world.specs.Lags.{lags_in};
-ghost use Rattle.net_world.specs.Watches.{line_of, watch_names};
+ghost use Rattle.net_world.specs.Watches.{line_watched, watch_names};
 
 use crate::chances::{Lags, after_message, by_chance, by_line};
-use crate::deliveries::Delivery;
+use crate::deliveries::Arrival;
 use crate::mailboxes::{Mailbox, next_for, post, room_for};
 use crate::watches::{Watch, count, line_for, watched};
 use dcp_ends::{Bytes, LogEntry};
@@ -53,7 +53,7 @@ fn lags_now(
     bytes: &[u8],
 ) -> Lags
     requires { 1 ≤ length bytes.now }
-    ensures { lags_in result ≡ lags_by (option_map line_of (first_that (watch_names opening.now.all from bytes.now) watches.now)) (lags_by_chance opening.now.plan.chaos generator) }
+    ensures { lags_in result ≡ lags_by (option_map line_watched (first_that (watch_names opening.now.all from bytes.now) watches.now)) (lags_by_chance opening.now.plan.chaos generator) }
 {
     match line_for(watches, opening.all.as_slice(), from, bytes) {
         Some(line) => by_line(line),
@@ -69,7 +69,7 @@ fn delivered(
     to: Address,
     bytes: &[u8],
     lag: Option<u32>,
-) -> Result<Option<Delivery>, AllocError>
+) -> Result<Option<Arrival>, AllocError>
     requires { number < 2 ^ 63 }
     ensures { IfOk result (λ d. d ≡ option_map (delivery number from to bytes.now) lag) }
 {
@@ -77,7 +77,7 @@ fn delivered(
         return Ok(None);
     };
     let bytes = Bytes::copied(alloc, bytes)?;
-    Ok(Some(Delivery {
+    Ok(Some(Arrival {
         due: number + u64::from(lag),
         number,
         from,
@@ -162,7 +162,7 @@ impl Traffic {
             self.calls.push_reserved(LogEntry::Idle { at });
             return Taken::Nothing;
         };
-        let Delivery { from, bytes, .. } = next;
+        let Arrival { from, bytes, .. } = next;
         let len = bytes.as_slice().len();
         put_front(room, bytes.as_slice());
         self.calls.push_reserved(LogEntry::Got { at, from, bytes });
@@ -172,7 +172,7 @@ impl Traffic {
     /// The successful calls since the network was opened. Each take among them gave what was due.
     pub fn calls(&self) -> &[LogEntry]
         ensures calls { result.now ≡ self.now.calls }
-        ensures given { Delivers self.now.opening [] self.now.calls }
+        ensures given { GivesDue self.now.opening [] self.now.calls }
     {
         self.calls.as_slice()
     }

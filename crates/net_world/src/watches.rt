@@ -5,8 +5,8 @@ ghost use Rattle.std.specs.List.{All};
 ghost use Rattle.std.specs.Option.{option_map};
 ghost use Rattle.dcp_net.specs.Firsts.{first_that};
 ghost use Rattle.net_world.specs.Lines.{end_named, type_named, nth_named};
-ghost use Rattle.net_world.specs.Messages.{is_end, is_of};
-ghost use Rattle.net_world.specs.Watches.{counted, fresh, line_of, watch_names};
+ghost use Rattle.net_world.specs.Messages.{is_end, is_from_end};
+ghost use Rattle.net_world.specs.Watches.{watch_counted, unseen, line_watched, watch_names};
 
 use dcp_types::Address;
 use scenario::NetLine;
@@ -59,30 +59,30 @@ fn is_end(all: &[Address], end: u8, from: Address) -> bool
 }
 
 /// Whether the message has the end and the type code that the line names.
-fn is_of(line: NetLine, all: &[Address], from: Address, bytes: &[u8]) -> bool
+fn is_from_end(line: NetLine, all: &[Address], from: Address, bytes: &[u8]) -> bool
     requires { 1 ≤ length bytes.now }
-    ensures { result ≡ is_of all.now (end_named line) (type_named line) from bytes.now }
+    ensures { result ≡ is_from_end all.now (end_named line) (type_named line) from bytes.now }
 {
     let subject = subject_of(line);
     is_end(all, subject.end, from) && bytes[0] == subject.type_id
 }
 
 /// Whether the line names the message that is sent now.
-fn names(watch: Watch, all: &[Address], from: Address, bytes: &[u8]) -> bool
+fn line_names(watch: Watch, all: &[Address], from: Address, bytes: &[u8]) -> bool
     requires { 1 ≤ length bytes.now }
     ensures { result ≡ watch_names all.now from bytes.now watch }
 {
     let nth = subject_of(watch.line).nth;
-    is_of(watch.line, all, from, bytes) && (nth == 0 || watch.seen == u64::from(nth - 1))
+    is_from_end(watch.line, all, from, bytes) && (nth == 0 || watch.seen == u64::from(nth - 1))
 }
 
 /// The line that applies to the message that is sent now: the first that names it.
 pub fn line_for(watches: &[Watch], all: &[Address], from: Address, bytes: &[u8]) -> Option<NetLine>
     requires { 1 ≤ length bytes.now }
-    ensures { result ≡ option_map line_of (first_that (watch_names all.now from bytes.now) watches.now) }
+    ensures { result ≡ option_map line_watched (first_that (watch_names all.now from bytes.now) watches.now) }
 {
     for watch in watches {
-        if names(*watch, all, from, bytes) {
+        if line_names(*watch, all, from, bytes) {
             return Some(watch.line);
         }
     }
@@ -90,12 +90,12 @@ pub fn line_for(watches: &[Watch], all: &[Address], from: Address, bytes: &[u8])
 }
 
 /// The line with the message counted that is sent now.
-fn counted(watch: Watch, all: &[Address], from: Address, bytes: &[u8]) -> Watch
+fn watch_counted(watch: Watch, all: &[Address], from: Address, bytes: &[u8]) -> Watch
     requires filled { 1 ≤ length bytes.now }
     requires few { watch.seen + 1 < 2 ^ 64 }
-    ensures { result ≡ counted all.now from bytes.now watch }
+    ensures { result ≡ watch_counted all.now from bytes.now watch }
 {
-    if is_of(watch.line, all, from, bytes) {
+    if is_from_end(watch.line, all, from, bytes) {
         return Watch {
             line: watch.line,
             seen: watch.seen + 1,
@@ -108,16 +108,16 @@ fn counted(watch: Watch, all: &[Address], from: Address, bytes: &[u8]) -> Watch
 pub fn count(watches: &mut [Watch], all: &[Address], from: Address, bytes: &[u8])
     requires filled { 1 ≤ length bytes.now }
     requires few { All (λ watch. watch.seen + 1 < 2 ^ 64) watches.old }
-    ensures { watches.new ≡ map (counted all.now from bytes.now) watches.old }
+    ensures { watches.new ≡ map (watch_counted all.now from bytes.now) watches.old }
 {
     for watch in watches.iter_mut() {
-        *watch = counted(*watch, all, from, bytes);
+        *watch = watch_counted(*watch, all, from, bytes);
     }
 }
 
 /// The lines of a plan, before any message.
 pub fn watched(alloc: Global, lines: &[NetLine]) -> Result<Vec<Watch>, AllocError>
-    ensures { IfOk result (λ watches. watches.items ≡ map fresh lines.now) }
+    ensures { IfOk result (λ watches. watches.items ≡ map unseen lines.now) }
 {
     let mut watches = Vec::with_capacity(alloc, lines.len())?;
     for line in lines {

@@ -7,7 +7,7 @@ use Rattle.dcp_types.specs.declared.addresses.Address.{Address}
 use Rattle.dcp_ends.specs.declared.entries.LogEntry.{LogEntry}
 use Rattle.dcp_ends.specs.Events.{Event, Rules}
 use Rattle.dcp_ends.specs.Logs.{same_address}
-use Rattle.rounds.specs.Rounds.{Each, EachPart, IfFirst, IsLook, IsLookPart, IsTurn, IsTurnPart, IsLooks, IsLooksPart, IsTurns, IsTurnsPart, IsRound, IsRoundPart, hosted, has_report, places_of}
+use Rattle.rounds.specs.Rounds.{EachEnd, EachPart, IfFirst, IsLook, IsLookPart, IsTurn, IsTurnPart, IsLooks, IsLooksPart, IsTurns, IsTurnsPart, IsRound, IsRoundPart, hosted, has_report, places_of}
 use Rattle.rounds.specs.Steps.{Part}
 use Rattle.rounds.specs.Told.{IsTold, IsCut, Apart, AllTold, AllCut}
 use Rattle.rounds.proofs.Parts.{Added-join}
@@ -21,7 +21,7 @@ Apart-rest (Some m) slaves apart = λ j k d lj lk ne. apart (suc j) (suc k) d (o
 
 -- a part of ends that are all elsewhere
 module _ (Form : Address → List LogEntry → Type 0) (silent : IsSilent Form) (a : Address) where
-  pub Each-silent : (slaves : List Rules) (p : List LogEntry) → ((k : ℕ) (d : Rules) → k < length slaves → same_address a (get_or slaves k d).place ≡ false) → Each Form (places_of slaves) p → Silent a p
+  pub Each-silent : (slaves : List Rules) (p : List LogEntry) → ((k : ℕ) (d : Rules) → k < length slaves → same_address a (get_or slaves k d).place ≡ false) → EachEnd Form (places_of slaves) p → Silent a p
   Each-silent [] p far none = rw none (Silent-nil a)
   Each-silent (r ∷ slaves) p far each =
       rw each.2 (Silent-append a each.0 each.1 (silent a r.place (far 0 r (omega arith)) each.0 each.3)
@@ -55,7 +55,7 @@ module _ {E : Type 0} (stands : E → List Event → Type 0) (rules : E → Rule
 
   -- what the slaves do tells nothing of the master's end
   pub first_told : (Form : Address → List LogEntry → Type 0) → IsSilent Form → (master : Option E) (slaves : List Rules) (p : List LogEntry) → Apart (hosted (option_map rules master) slaves)
-      → Each Form (places_of slaves) p → IfSome master (λ end. IsTold stands (rules end) end log) → IfSome master (λ end. IsTold stands (rules end) end (log ++ p))
+      → EachEnd Form (places_of slaves) p → IfSome master (λ end. IsTold stands (rules end) end log) → IfSome master (λ end. IsTold stands (rules end) end (log ++ p))
   first_told Form silent None slaves p apart each told = told
   first_told Form silent (Some end) slaves p apart each told =
       IsTold-silent stands _ end log p (Each-silent Form silent _ slaves p (λ k d lt. apart 0 (suc k) d (omega arith) (omega arith) (omega arith)) each) told
@@ -68,7 +68,7 @@ module _ {E : Type 0} (stands : E → List Event → Type 0) (rules : E → Rule
       IsTold-silent stands _ end log p (EachPart-silent Form silent _ Cut cut_silent slaves p (λ k d lt. apart 0 (suc k) d (omega arith) (omega arith) (omega arith)) each) told
 
 module _ {N : Type 0} (calls : N → Option (List LogEntry)) (master : Option Rules) (slaves : List Rules) (a b c : N) (l m n : List LogEntry) where
-  pub looks_all : Part calls (IfFirst IsLook master) a b l m → Part calls (Each IsLook (places_of slaves)) b c m n → Part calls (IsLooks master slaves) a c l n
+  pub looks_all : Part calls (IfFirst IsLook master) a b l m → Part calls (EachEnd IsLook (places_of slaves)) b c m n → Part calls (IsLooks master slaves) a c l n
   looks_all f s = record {
     part = f.part ++ s.part;
     form = record { first = f.part; rest = s.part; form = refl; own = f.form; others = s.form };
@@ -91,7 +91,7 @@ looks_stopped_first calls master slaves a b l m f = record {
 }
 
 module _ (master : Option Rules) (log : List LogEntry) where
-  pub has_report-others : (Form : Address → List LogEntry → Type 0) → IsSilent Form → (slaves : List Rules) (p : List LogEntry) → Apart (hosted master slaves) → Each Form (places_of slaves) p
+  pub has_report-others : (Form : Address → List LogEntry → Type 0) → IsSilent Form → (slaves : List Rules) (p : List LogEntry) → Apart (hosted master slaves) → EachEnd Form (places_of slaves) p
       → has_report master (log ++ p) ≡ has_report master log
   has_report-others Form silent slaves p apart each = of_master master apart where
     of_master : (m : Option Rules) → Apart (hosted m slaves) → has_report m (log ++ p) ≡ has_report m log
@@ -114,7 +114,7 @@ module _ {N : Type 0} (calls : N → Option (List LogEntry)) (master : Option Ru
   }
 
   module _ (c : N) (n : List LogEntry) (report : has_report master m ≡ false) (f : Part calls (IfFirst IsTurn master) a b l m) where
-    pub turns_all : Part calls (Each IsTurn (places_of slaves)) b c m n → Part calls (IsTurns master slaves l) a c l n
+    pub turns_all : Part calls (EachEnd IsTurn (places_of slaves)) b c m n → Part calls (IsTurns master slaves l) a c l n
     turns_all s = record {
       part = f.part ++ s.part;
       form = record { first = f.part; rest = s.part; form = refl; own = f.form; others = rw (← f.added.log, report) s.form };

@@ -10,7 +10,7 @@ use Rattle.dcp_ends.specs.declared.entries.LogEntry.{LogEntry}
 use Rattle.dcp_ends.specs.declared.entries.LogEntry.TheVariants.{Sent, Got, Idle, Turn}
 use Rattle.dcp_ends.specs.Events.{Event, Rules}
 use Rattle.dcp_ends.specs.Logs.{same_address, events_at, own_at, answered}
-use Rattle.rounds.specs.Rounds.{AllSent, Gots, IsGot, IsLook, IsLookPart, IsTurn, IsTurnPart, Each, EachPart}
+use Rattle.rounds.specs.Rounds.{AllSent, Gots, IsGot, IsLook, IsLookPart, IsTurn, IsTurnPart, EachEnd, EachPart}
 use Rattle.rounds.specs.Told.{IsTold, Apart}
 use Rattle.rounds.proofs.Logs.{events_at-append, own_at-append}
 
@@ -104,18 +104,18 @@ module _ {E : Type 0} (rules : E → Rules) (ends : List E) (i : ℕ) (w y : E) 
       ]
 
 module _ (Form Cut : Address → List LogEntry → Type 0) where
-  pub Each-append : (places more : List Address) (p q : List LogEntry) → Each Form places p → Each Form more q → Each Form (places ++ more) (p ++ q)
+  pub Each-append : (places more : List Address) (p q : List LogEntry) → EachEnd Form places p → EachEnd Form more q → EachEnd Form (places ++ more) (p ++ q)
   Each-append [] more p q none rest = rw none rest
   Each-append (a ∷ places) more p q each rest =
       (each.0, each.1 ++ q, ap (λ xs. xs ++ q) each.2 ∙ append_assoc each.0 each.1 q, each.3, Each-append places more each.1 q each.4 rest)
 
-  pub Each-one : (a : Address) (p : List LogEntry) → Form a p → Each Form (a ∷ []) p
+  pub Each-one : (a : Address) (p : List LogEntry) → Form a p → EachEnd Form (a ∷ []) p
   Each-one a p form = (p, [], sym (append-nil p), form, refl)
 
-  pub Each-more : (places : List Address) (i : ℕ) (d : Address) (p q : List LogEntry) → i < length places → Each Form (take i places) p → Form (get_or places i d) q → Each Form (take (i + 1) places) (p ++ q)
+  pub Each-more : (places : List Address) (i : ℕ) (d : Address) (p q : List LogEntry) → i < length places → EachEnd Form (take i places) p → Form (get_or places i d) q → EachEnd Form (take (i + 1) places) (p ++ q)
   Each-more places i d p q here each form = rw (take_more places i d here) (Each-append (take i places) _ p q each (Each-one _ q form))
 
-  pub EachPart-here : (places : List Address) (i : ℕ) (d : Address) (p q : List LogEntry) → i < length places → Each Form (take i places) p → Cut (get_or places i d) q → EachPart Form Cut places (p ++ q)
+  pub EachPart-here : (places : List Address) (i : ℕ) (d : Address) (p q : List LogEntry) → i < length places → EachEnd Form (take i places) p → Cut (get_or places i d) q → EachPart Form Cut places (p ++ q)
   EachPart-here [] i d p q here each cut = absurd (omega arith)
   EachPart-here (a ∷ places) zero d p q here none cut = rw none (inl cut)
   EachPart-here (a ∷ places) (suc i) d p q here each cut =

@@ -5,7 +5,7 @@ use Rattle.dcp_types.specs.declared.addresses.Address.{Address}
 use Rattle.dcp_ends.specs.declared.entries.LogEntry.{LogEntry}
 use Rattle.dcp_ends.specs.declared.entries.LogEntry.TheVariants.{Idle, Turn}
 use Rattle.dcp_ends.specs.Events.{Rules}
-use Rattle.rounds.specs.Rounds.{Each, EachPart, IfFirst, IsLook, IsLookPart, IsTurn, IsTurnPart, IsLooks, IsLooksPart, IsTurns, IsTurnsPart, IsRound, IsRoundPart, has_report, places_of}
+use Rattle.rounds.specs.Rounds.{EachEnd, EachPart, IfFirst, IsLook, IsLookPart, IsTurn, IsTurnPart, IsLooks, IsLooksPart, IsTurns, IsTurnsPart, IsRound, IsRoundPart, has_report, places_of}
 use Rattle.rounds.proofs.Others.{at_most}
 
 -- it can go on so that it has this form
@@ -26,14 +26,14 @@ turn_begins a part (inl none) = (Turn a ∷ [], rw none (record { sents = []; fo
 turn_begins a part (inr turn) = whole (IsTurn a) part turn
 
 module _ (Form Cut : Address → List LogEntry → Type 0) (goes_on : (a : Address) (part : List LogEntry) → Cut a part → Begins (Form a) part) (fresh : (a : Address) → Cut a []) where
-  pub each_fresh : (places : List Address) → (part : List LogEntry) × Each Form places part
+  pub each_fresh : (places : List Address) → (part : List LogEntry) × EachEnd Form places part
   each_fresh [] = ([], refl)
   each_fresh (a ∷ places) =
       let one = goes_on a [] (fresh a) in
       let rest = each_fresh places in
       (one.0 ++ rest.0, (one.0, rest.0, refl, one.1, rest.1))
 
-  pub each_begins : (places : List Address) (part : List LogEntry) → EachPart Form Cut places part → Begins (Each Form places) part
+  pub each_begins : (places : List Address) (part : List LogEntry) → EachPart Form Cut places part → Begins (EachEnd Form places) part
   each_begins [] part none = absurd none
   each_begins (a ∷ places) part (inl cut) =
       let one = goes_on a part cut in
@@ -72,7 +72,7 @@ module _ (master : Option Rules) (slaves : List Rules) where
   looks_begin part cut = looks_stop part cut.first cut.rest cut.form cut.stop
 
   -- the others' turns, if the master has no report
-  others : (report : Bool) → (rest : List LogEntry) × MatchBool report (rest ≡ []) (Each IsTurn (places_of slaves) rest)
+  others : (report : Bool) → (rest : List LogEntry) × MatchBool report (rest ≡ []) (EachEnd IsTurn (places_of slaves) rest)
   others true = ([], refl)
   others false = each_fresh IsTurn IsTurnPart turn_begins turn_fresh (places_of slaves)
 

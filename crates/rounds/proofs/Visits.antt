@@ -7,7 +7,7 @@ use Rattle.dcp_types.specs.declared.addresses.Address.{Address}
 use Rattle.dcp_ends.specs.declared.entries.LogEntry.{LogEntry}
 use Rattle.dcp_ends.specs.Events.{Event, Send, Rules}
 use Rattle.dcp_ends.specs.Logs.{same_address}
-use Rattle.rounds.specs.Rounds.{Each, EachPart, places_of}
+use Rattle.rounds.specs.Rounds.{EachEnd, EachPart, places_of}
 use Rattle.rounds.specs.Steps.{Part}
 use Rattle.rounds.specs.Told.{IsTold, IsCut, Apart, AllTold, AllCut}
 use Rattle.rounds.proofs.Parts.{Added-join}
@@ -45,15 +45,15 @@ module _ {E N : Type 0} (stands : E → List Event → Type 0) (rules : E → Ru
   within : i < length (places_of (map rules first))
   within = rw (length-map, ← same, length-map) here
 
-  pub visited_each : (Form : Address → List LogEntry → Type 0) → Part calls (Each Form (take i (places_of (map rules first)))) a b l m → Part calls (Form (rules (get_or ends i w)).place) b c m n
-      → Part calls (Each Form (take (i + 1) (places_of (map rules first)))) a c l n
+  pub visited_each : (Form : Address → List LogEntry → Type 0) → Part calls (EachEnd Form (take i (places_of (map rules first)))) a b l m → Part calls (Form (rules (get_or ends i w)).place) b c m n
+      → Part calls (EachEnd Form (take (i + 1) (places_of (map rules first)))) a c l n
   visited_each Form so_far part = record {
     part = so_far.part ++ part.part;
     form = Each-more Form Form (places_of (map rules first)) i (rules w).place so_far.part part.part within so_far.form (rw place_here part.form);
     added = Added-join calls a b c l m n so_far.part part.part so_far.added part.added;
   }
 
-  pub visited_part : (Form Cut : Address → List LogEntry → Type 0) → Part calls (Each Form (take i (places_of (map rules first)))) a b l m → Part calls (Cut (rules (get_or ends i w)).place) b c m n
+  pub visited_part : (Form Cut : Address → List LogEntry → Type 0) → Part calls (EachEnd Form (take i (places_of (map rules first)))) a b l m → Part calls (Cut (rules (get_or ends i w)).place) b c m n
       → Part calls (EachPart Form Cut (places_of (map rules first))) a c l n
   visited_part Form Cut so_far part = record {
     part = so_far.part ++ part.part;

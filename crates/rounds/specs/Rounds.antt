@@ -55,9 +55,9 @@ abbrev pub IsLookPart : Address → List LogEntry → Type 0
 IsLookPart a part = (count : ℕ) × (count ≤ 64) × Gots a count part
 
 -- a part of this form for each of these ends, in order
-abbrev pub Each : (Address → List LogEntry → Type 0) → List Address → List LogEntry → Type 0
-Each Form [] part = part ≡ []
-Each Form (a ∷ places) part = (first : List LogEntry) × (rest : List LogEntry) × (part ≡ first ++ rest) × Form a first × Each Form places rest
+abbrev pub EachEnd : (Address → List LogEntry → Type 0) → List Address → List LogEntry → Type 0
+EachEnd Form [] part = part ≡ []
+EachEnd Form (a ∷ places) part = (first : List LogEntry) × (rest : List LogEntry) × (part ≡ first ++ rest) × Form a first × EachEnd Form places rest
 
 -- the same, stopped at one of them
 abbrev pub EachPart : (Address → List LogEntry → Type 0) → (Address → List LogEntry → Type 0) → List Address → List LogEntry → Type 0
@@ -89,7 +89,7 @@ pub record IsLooks (master : Option Rules) (slaves : List Rules) (part : List Lo
   pub rest : List LogEntry
   pub form : part ≡ first ++ rest
   pub own : IfFirst IsLook master first
-  pub others : Each IsLook (places_of slaves) rest
+  pub others : EachEnd IsLook (places_of slaves) rest
 
 -- the second part after this log: a turn of each end, but of none after the master's where that gave its report
 pub record IsTurns (master : Option Rules) (slaves : List Rules) (log part : List LogEntry) : Type 0 where
@@ -97,7 +97,7 @@ pub record IsTurns (master : Option Rules) (slaves : List Rules) (log part : Lis
   pub rest : List LogEntry
   pub form : part ≡ first ++ rest
   pub own : IfFirst IsTurn master first
-  pub others : MatchBool (has_report master (log ++ first)) (rest ≡ []) (Each IsTurn (places_of slaves) rest)
+  pub others : MatchBool (has_report master (log ++ first)) (rest ≡ []) (EachEnd IsTurn (places_of slaves) rest)
 
 -- a round after this log: the looks and then the turns
 pub record IsRound (master : Option Rules) (slaves : List Rules) (log part : List LogEntry) : Type 0 where

@@ -6,7 +6,7 @@ ghost use Rattle.std.specs.Option.{option_map};
 ghost use Rattle.dcp_ends.specs.Events.{Rules};
 ghost use Rattle.dcp_ends.specs.declared.entries.LogEntry.{LogEntry};
 ghost use Rattle.rounds.specs.Steps.{Added, Caused, Part};
-ghost use Rattle.rounds.specs.Rounds.{IsLook, IsLookPart, IsTurn, IsTurnPart, Each, EachPart, IfFirst, IsLooks, IsLooksPart, IsTurns, IsTurnsPart, IsRound, IsRoundPart, hosted, has_report, places_of};
+ghost use Rattle.rounds.specs.Rounds.{IsLook, IsLookPart, IsTurn, IsTurnPart, EachEnd, EachPart, IfFirst, IsLooks, IsLooksPart, IsTurns, IsTurnsPart, IsRound, IsRoundPart, hosted, has_report, places_of};
 ghost use Rattle.rounds.specs.Told.{IsTold, IsCut, AllTold, AllCut, Apart};
 
 use crate::one_end::{HostFault, look, turn};
@@ -33,7 +33,7 @@ fn look_each<E: Seat, N: Net>(
     ensures quiet { OnOk result (All (λ end. E.outs end ≡ []) ends.new) }
     ensures told { OnOk result (AllTold E.stands E.rules ends.new log.new.items) }
     ensures cut { OnErr result (AllCut E.stands E.rules ends.new log.new.items) }
-    ensures ok { OnOk result (Part N.calls (Each IsLook (places_of (map E.rules ends.old))) net.old net.new log.old.items log.new.items) }
+    ensures ok { OnOk result (Part N.calls (EachEnd IsLook (places_of (map E.rules ends.old))) net.old net.new log.old.items log.new.items) }
     ensures err { OnErr result (Part N.calls (EachPart IsLook IsLookPart (places_of (map E.rules ends.old))) net.old net.new log.old.items log.new.items) }
     ensures cause { Caused (N.count net.old) (N.count net.new) result }
 {
@@ -59,7 +59,7 @@ fn turn_each<E: Seat, N: Net>(
     ensures quiet { OnOk result (All (λ end. E.outs end ≡ []) ends.new) }
     ensures told { OnOk result (AllTold E.stands E.rules ends.new log.new.items) }
     ensures cut { OnErr result (AllCut E.stands E.rules ends.new log.new.items) }
-    ensures ok { OnOk result (Part N.calls (Each IsTurn (places_of (map E.rules ends.old))) net.old net.new log.old.items log.new.items) }
+    ensures ok { OnOk result (Part N.calls (EachEnd IsTurn (places_of (map E.rules ends.old))) net.old net.new log.old.items log.new.items) }
     ensures err { OnErr result (Part N.calls (EachPart IsTurn IsTurnPart (places_of (map E.rules ends.old))) net.old net.new log.old.items log.new.items) }
     ensures cause { Caused (N.count net.old) (N.count net.new) result }
 {

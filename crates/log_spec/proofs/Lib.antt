@@ -1,0 +1,3 @@
+pub mod Channel
+pub mod Turned
+pub mod Moves
