@@ -1,7 +1,8 @@
 //! What follows of the spellings for all messages.
 
-ghost use Rattle.std.specs.Prelude.{◌≡◌, IfOk, IfErr};
+ghost use Rattle.std.specs.Prelude.{◌≡◌, IfOk, IfErr, take};
 ghost use Rattle.pdu_layout.specs.Message.{message_of, HasSpelling};
+ghost use Rattle.pdu_codec.specs.Refusals.{Refusal};
 ghost use Rattle.pdu_codec.specs.Laws.{MessagesDiffer, OneRefusal, ReadAsSpelled, SpelledOnce, SpellingSpells};
 
 use crate::faults::DecodeFault;
@@ -40,4 +41,14 @@ pub fn written_and_read<'a>(pdu: &Pdu<'_>, room: &'a mut [u8; 1024]) -> Result<P
 {
     let length = encode(pdu, room);
     decode(&room[..length])
+}
+
+/// Reads a message and writes it into the room: it has the same bytes. The answer is how many they are.
+pub fn read_and_written(bytes: &[u8], room: &mut [u8; 1024]) -> Result<usize, DecodeFault>
+    ensures same { IfOk result (λ n. take n room.new ≡ bytes.now) }
+    ensures err { IfErr result (λ fault. Refusal bytes.now fault.at fault.why) }
+{
+    let message = decode(bytes)?;
+    let length = encode(&message, room);
+    Ok(length)
 }

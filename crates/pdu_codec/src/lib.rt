@@ -17,7 +17,7 @@ mod walker;
 pub use faults::{DecodeFault, DecodeWhy};
 pub use from_bytes::decode;
 pub use laws::{
-    bytes_say_what_they_spell, messages_have_one_spelling, refusals_are_unique,
+    bytes_say_what_they_spell, messages_have_one_spelling, read_and_written, refusals_are_unique,
     spellings_are_one_to_one, written_and_read,
 };
 pub use reading::read;

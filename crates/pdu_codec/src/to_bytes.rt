@@ -14,7 +14,7 @@ ghost use Rattle.pdu_layout.specs.Ranges.{Fill};
 
 use byteorder::{BigEndian, ByteOrder, LittleEndian};
 use dcp_types::{DataType, put_value};
-use pdu_layout::{Field, FieldContent, FieldKind, Pdu, parts_of, type_from};
+use pdu_layout::{Field, FieldContent, FieldKind, Pdu, parts_of, type_after};
 
 fn put_u8(n: u8, room: &mut [u8]) -> usize
     requires { 1 ≤ length room.old }
@@ -169,7 +169,7 @@ pub fn put_message(
         let kind = fields[i].kind;
         let content = contents[i];
         let length = put_field_at(at, kind, last, content, room);
-        last = type_from(kind, last, content);
+        last = type_after(kind, last, content);
         at += length;
     }
     at

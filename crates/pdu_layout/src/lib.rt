@@ -39,7 +39,7 @@ pub use notices::{
     ntf_log, ntf_state_changed,
 };
 pub use questions::{INF_ERROR, INF_LOG, INF_STATE, inf_error, inf_log, inf_state};
-pub use ranges::{in_range, type_from};
+pub use ranges::{in_range, type_after};
 pub use state_requests::{
     STC_CONFIGURE, STC_DEREGISTER, STC_DO_STEP, STC_INITIALIZE, STC_PREPARE, STC_REGISTER,
     STC_RESET, STC_RUN, STC_SEND_OUTPUTS, STC_STOP, stc_configure, stc_deregister, stc_do_step,

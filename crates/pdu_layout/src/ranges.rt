@@ -98,7 +98,7 @@ fn named_type(content: FieldContent<'_>) -> DataType
 }
 
 /// The type that the fields after this one go by.
-pub fn type_from(kind: FieldKind, last: DataType, content: FieldContent<'_>) -> DataType
+pub fn type_after(kind: FieldKind, last: DataType, content: FieldContent<'_>) -> DataType
     requires { Fits kind (type_code last) (value_of content) }
     ensures { type_code result ≡ type_after kind (type_code last) (bytes_of kind (type_code last) (value_of content.entry)) }
 {
@@ -125,7 +125,7 @@ fn fit(fields: &[Field], contents: &[FieldContent<'_>]) -> bool
         if length > 1024 - at {
             return false;
         }
-        last = type_from(kind, last, content);
+        last = type_after(kind, last, content);
         at += length;
     }
     true

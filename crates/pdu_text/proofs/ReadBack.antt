@@ -68,6 +68,13 @@ found_in (r ∷ rows) code row e h =
     let t = and_both (is_told r) (list_all is_told rows) h in
     ⊎_elim (λ here. subst (λ (q : Row). (is_told q ≡ true) × (q.code ≡ code)) here.1 (t.0, eqb-true r.code code here.0)) (λ later. found_in rows code row later t.1) (picked (eqb r.code code) r row (row_in rows code) e)
 
+-- the name of a message names its type code
+pub named_back : (code : ℕ) (row : Row) → row_of code ≡ Some row → code_named row.name ≡ Some code
+named_back code row listed =
+    let f = found_in table code row listed table_told in
+    let t = and_both (is_plain row.name && list_all has_name row.fields) (is_code (code_named row.name) row.code) f.0 in
+    code_is (code_named row.name) row.code t.1 ∙ ap (λ k. Some k) f.1
+
 listed_row : (o : Option Row) (ks : List FieldKind) → kinds_in o ≡ Some ks → (row : Row) × (o ≡ Some row) × (kinds row.fields ≡ ks)
 listed_row None ks e = cc
 listed_row (Some row) ks e = (row, refl, cc)

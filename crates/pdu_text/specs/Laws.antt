@@ -1,6 +1,8 @@
 -- What reading, refusing and printing have in common.
-use Rattle.std.specs.Prelude.{◌≡◌, ◌⊎◌, ℕ, List}
+use Rattle.std.specs.Prelude.{◌≡◌, ◌⊎◌, ℕ, List, Some}
 use Rattle.pdu_layout.specs.Message.{Message, HasSpelling}
+use Rattle.pdu_layout.specs.Table.{Row, row_of}
+use Rattle.pdu_text.specs.Lines.{code_named}
 use Rattle.pdu_text.specs.Printed.{line_of}
 use Rattle.pdu_text.specs.Reading.{Reads}
 use Rattle.pdu_text.specs.Refusals.{Refused}
@@ -29,3 +31,7 @@ SpelledMessages = (text : List ℕ) (p : Message) → Reads text p → HasSpelli
 -- the line of a message that has a spelling reads as the message
 abbrev pub PrintedReads : Type 0
 PrintedReads = (p : Message) → HasSpelling p → Reads (line_of p) p
+
+-- the name of a message names its type code, so no two messages have one name
+abbrev pub NamesDiffer : Type 0
+NamesDiffer = (code : ℕ) (row : Row) → row_of code ≡ Some row → code_named row.name ≡ Some code

@@ -21,7 +21,7 @@ mod word_values;
 
 pub use contents::{Said, SaidMessage};
 pub use handing::{put_pdu_text, with_pdu_text};
-pub use laws::{printed_messages_read_back, texts_are_judged_once};
+pub use laws::{names_are_one_to_one, printed_messages_read_back, texts_are_judged_once};
 pub use print::print_pdu;
 pub use reasons::{PduTextRefused, PduTextWhy};
 pub use takers::PduTaker;

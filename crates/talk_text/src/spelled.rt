@@ -10,7 +10,7 @@ use crate::events::TalkEvent;
 use dcp_ends::Bytes;
 use pdu_codec::encode;
 use pdu_layout::Pdu;
-use pdu_text::{PduTaker, PduTextWhy, TextRefused, with_pdu_text};
+use pdu_text::{PduTaker, PduTextRefused, PduTextWhy, with_pdu_text};
 use std::alloc::Global;
 use std::marker::Model;
 use text_lines::{LineRefused, TextWhy};
@@ -93,7 +93,7 @@ pub(crate) fn message_event(alloc: Global, line: &[u8]) -> Result<TalkEvent, Lin
             let bytes = Bytes::copied(alloc, spelled.as_slice())?;
             Ok(TalkEvent::Message(bytes))
         }
-        Err(TextRefused::Line { why }) => Err(LineRefused::Why(why_of(why))),
-        Err(TextRefused::OutOfMemory) => Err(LineRefused::OutOfMemory),
+        Err(PduTextRefused::Line { why }) => Err(LineRefused::Why(why_of(why))),
+        Err(PduTextRefused::OutOfMemory) => Err(LineRefused::OutOfMemory),
     }
 }

@@ -11,7 +11,7 @@ use crate::said::{Said, Text};
 use crate::spellings::Spelling;
 use crate::statuses::Judgement;
 use dcp_types::OutOfMemory;
-use pdu_text::{TextRefused, with_pdu_text};
+use pdu_text::{PduTextRefused, with_pdu_text};
 use std::alloc::Global;
 
 /// The bytes of the message that the line says, or the first rule that it breaks.
@@ -24,8 +24,8 @@ pub fn say_encoded(alloc: Global, input: &[u8]) -> Result<Said, OutOfMemory>
     let mut spelling = Spelling::new();
     match with_pdu_text(alloc, input, &mut spelling) {
         Ok(()) => {}
-        Err(TextRefused::Line { why }) => return refuse_line(alloc, 1, why.word()),
-        Err(TextRefused::OutOfMemory) => return Err(OutOfMemory),
+        Err(PduTextRefused::Line { why }) => return refuse_line(alloc, 1, why.word()),
+        Err(PduTextRefused::OutOfMemory) => return Err(OutOfMemory),
     }
     let bytes = spelling.as_slice().to_vec(alloc)?;
     Ok(Said {

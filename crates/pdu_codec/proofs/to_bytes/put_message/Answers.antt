@@ -18,8 +18,8 @@ pub put_field_at-length-requires-clause-room : goal.put_field_at-length-requires
 put_field_at-length-requires-clause-room c =
     less c.loop-i.invariant.size (room_now (kinds_of c.args.fields.now) _ (type_code c.loop-i.last) c.loop-i.at c.loop-i.i c.args.code c.args.room.now c.loop-i.room _ _ (kinds_here c.args.fields.now c.loop-i.i _ c.loop-i-test.true) (values_here c.args.contents.now (length c.args.fields.now) c.loop-i.i _ c.requires.few c.loop-i-test.true) c.loop-i.invariant c.requires.fill)
 
-pub type_from-last-requires : goal.type_from-last-requires
-type_from-last-requires c = fits_now (kinds_of c.args.fields.now) _ (type_code c.loop-i.last) c.loop-i.at c.loop-i.i c.args.code c.args.room.now c.loop-i.room _ _ (kinds_here c.args.fields.now c.loop-i.i _ c.loop-i-test.true) (values_here c.args.contents.now (length c.args.fields.now) c.loop-i.i _ c.requires.few c.loop-i-test.true) c.loop-i.invariant c.requires.fill
+pub type_after-last-requires : goal.type_after-last-requires
+type_after-last-requires c = fits_now (kinds_of c.args.fields.now) _ (type_code c.loop-i.last) c.loop-i.at c.loop-i.i c.args.code c.args.room.now c.loop-i.room _ _ (kinds_here c.args.fields.now c.loop-i.i _ c.loop-i-test.true) (values_here c.args.contents.now (length c.args.fields.now) c.loop-i.i _ c.requires.few c.loop-i-test.true) c.loop-i.invariant c.requires.fill
 
 pub loop-i-preserved : goal.loop-i-preserved
-loop-i-preserved c = written_more (kinds_of c.args.fields.now) _ (type_code c.loop-i.last) c.loop-i.at c.loop-i.i c.args.code c.args.room.now c.loop-i.room _ _ (kinds_here c.args.fields.now c.loop-i.i _ c.loop-i-test.true) (values_here c.args.contents.now (length c.args.fields.now) c.loop-i.i _ c.requires.few c.loop-i-test.true) c.loop-i.invariant c.requires.fill (type_code c.type_from-last.result) c.put_field_at-length.result _ c.put_field_at-length.ensures.length c.type_from-last.ensures c.put_field_at-length.ensures.bytes
+loop-i-preserved c = written_more (kinds_of c.args.fields.now) _ (type_code c.loop-i.last) c.loop-i.at c.loop-i.i c.args.code c.args.room.now c.loop-i.room _ _ (kinds_here c.args.fields.now c.loop-i.i _ c.loop-i-test.true) (values_here c.args.contents.now (length c.args.fields.now) c.loop-i.i _ c.requires.few c.loop-i-test.true) c.loop-i.invariant c.requires.fill (type_code c.type_after-last.result) c.put_field_at-length.result _ c.put_field_at-length.ensures.length c.type_after-last.ensures c.put_field_at-length.ensures.bytes

@@ -18,4 +18,4 @@ returns-then-length-at c =
 pub loop-i-preserved : goal.loop-i-preserved
 loop-i-preserved c =
     let room : c.loop-i.at + c.content_length-length.result ≤ 1024 = omega (arith, c.if-length-at.false, c.loop-i.invariant.at_most) in
-    subst (λ (n : ℕ). Judged (kinds_of c.args.fields.now) (map value_of (take (length c.args.fields.now) c.args.contents.now)) (type_code c.type_from-last.result) (c.loop-i.at + n) (c.loop-i.i + 1)) (sym c.content_length-length.ensures) (judged_more (kinds_of c.args.fields.now) _ (type_code c.loop-i.last) c.loop-i.at c.loop-i.i _ _ (kinds_here c.args.fields.now c.loop-i.i _ c.loop-i-test.true) (values_here c.args.contents.now (length c.args.fields.now) c.loop-i.i _ c.requires c.loop-i-test.true) c.loop-i.invariant (type_code c.type_from-last.result) (MatchBool-at_true _ _ c.if-not-fits_field.false c.fits_field.ensures) c.type_from-last.ensures (subst (λ (n : ℕ). c.loop-i.at + n ≤ 1024) c.content_length-length.ensures room))
+    subst (λ (n : ℕ). Judged (kinds_of c.args.fields.now) (map value_of (take (length c.args.fields.now) c.args.contents.now)) (type_code c.type_after-last.result) (c.loop-i.at + n) (c.loop-i.i + 1)) (sym c.content_length-length.ensures) (judged_more (kinds_of c.args.fields.now) _ (type_code c.loop-i.last) c.loop-i.at c.loop-i.i _ _ (kinds_here c.args.fields.now c.loop-i.i _ c.loop-i-test.true) (values_here c.args.contents.now (length c.args.fields.now) c.loop-i.i _ c.requires c.loop-i-test.true) c.loop-i.invariant (type_code c.type_after-last.result) (MatchBool-at_true _ _ c.if-not-fits_field.false c.fits_field.ensures) c.type_after-last.ensures (subst (λ (n : ℕ). c.loop-i.at + n ≤ 1024) c.content_length-length.ensures room))
