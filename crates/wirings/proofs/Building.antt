@@ -11,7 +11,7 @@ use Rattle.pdu_layout.specs.declared.fields.FieldKind.TheVariants as kinds
 use Rattle.pdu_layout.specs.Fields.FieldValue.{Number, Bytes}
 use Rattle.pdu_layout.specs.Message.{Message, Spells, HasSpelling}
 use Rattle.pdu_layout.specs.Reading.{spelling}
-use Rattle.slave_desc.specs.declared.lists.Port.{Port}
+use Rattle.slave_desc.specs.declared.ports.Port.{Port}
 use Rattle.slave_wiring.specs.Refusals.{port_with}
 use Rattle.dcp_types.specs.declared.addresses.Address.{Address}
 use Rattle.slave_desc.specs.declared.descriptions.SlaveDesc.{SlaveDesc}

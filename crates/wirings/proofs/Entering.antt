@@ -12,9 +12,9 @@ use Rattle.dcp_types.specs.declared.error_codes.ErrorCode.TheVariants.{NotSuppor
 use Rattle.dcp_types.specs.Codes.{type_code}
 use Rattle.dcp_types.specs.Values.{width}
 use Rattle.pdu_layout.specs.declared.messages.Cfg.TheVariants as cfg
-use Rattle.slave_desc.specs.declared.lists.Port.{Port}
+use Rattle.slave_desc.specs.declared.ports.Port.{Port}
 use Rattle.slave_desc.specs.declared.descriptions.SlaveDesc.{SlaveDesc}
-use Rattle.slave_desc.specs.Reads.{AreApart}
+use Rattle.slave_desc.specs.Descriptions.{AreApart}
 use Rattle.slave_wiring.specs.Changes.{Change, Set, Restart, input, entries, has_id, ids, source, interval, base, put_ascending, vr_for}
 use Rattle.slave_wiring.specs.Refusals.{refusal, port_with, is_wired, unless}
 use Rattle.slave_wiring.specs.Payloads as payloads

@@ -10,7 +10,7 @@ use Rattle.dcp_types.specs.declared.data_types.DataType.TheVariants.{U8, U16, U3
 use Rattle.dcp_types.specs.Values.{width}
 use Rattle.pdu_layout.specs.declared.messages.Cfg.TheVariants as cfg
 use Rattle.pdu_layout.specs.Reading.{value_in}
-use Rattle.slave_desc.specs.declared.lists.Port.{Port}
+use Rattle.slave_desc.specs.declared.ports.Port.{Port}
 use Rattle.slave_desc.specs.declared.descriptions.SlaveDesc.{SlaveDesc}
 use Rattle.slave_wiring.specs.Changes.{Change, Set, Restart, input, entries, newest}
 use Rattle.slave_wiring.specs.Refusals.{port_with, is_wired}

@@ -16,9 +16,9 @@ use Rattle.dcp_types.specs.Values.{width}
 use Rattle.pdu_layout.specs.declared.messages.Cfg.{Cfg}
 use Rattle.pdu_layout.specs.declared.messages.Cfg.TheVariants as cfg
 use Rattle.pdu_layout.specs.declared.messages.NetInfo.{NetInfo}
-use Rattle.slave_desc.specs.declared.lists.Port.{Port}
+use Rattle.slave_desc.specs.declared.ports.Port.{Port}
 use Rattle.slave_desc.specs.declared.descriptions.SlaveDesc.{SlaveDesc}
-use Rattle.slave_desc.specs.Reads.{AreApart}
+use Rattle.slave_desc.specs.Descriptions.{AreApart}
 use Rattle.slave_wiring.specs.Changes.{Change, Set, Restart, input, entries, has_id, ids, source, interval, base, ordinal, in_run, put_ascending, vr_for, newest}
 use Rattle.slave_wiring.specs.Refusals.{refusal, port_with, is_wired, unless, is_transport}
 use Rattle.slave_wiring.specs.Payloads as payloads

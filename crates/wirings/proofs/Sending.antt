@@ -10,7 +10,7 @@ use Rattle.dcp_types.specs.declared.addresses.Address.{Address}
 use Rattle.dcp_types.specs.declared.error_codes.ErrorCode.{ErrorCode}
 use Rattle.dcp_types.specs.declared.error_codes.ErrorCode.TheVariants.{NotSupported, UnknownVr, TypeMismatch, Position}
 use Rattle.pdu_layout.specs.declared.messages.Cfg.TheVariants as cfg
-use Rattle.slave_desc.specs.declared.lists.Port.{Port}
+use Rattle.slave_desc.specs.declared.ports.Port.{Port}
 use Rattle.slave_desc.specs.declared.descriptions.SlaveDesc.{SlaveDesc}
 use Rattle.slave_wiring.specs.Changes.{Change, Set, Restart, Side, output, entries, has_id, ids, target, interval, base, put_ascending, vr_for}
 use Rattle.pdu_layout.specs.declared.messages.NetInfo.{NetInfo}

@@ -16,7 +16,7 @@ use Rattle.pdu_layout.specs.Reading.{number, value_in}
 use Rattle.wirings.specs.Receiving.{segment_value, value_after, input_restarted}
 use Rattle.wirings.specs.declared.tables.InputRow.{InputRow}
 use Rattle.wirings.specs.declared.tables.Segment.{Segment}
-use Rattle.fixed_models.specs.Answers.{IsInput}
+use Rattle.fixed_models.specs.Domains.{IsInput}
 
 count_most : (xs : List (Option Segment)) → count_by is_some xs ≤ length xs
 count_most [] = omega arith

@@ -5,9 +5,9 @@ use Rattle.dcp_types.specs.declared.data_types.DataType.{DataType}
 use Rattle.dcp_types.specs.declared.data_types.DataType.TheVariants.{I64}
 use Rattle.dcp_types.specs.Values.{width}
 use Rattle.pdu_layout.specs.Reading.{value_in}
-use Rattle.slave_desc.specs.declared.lists.Port.{Port}
+use Rattle.slave_desc.specs.declared.ports.Port.{Port}
 use Rattle.slave_desc.specs.declared.descriptions.SlaveDesc.{SlaveDesc}
-use Rattle.slave_desc.specs.Reads.{AreApart}
+use Rattle.slave_desc.specs.Descriptions.{AreApart}
 use Rattle.slave_wiring.specs.Changes.{Change, input, entries, has_id, ids, source, interval, base}
 use Rattle.slave_wiring.specs.Refusals.{port_with}
 use Rattle.slave_wiring.specs.Payloads.{Wires, Kept, Spot, kind_of, input_types, kept_under, is_address, spot, inputs}

@@ -2,11 +2,11 @@
 
 ghost use Rattle.std.specs.Prelude.{◌≡◌, ◌≤◌, ◌<◌, ◌/◌, ℕ, List, [], ◌∷◌, map, length, take, true, Some, None, is_some, slice_index_or, IfOk, MatchResult, All};
 ghost use Rattle.std.specs.List.{list_all};
-ghost use Rattle.fixed_models.specs.Answers.{IsInput};
+ghost use Rattle.fixed_models.specs.Domains.{IsInput};
 ghost use Rattle.dcp_types.specs.Codes.{type_code};
 ghost use Rattle.dcp_types.specs.declared.data_types.DataType.{DataType};
 ghost use Rattle.slave_desc.specs.declared.descriptions.SlaveDesc.{SlaveDesc};
-ghost use Rattle.slave_desc.specs.Reads.{AreApart};
+ghost use Rattle.slave_desc.specs.Descriptions.{AreApart};
 ghost use Rattle.slave_wiring.specs.Changes.{Change, Set, Restart, input, ids, has_id};
 ghost use Rattle.slave_wiring.specs.Refusals.{refusal, is_transport, port_with};
 ghost use Rattle.slave_wiring.specs.Payloads.{Wires, bare, set, brought, is_wanted, inputs, restarted};

@@ -1,7 +1,7 @@
 //! The values of inputs in payloads.
 
 ghost use Rattle.std.specs.Prelude.{◌≡◌, ◌+◌, ◌≤◌, ◌<◌, ◌/◌, ℕ, ℤ, Option, None, length, nat_le, slice_index_or, All};
-ghost use Rattle.fixed_models.specs.Answers.{IsInput};
+ghost use Rattle.fixed_models.specs.Domains.{IsInput};
 ghost use Rattle.wirings.specs.declared.tables.Segment.{Segment};
 ghost use Rattle.wirings.specs.Receiving.{segment_value, value_after, is_kept_for, wants};
 

@@ -1,7 +1,7 @@
 //! What is kept of the data ids of a slave.
 
 ghost use Rattle.std.specs.Prelude.{◌≡◌, ◌≤◌, ◌*◌, length, vec_capacity, All, count_by, is_some};
-ghost use Rattle.fixed_models.specs.Answers.{IsInput};
+ghost use Rattle.fixed_models.specs.Domains.{IsInput};
 
 use crate::data_ids::DataIds;
 use crate::places::Places;

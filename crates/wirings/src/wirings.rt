@@ -2,9 +2,9 @@
 
 ghost use Rattle.std.specs.Prelude.{◌≡◌, ◌==◌, ◌&&◌, ◌||◌, ◌≤◌, ℕ, nat_le, is_some, length, slice_get, Some, None, IfOk, IfSome, MatchResult, All};
 ghost use Rattle.std.specs.List.{list_all};
-ghost use Rattle.fixed_models.specs.Answers.{IsInput};
+ghost use Rattle.fixed_models.specs.Domains.{IsInput};
 ghost use Rattle.slave_desc.specs.declared.descriptions.SlaveDesc.{SlaveDesc};
-ghost use Rattle.slave_desc.specs.Reads.{AreApart};
+ghost use Rattle.slave_desc.specs.Descriptions.{AreApart};
 ghost use Rattle.slave_wiring.specs.Changes.{input, output, ids, has_id, is_due, complete};
 ghost use Rattle.slave_wiring.specs.Refusals.{refusal};
 ghost use Rattle.slave_wiring.specs.Payloads.{Wires, bare, set, restarted, is_wanted, brought, ready, inputs, IsBuilt};

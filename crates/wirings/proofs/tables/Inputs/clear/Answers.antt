@@ -1,5 +1,5 @@
 use Rattle.std.proofs.Common.{refl, ap, arith, length, List}
-use Rattle.slave_desc.specs.declared.lists.Port.{Port}
+use Rattle.slave_desc.specs.declared.ports.Port.{Port}
 use Rattle.wirings.proofs.Receiving.{bare_inputs}
 use Rattle.wirings.proofs.tables.Inputs.clear.Goals as goal
 
