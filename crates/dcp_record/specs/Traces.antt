@@ -14,15 +14,15 @@ abbrev pub payload_bytes : List ℕ → List ℕ
 payload_bytes bytes = to_le_bytes w16 (length bytes) ++ bytes
 
 -- the tag of its kind, and then its addresses and its bytes
-abbrev pub entry_bytes : LogEntry → List ℕ
-entry_bytes (Sent from to bytes) = (1 ∷ []) ++ address_bytes from ++ address_bytes to ++ payload_bytes bytes
-entry_bytes (Got at from bytes) = (2 ∷ []) ++ address_bytes at ++ address_bytes from ++ payload_bytes bytes
-entry_bytes (Idle at) = (3 ∷ []) ++ address_bytes at
-entry_bytes (Turn at) = (4 ∷ []) ++ address_bytes at
+abbrev pub log_entry_bytes : LogEntry → List ℕ
+log_entry_bytes (Sent from to bytes) = (1 ∷ []) ++ address_bytes from ++ address_bytes to ++ payload_bytes bytes
+log_entry_bytes (Got at from bytes) = (2 ∷ []) ++ address_bytes at ++ address_bytes from ++ payload_bytes bytes
+log_entry_bytes (Idle at) = (3 ∷ []) ++ address_bytes at
+log_entry_bytes (Turn at) = (4 ∷ []) ++ address_bytes at
 
 abbrev pub all_entry_bytes : List LogEntry → List ℕ
 all_entry_bytes [] = []
-all_entry_bytes (entry ∷ entries) = entry_bytes entry ++ all_entry_bytes entries
+all_entry_bytes (entry ∷ entries) = log_entry_bytes entry ++ all_entry_bytes entries
 
 -- the letters DCPR, the version 1, the hosted ends as bits, and the length of the scenario's text
 abbrev pub header_bytes : ℕ → ℕ → List ℕ

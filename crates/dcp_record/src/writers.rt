@@ -3,7 +3,7 @@
 ghost use Rattle.std.specs.Prelude.{◌≡◌, ◌≤◌, ◌<◌, ◌^◌, ◌∷◌, ◌++◌, [], length};
 ghost use Rattle.std.specs.List.{All};
 ghost use Rattle.dcp_record.specs.Puts.{Puts, Records};
-ghost use Rattle.dcp_record.specs.Traces.{IsInRange, address_bytes, all_entry_bytes, entry_bytes, header_bytes, payload_bytes, trace_bytes};
+ghost use Rattle.dcp_record.specs.Traces.{IsInRange, address_bytes, all_entry_bytes, log_entry_bytes, header_bytes, payload_bytes, trace_bytes};
 
 use byte_spool::{Delivery, Spool};
 use dcp_ends::LogEntry;
@@ -80,7 +80,7 @@ fn put_entries<K: Sink>(spool: &mut Spool, sink: &mut K, entries: &[LogEntry])
 /// Puts one entry: its tag, its addresses and its bytes.
 fn put_entry<K: Sink>(spool: &mut Spool, sink: &mut K, entry: &LogEntry)
     requires { IsInRange entry.now }
-    ensures { Puts (K.written sink.old) (K.written sink.new) (K.faults sink.old) (K.faults sink.new) spool.old spool.new (entry_bytes entry.now) }
+    ensures { Puts (K.written sink.old) (K.written sink.new) (K.faults sink.old) (K.faults sink.new) spool.old spool.new (log_entry_bytes entry.now) }
 {
     match entry {
         LogEntry::Sent { from, to, bytes } => {

@@ -5,11 +5,11 @@ use Rattle.std.proofs.lemmas.Bool.{eqb-true, eq-eqb, and_parts, and_from}
 use Rattle.std.proofs.lemmas.Bool.Decides.{nat_tests}
 use Rattle.std.proofs.lemmas.List.Elements.{filter_map-append}
 use Rattle.dcp_types.specs.declared.addresses.Address.{Address}
-use Rattle.log_spec.specs.Messages.{Note, Part, Request, Answer, Value, Else, answer_in}
-use Rattle.log_spec.specs.Channel.{changes, by_ordinal, IsRegular}
+use Rattle.log_spec.specs.Messages.{Note, Role, Request, Answer, Value, Else, answer_in}
+use Rattle.log_spec.specs.Channel.{number_changes, by_ordinal, IsRegularChannel}
 use Rattle.dcp_ends.specs.declared.entries.LogEntry.{LogEntry}
 use Rattle.dcp_ends.specs.declared.entries.LogEntry.TheVariants.{Sent, Got, Idle, Turn}
-use Rattle.log_spec.specs.Log.{Parties, same, heard, Channel, Requests, Answers, in_channel, sent_in, sends}
+use Rattle.log_spec.specs.Log.{Parties, same, role_heard, Channel, Requests, Answers, in_channel, sent_in, sends_in}
 use Rattle.log_spec.specs.Honest.{IsRepeatedNewest, MayStandNewest}
 use Rattle.log_spec.specs.Moves.{Move, Asks, Comes, Tells, Hears, Brings, Turns, Rests, Other, sent_move, got_move, move}
 use Rattle.log_spec.proofs.Channel.{IsAt, comes}
@@ -44,54 +44,54 @@ told f Other = None
 
 module _ (w : Parties) (s : ℕ) where
   -- a channel's send, by the move
-  requests_part : (from to : Address) (bytes : List ℕ) (k : Part) → in_channel w (Requests s) from to k ≡ asked (sent_move w s from to bytes k)
+  requests_part : (from to : Address) (bytes : List ℕ) (k : Role) → in_channel w (Requests s) from to k ≡ asked (sent_move w s from to bytes k)
   requests_part from to bytes k = grind (arith, nat_tests)
 
-  got_asked : (at from : Address) (k : Part) → None ≡ asked (got_move w s at from k)
+  got_asked : (at from : Address) (k : Role) → None ≡ asked (got_move w s at from k)
   got_asked at from k = grind (arith, nat_tests)
 
   pub requests_by_move : (e : LogEntry) → sent_in w (Requests s) e ≡ asked (move w s e)
-  requests_by_move (Sent from to bytes) = requests_part from to bytes (heard w bytes)
-  requests_by_move (Got at from bytes) = got_asked at from (heard w bytes)
+  requests_by_move (Sent from to bytes) = requests_part from to bytes (role_heard w bytes)
+  requests_by_move (Got at from bytes) = got_asked at from (role_heard w bytes)
   requests_by_move (Idle at) = grind arith
   requests_by_move (Turn at) = grind arith
 
-  answers_part : (from to : Address) (bytes : List ℕ) (k : Part) → heard w bytes ≡ k → in_channel w (Answers s) from to k ≡ told (λ b. answer_in (heard w b)) (sent_move w s from to bytes k)
+  answers_part : (from to : Address) (bytes : List ℕ) (k : Role) → role_heard w bytes ≡ k → in_channel w (Answers s) from to k ≡ told (λ b. answer_in (role_heard w b)) (sent_move w s from to bytes k)
   answers_part from to bytes (Request receiver n) e = by (same from w.master && same to (w.slave s)) (same from (w.slave s))
     where
-      by : (b c : Bool) → None ≡ told (λ b. answer_in (heard w b)) (if b then Asks n else (if c then Tells to bytes else Other))
+      by : (b c : Bool) → None ≡ told (λ b. answer_in (role_heard w b)) (if b then Asks n else (if c then Tells to bytes else Other))
       by true c = refl
       by false true = sym (ap answer_in e)
       by false false = refl
   answers_part from to bytes (Answer sender n) e = by (same from (w.slave s))
     where
-      by : (c : Bool) → (if c then Some n else None) ≡ told (λ b. answer_in (heard w b)) (if c then Tells to bytes else Other)
+      by : (c : Bool) → (if c then Some n else None) ≡ told (λ b. answer_in (role_heard w b)) (if c then Tells to bytes else Other)
       by true = sym (ap answer_in e)
       by false = refl
   answers_part from to bytes (Value id n) e = by (same from (w.slave s))
     where
-      by : (c : Bool) → None ≡ told (λ b. answer_in (heard w b)) (if c then Tells to bytes else Other)
+      by : (c : Bool) → None ≡ told (λ b. answer_in (role_heard w b)) (if c then Tells to bytes else Other)
       by true = sym (ap answer_in e)
       by false = refl
   answers_part from to bytes Else e = by (same from (w.slave s))
     where
-      by : (c : Bool) → None ≡ told (λ b. answer_in (heard w b)) (if c then Tells to bytes else Other)
+      by : (c : Bool) → None ≡ told (λ b. answer_in (role_heard w b)) (if c then Tells to bytes else Other)
       by true = sym (ap answer_in e)
       by false = refl
 
-  got_told : (f : List ℕ → Option Note) (at from : Address) (k : Part) → None ≡ told f (got_move w s at from k)
+  got_told : (f : List ℕ → Option Note) (at from : Address) (k : Role) → None ≡ told f (got_move w s at from k)
   got_told f at from k = grind (arith, nat_tests)
 
-  pub answers_by_move : (e : LogEntry) → sent_in w (Answers s) e ≡ told (λ b. answer_in (heard w b)) (move w s e)
-  answers_by_move (Sent from to bytes) = answers_part from to bytes (heard w bytes) refl
-  answers_by_move (Got at from bytes) = got_told (λ b. answer_in (heard w b)) at from (heard w bytes)
+  pub answers_by_move : (e : LogEntry) → sent_in w (Answers s) e ≡ told (λ b. answer_in (role_heard w b)) (move w s e)
+  answers_by_move (Sent from to bytes) = answers_part from to bytes (role_heard w bytes) refl
+  answers_by_move (Got at from bytes) = got_told (λ b. answer_in (role_heard w b)) at from (role_heard w bytes)
   answers_by_move (Idle at) = grind arith
   answers_by_move (Turn at) = grind arith
 
 -- a datagram that was read so comes, and repeats a Sent
-pub record Came (w : Parties) (log : List LogEntry) (at from : Address) (k : Part) : Type 0 where
+pub record Came (w : Parties) (log : List LogEntry) (at from : Address) (k : Role) : Type 0 where
   pub bytes : List ℕ
-  pub read : heard w bytes ≡ k
+  pub read : role_heard w bytes ≡ k
   pub repeated : IsRepeatedNewest w log at from bytes
 
 module _ (w : Parties) (s : ℕ) (log : List LogEntry) where
@@ -106,16 +106,16 @@ module _ (w : Parties) (s : ℕ) (log : List LogEntry) where
   MoveMay Rests = Unit {0}
   MoveMay Other = Unit {0}
 
-  sent_may : (from to : Address) (bytes : List ℕ) (k : Part) → MoveMay (sent_move w s from to bytes k)
+  sent_may : (from to : Address) (bytes : List ℕ) (k : Role) → MoveMay (sent_move w s from to bytes k)
   sent_may from to bytes k = grind (arith, nat_tests)
 
-  moved_at : (at at' from : Address) (k : Part) → at ≡ at' → Came w log at from k → Came w log at' from k
+  moved_at : (at at' from : Address) (k : Role) → at ≡ at' → Came w log at from k → Came w log at' from k
   moved_at at at' from k e c = let P : Address → Type 0 = λ a. Came w log a from k in subst P e c
 
-  moved_from : (at from from' : Address) (k : Part) → from ≡ from' → Came w log at from k → Came w log at from' k
+  moved_from : (at from from' : Address) (k : Role) → from ≡ from' → Came w log at from k → Came w log at from' k
   moved_from at from from' k e c = let P : Address → Type 0 = λ a. Came w log at a k in subst P e c
 
-  got_may : (at from : Address) (k : Part) → Came w log at from k → MoveMay (got_move w s at from k)
+  got_may : (at from : Address) (k : Role) → Came w log at from k → MoveMay (got_move w s at from k)
   got_may at from (Request receiver n) c = by (same at (w.slave s)) refl
     where
       by : (b : Bool) → same at (w.slave s) ≡ b → MoveMay (if b then Comes from receiver n else Other)
@@ -143,20 +143,20 @@ module _ (w : Parties) (s : ℕ) (log : List LogEntry) where
       by false = tt
 
   pub honest_move : (e : LogEntry) → MayStandNewest w e log → MoveMay (move w s e)
-  honest_move (Sent from to bytes) h = sent_may from to bytes (heard w bytes)
-  honest_move (Got at from bytes) h = got_may at from (heard w bytes) (record { bytes = bytes; read = refl; repeated = h })
+  honest_move (Sent from to bytes) h = sent_may from to bytes (role_heard w bytes)
+  honest_move (Got at from bytes) h = got_may at from (role_heard w bytes) (record { bytes = bytes; read = refl; repeated = h })
   honest_move (Idle at) h = grind arith
   honest_move (Turn at) h = grind arith
 
 module _ (w : Parties) where
   -- what comes in a channel is what stands at one of its last ordinals
-  pub comes_in : (c : Channel) (log : List LogEntry) (at from : Address) (k : Part) (n : Note) → in_channel w c from at k ≡ Some n → IsRegular (sends w c log) → Came w log at from k → IsAt (by_ordinal (sends w c log)) n
+  pub comes_in : (c : Channel) (log : List LogEntry) (at from : Address) (k : Role) (n : Note) → in_channel w c from at k ≡ Some n → IsRegularChannel (sends_in w c log) → Came w log at from k → IsAt (by_ordinal (sends_in w c log)) n
   comes_in c log at from k n here reg came =
       let rep = came.repeated in
       let s = Sent from at came.bytes in
       let in' : sent_in w c s ≡ Some n = ap (in_channel w c from at) came.read ∙ here in
-      let split : sends w c log ≡ sends w c rep.later ++ sends w c (s ∷ rep.earlier) = ap (sends w c) rep.is ∙ filter_map-append (sent_in w c) rep.later (s ∷ rep.earlier) in
-      let first : sends w c (s ∷ rep.earlier) ≡ n ∷ sends w c rep.earlier = rw in' refl in
-      let all : sends w c log ≡ sends w c rep.later ++ n ∷ sends w c rep.earlier = split ∙ ap (λ ns. sends w c rep.later ++ ns) first in
+      let split : sends_in w c log ≡ sends_in w c rep.later ++ sends_in w c (s ∷ rep.earlier) = ap (sends_in w c) rep.is ∙ filter_map-append (sent_in w c) rep.later (s ∷ rep.earlier) in
+      let first : sends_in w c (s ∷ rep.earlier) ≡ n ∷ sends_in w c rep.earlier = rw in' refl in
+      let all : sends_in w c log ≡ sends_in w c rep.later ++ n ∷ sends_in w c rep.earlier = split ∙ ap (λ ns. sends_in w c rep.later ++ ns) first in
       let P : List Note → Type 0 = λ ns. IsAt (by_ordinal ns) n in
-      subst P (sym all) (comes (sends w c rep.later) n (sends w c rep.earlier) (subst IsRegular all reg) (omega (arith, rep.young c n in', ap changes all, ap changes first)))
+      subst P (sym all) (comes (sends_in w c rep.later) n (sends_in w c rep.earlier) (subst IsRegularChannel all reg) (omega (arith, rep.young c n in', ap number_changes all, ap number_changes first)))

@@ -6,12 +6,12 @@ use Rattle.std.proofs.lemmas.List.{reverse-reverse, reverse-append, append-nil}
 use Rattle.std.proofs.lemmas.Grind.{reverse_onto}
 use Rattle.std.proofs.lemmas.List.Elements.{filter_map-append}
 use Rattle.std.proofs.lemmas.Bool.{eqb-true, eqb-false}
-use Rattle.log_spec.specs.Channel.{changes}
+use Rattle.log_spec.specs.Channel.{number_changes}
 use Rattle.dcp_types.specs.declared.addresses.Address.{Address}
 use Rattle.log_spec.specs.Messages.{Note}
 use Rattle.dcp_ends.specs.declared.entries.LogEntry.{LogEntry}
 use Rattle.dcp_ends.specs.declared.entries.LogEntry.TheVariants.{Sent, Got, Idle, Turn}
-use Rattle.log_spec.specs.Log.{Parties, Channel, sent_in, sends}
+use Rattle.log_spec.specs.Log.{Parties, Channel, sent_in, sends_in}
 use Rattle.log_spec.specs.Honest.{HonestNewest, IsRepeatedNewest, MayStandNewest}
 use Rattle.log_spec.specs.Oldest.{EachAfter, IsRepeated, MayStand, Honest}
 
@@ -43,34 +43,34 @@ add_step : (b : Bool) (c : ℕ) → (if b then c else (c + 1)) ≡ c + (if b the
 add_step true c = omega arith
 add_step false c = refl
 
-changes_is : (n k : Note) (ns : List Note) → changes (n ∷ k ∷ ns) ≡ changes (k ∷ ns) + step n k
-changes_is n k ns = add_step (n.number == k.number) (changes (k ∷ ns))
+changes_is : (n k : Note) (ns : List Note) → number_changes (n ∷ k ∷ ns) ≡ number_changes (k ∷ ns) + step n k
+changes_is n k ns = add_step (n.number == k.number) (number_changes (k ∷ ns))
 
-changes_two : (ns : List Note) (k n : Note) → changes (ns ++ k ∷ n ∷ []) ≡ changes (ns ++ k ∷ []) + step k n
+changes_two : (ns : List Note) (k n : Note) → number_changes (ns ++ k ∷ n ∷ []) ≡ number_changes (ns ++ k ∷ []) + step k n
 changes_two [] k n = changes_is k n []
 changes_two (a ∷ []) k n = omega (arith, changes_is a k (n ∷ []), changes_is a k [], changes_is k n [])
 changes_two (a ∷ b ∷ ns) k n = omega (arith, changes_is a b (ns ++ k ∷ n ∷ []), changes_is a b (ns ++ k ∷ []), changes_two (b ∷ ns) k n)
 
 -- as many changes either way
-pub changes_turned : (ns : List Note) → changes (reverse ns) ≡ changes ns
+pub changes_turned : (ns : List Note) → number_changes (reverse ns) ≡ number_changes ns
 changes_turned [] = refl
 changes_turned (n ∷ []) = refl
 changes_turned (n ∷ k ∷ ns) =
     let whole : reverse (n ∷ k ∷ ns) ≡ reverse ns ++ k ∷ n ∷ [] = reverse_onto ns k (n ∷ []) in
     let less : reverse (k ∷ ns) ≡ reverse ns ++ k ∷ [] = reverse_one k ns in
-    omega (arith, ap changes whole, ap changes less, changes_two (reverse ns) k n, changes_turned (k ∷ ns), changes_is n k ns, step_turned (n.number == k.number) (k.number == n.number) n.number k.number refl refl)
+    omega (arith, ap number_changes whole, ap number_changes less, changes_two (reverse ns) k n, changes_turned (k ∷ ns), changes_is n k ns, step_turned (n.number == k.number) (k.number == n.number) n.number k.number refl refl)
 
 one_turned : (o : Option Note) (ns : List Note) → reverse ns ++ cons_option o [] ≡ reverse (cons_option o ns)
 one_turned None ns = append-nil (reverse ns)
 one_turned (Some n) ns = sym (reverse_one n ns)
 
 module _ (w : Parties) where
-  sends_turned : (c : Channel) (xs : List LogEntry) → sends w c (reverse xs) ≡ reverse (sends w c xs)
+  sends_turned : (c : Channel) (xs : List LogEntry) → sends_in w c (reverse xs) ≡ reverse (sends_in w c xs)
   sends_turned c [] = refl
-  sends_turned c (e ∷ xs) = ap (sends w c) (reverse_one e xs) ∙ filter_map-append (sent_in w c) (reverse xs) (e ∷ []) ∙ ap (λ ns. ns ++ cons_option (sent_in w c e) []) (sends_turned c xs) ∙ one_turned (sent_in w c e) (sends w c xs)
+  sends_turned c (e ∷ xs) = ap (sends_in w c) (reverse_one e xs) ∙ filter_map-append (sent_in w c) (reverse xs) (e ∷ []) ∙ ap (λ ns. ns ++ cons_option (sent_in w c e) []) (sends_turned c xs) ∙ one_turned (sent_in w c e) (sends_in w c xs)
 
-  counts_turned : (c : Channel) (xs : List LogEntry) → changes (sends w c (reverse xs)) ≡ changes (sends w c xs)
-  counts_turned c xs = ap changes (sends_turned c xs) ∙ changes_turned (sends w c xs)
+  counts_turned : (c : Channel) (xs : List LogEntry) → number_changes (sends_in w c (reverse xs)) ≡ number_changes (sends_in w c xs)
+  counts_turned c xs = ap number_changes (sends_turned c xs) ∙ changes_turned (sends_in w c xs)
 
   repeated : (xs : List LogEntry) (at from : Address) (bytes : List ℕ) → IsRepeated w (reverse xs) at from bytes → IsRepeatedNewest w xs at from bytes
   repeated xs at from bytes r =
@@ -81,7 +81,7 @@ module _ (w : Parties) where
         later = reverse r.later;
         earlier = reverse r.earlier;
         is = is;
-        young = λ c n h. omega (arith, r.young c n h, counts_turned c xs, ap (λ l. changes (sends w c l)) before, counts_turned c (s ∷ reverse r.earlier));
+        young = λ c n h. omega (arith, r.young c n h, counts_turned c xs, ap (λ l. number_changes (sends_in w c l)) before, counts_turned c (s ∷ reverse r.earlier));
       }
 
   may_newest : (e : LogEntry) (xs : List LogEntry) → MayStand w e (reverse xs) → MayStandNewest w e xs

@@ -3,20 +3,20 @@ use Rattle.std.specs.Prelude.{◌≡◌, ℕ, ◌+◌, ◌%◌, ◌==◌, Bool, 
 use Rattle.log_spec.specs.Messages.{Note}
 
 -- the send has the number of the send before
-abbrev pub is_again : Note → List Note → Bool
-is_again n [] = false
-is_again n (before ∷ ns) = n.number == before.number
+abbrev pub repeats_number : Note → List Note → Bool
+repeats_number n [] = false
+repeats_number n (before ∷ ns) = n.number == before.number
 
 -- how many sends have a number that differs from that of the send before
-abbrev pub changes : List Note → ℕ
-changes [] = 0
-changes (n ∷ []) = 0
-changes (n ∷ before ∷ ns) = if n.number == before.number then changes (before ∷ ns) else changes (before ∷ ns) + 1
+abbrev pub number_changes : List Note → ℕ
+number_changes [] = 0
+number_changes (n ∷ []) = 0
+number_changes (n ∷ before ∷ ns) = if n.number == before.number then number_changes (before ∷ ns) else number_changes (before ∷ ns) + 1
 
 -- one send for each ordinal, the newest first
 abbrev pub by_ordinal : List Note → List Note
 by_ordinal [] = []
-by_ordinal (n ∷ ns) = if is_again n ns then by_ordinal ns else n ∷ by_ordinal ns
+by_ordinal (n ∷ ns) = if repeats_number n ns then by_ordinal ns else n ∷ by_ordinal ns
 
 -- what stands at this ordinal
 abbrev pub at_ordinal : {A : Type 0} → List A → ℕ → Option A
@@ -32,6 +32,6 @@ Repeats (r ∷ rs) n = n ≡ r
 abbrev pub MaySend : List Note → Note → Type 0
 MaySend rs n = Repeats rs n ⊎ (n.number ≡ length rs % 65536)
 
-abbrev pub IsRegular : List Note → Type 0
-IsRegular [] = Unit {0}
-IsRegular (n ∷ ns) = MaySend (by_ordinal ns) n × IsRegular ns
+abbrev pub IsRegularChannel : List Note → Type 0
+IsRegularChannel [] = Unit {0}
+IsRegularChannel (n ∷ ns) = MaySend (by_ordinal ns) n × IsRegularChannel ns

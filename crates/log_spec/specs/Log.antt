@@ -5,7 +5,7 @@ use Rattle.dcp_types.specs.declared.addresses.Address.{Address}
 use Rattle.dcp_ends.specs.declared.entries.LogEntry.{LogEntry}
 use Rattle.dcp_ends.specs.declared.entries.LogEntry.TheVariants.{Sent, Got, Idle, Turn}
 use Rattle.pdu_layout.specs.Message.{Message}
-use Rattle.log_spec.specs.Messages.{Note, Part, Request, Answer, Value, part_read}
+use Rattle.log_spec.specs.Messages.{Note, Role, Request, Answer, Value, role_read}
 use Rattle.log_spec.specs.Channel.{by_ordinal}
 
 -- the addresses are the same
@@ -19,16 +19,16 @@ pub record Parties : Type 0 where
   pub slave : ℕ → Address
   pub read : List ℕ → Option Message
 
-abbrev pub IsSlave : Parties → ℕ → Type 0
-IsSlave w s = (0 < s) × (s ≤ w.count)
+abbrev pub IsSlaveOf : Parties → ℕ → Type 0
+IsSlaveOf w s = (0 < s) × (s ≤ w.count)
 
 -- no two of them have the same address
-pub record AreApart (w : Parties) : Type 0 where
-  pub master : (s : ℕ) → IsSlave w s → w.slave s ≢ w.master
-  pub slaves : (s t : ℕ) → IsSlave w s → IsSlave w t → w.slave s ≡ w.slave t → s ≡ t
+pub record PartiesApart (w : Parties) : Type 0 where
+  pub master : (s : ℕ) → IsSlaveOf w s → w.slave s ≢ w.master
+  pub slaves : (s t : ℕ) → IsSlaveOf w s → IsSlaveOf w t → w.slave s ≡ w.slave t → s ≡ t
 
-abbrev pub heard : Parties → List ℕ → Part
-heard w bytes = part_read (w.read bytes)
+abbrev pub role_heard : Parties → List ℕ → Role
+role_heard w bytes = role_read (w.read bytes)
 
 -- the requests to a slave, its answers, or one data id
 pub data Channel : Type 0 where
@@ -37,42 +37,42 @@ pub data Channel : Type 0 where
   Values : (id : ℕ) → Channel
 
 -- what a datagram is in this channel
-abbrev pub in_channel : Parties → Channel → Address → Address → Part → Option Note
+abbrev pub in_channel : Parties → Channel → Address → Address → Role → Option Note
 in_channel w (Requests s) from to (Request receiver n) = if same from w.master && same to (w.slave s) then Some n else None
 in_channel w (Answers s) from to (Answer sender n) = if same from (w.slave s) then Some n else None
 in_channel w (Values id) from to (Value i n) = if i == id then Some n else None
 in_channel w _ from to _ = None
 
 abbrev pub sent_in : Parties → Channel → LogEntry → Option Note
-sent_in w c (Sent from to bytes) = in_channel w c from to (heard w bytes)
+sent_in w c (Sent from to bytes) = in_channel w c from to (role_heard w bytes)
 sent_in w c (Got at from bytes) = None
 sent_in w c (Idle at) = None
 sent_in w c (Turn at) = None
 
 -- what was sent in a channel, the newest first
-abbrev pub sends : Parties → Channel → List LogEntry → List Note
-sends w c log = filter_map (sent_in w c) log
+abbrev pub sends_in : Parties → Channel → List LogEntry → List Note
+sends_in w c log = filter_map (sent_in w c) log
 
 -- the requests to s, one for each ordinal, the newest first
-abbrev pub requests : Parties → ℕ → List LogEntry → List Note
-requests w s log = by_ordinal (sends w (Requests s) log)
+abbrev pub requests_sent : Parties → ℕ → List LogEntry → List Note
+requests_sent w s log = by_ordinal (sends_in w (Requests s) log)
 
 -- the answers of s, one for each ordinal
-abbrev pub answers : Parties → ℕ → List LogEntry → List Note
-answers w s log = by_ordinal (sends w (Answers s) log)
+abbrev pub answers_sent : Parties → ℕ → List LogEntry → List Note
+answers_sent w s log = by_ordinal (sends_in w (Answers s) log)
 
 -- the data messages of one id, one for each ordinal
-abbrev pub values : Parties → ℕ → List LogEntry → List Note
-values w id log = by_ordinal (sends w (Values id) log)
+abbrev pub values_sent : Parties → ℕ → List LogEntry → List Note
+values_sent w id log = by_ordinal (sends_in w (Values id) log)
 
 -- a request, and the answer to it
-pub record Exchange : Type 0 where
+pub record Decision : Type 0 where
   pub request : Note
   pub answer : Note
 
 -- each entry is at an end that takes part
 abbrev pub IsEnd : Parties → Address → Type 0
-IsEnd w a = (a ≡ w.master) ⊎ ((s : ℕ) × IsSlave w s × (a ≡ w.slave s))
+IsEnd w a = (a ≡ w.master) ⊎ ((s : ℕ) × IsSlaveOf w s × (a ≡ w.slave s))
 
 abbrev pub IsAtEnd : Parties → LogEntry → Type 0
 IsAtEnd w (Sent from to bytes) = IsEnd w from

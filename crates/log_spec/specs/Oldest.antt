@@ -2,10 +2,10 @@
 use Rattle.std.specs.Prelude.{◌≡◌, ℕ, ◌+◌, ◌≤◌, Some, List, [], ◌∷◌, ◌++◌}
 use Rattle.dcp_types.specs.declared.addresses.Address.{Address}
 use Rattle.log_spec.specs.Messages.{Note}
-use Rattle.log_spec.specs.Channel.{changes}
+use Rattle.log_spec.specs.Channel.{number_changes}
 use Rattle.dcp_ends.specs.declared.entries.LogEntry.{LogEntry}
 use Rattle.dcp_ends.specs.declared.entries.LogEntry.TheVariants.{Sent, Got, Idle, Turn}
-use Rattle.log_spec.specs.Log.{Parties, heard, Channel, in_channel, sends}
+use Rattle.log_spec.specs.Log.{Parties, role_heard, Channel, in_channel, sends_in}
 
 -- each entry of the log may stand after those before it
 abbrev pub EachAfter : (LogEntry → List LogEntry → Type 0) → List LogEntry → Type 0
@@ -16,7 +16,7 @@ pub record IsRepeated (w : Parties) (log : List LogEntry) (at from : Address) (b
   pub earlier : List LogEntry
   pub later : List LogEntry
   pub is : log ≡ earlier ++ Sent from at bytes ∷ later
-  pub young : (c : Channel) (n : Note) → in_channel w c from at (heard w bytes) ≡ Some n → changes (sends w c log) ≤ changes (sends w c (earlier ++ Sent from at bytes ∷ [])) + 32767
+  pub young : (c : Channel) (n : Note) → in_channel w c from at (role_heard w bytes) ≡ Some n → number_changes (sends_in w c log) ≤ number_changes (sends_in w c (earlier ++ Sent from at bytes ∷ [])) + 32767
 
 abbrev pub MayStand : Parties → LogEntry → List LogEntry → Type 0
 MayStand w (Sent from to bytes) log = Unit {0}

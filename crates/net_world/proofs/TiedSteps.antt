@@ -18,7 +18,7 @@ use Rattle.net_world.specs.declared.mailboxes.Mailbox.{Mailbox}
 use Rattle.net_world.specs.declared.watches.Watch.{Watch}
 use Rattle.net_world.specs.Chances.{after_steps, generator_at, lags_by_chance, after_draws}
 use Rattle.net_world.specs.Deliveries.{all_placed, delivery, due, is_due_now, is_ready_for, is_young, lags, lags_by, waiting}
-use Rattle.net_world.specs.Lines.{end_named, line_for, line_names, seen_by, type_named}
+use Rattle.net_world.specs.Lines.{end_named, line_for, line_names, seen_by, code_named}
 use Rattle.net_world.specs.Mailboxes.{queue_of}
 use Rattle.net_world.specs.Messages.{is_call_of, is_message, is_from_end, messages}
 use Rattle.net_world.specs.Queues.{AllShort, InOrder}
@@ -33,8 +33,8 @@ use Rattle.net_world.proofs.Kept.{Queues-later, Queues-sent, Queues-sent_other, 
 module _ (all : List Address) (calls : List LogEntry) (from to : Address) (bytes : List ℕ) where
   one_counted : (line : NetLine) → watch_counted all from bytes (watch_after all calls line) ≡ watch_after all (calls ++ Sent from to bytes ∷ []) line
   one_counted line =
-      let more = count_more (is_call_of all (end_named line) (type_named line)) calls (Sent from to bytes) in
-      elim (cases_Bool (is_from_end all (end_named line) (type_named line) from bytes)) [
+      let more = count_more (is_call_of all (end_named line) (code_named line)) calls (Sent from to bytes) in
+      elim (cases_Bool (is_from_end all (end_named line) (code_named line) from bytes)) [
         | inl named ↦ rw (more, named) refl
         | inr other ↦ rw (more, other, add-zero) refl
       ]
@@ -53,8 +53,8 @@ same_counts : (all : List Address) (calls : List LogEntry) (call : LogEntry) →
     → map (watch_after all calls) lines ≡ map (watch_after all (calls ++ call ∷ [])) lines
 same_counts all calls call none [] = refl
 same_counts all calls call none (line ∷ lines) =
-    let more = count_more (is_call_of all (end_named line) (type_named line)) calls call in
-    rw (more, none (end_named line) (type_named line), add-zero, same_counts all calls call none lines) refl
+    let more = count_more (is_call_of all (end_named line) (code_named line)) calls call in
+    rw (more, none (end_named line) (code_named line), add-zero, same_counts all calls call none lines) refl
 
 -- ---- the generator
 
@@ -89,7 +89,7 @@ pub whole : {A : Type 0} (n : ℕ) (xs ys : List A) → n ≡ length xs → take
 whole n xs ys e = rw e (front xs ys)
 
 few_seen : (all : List Address) (calls : List LogEntry) (line : NetLine) → length calls + 1 < 2 ^ 64 → seen_by all calls line + 1 < 2 ^ 64
-few_seen all calls line few = let le = count_by-le-length (is_call_of all (end_named line) (type_named line)) calls in omega (arith, le)
+few_seen all calls line few = let le = count_by-le-length (is_call_of all (end_named line) (code_named line)) calls in omega (arith, le)
 
 pub few_messages : (calls : List LogEntry) (n : ℕ) → length calls < n → messages calls < n
 few_messages calls n few = let le = count_by-le-length is_message calls in omega (arith, le)

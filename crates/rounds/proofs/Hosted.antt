@@ -8,8 +8,8 @@ use Rattle.dcp_ends.specs.declared.entries.LogEntry.{LogEntry}
 use Rattle.dcp_ends.specs.Events.{Event, Rules}
 use Rattle.dcp_ends.specs.Logs.{same_address}
 use Rattle.rounds.specs.Rounds.{EachEnd, EachPart, IfFirst, IsLook, IsLookPart, IsTurn, IsTurnPart, IsLooks, IsLooksPart, IsTurns, IsTurnsPart, IsRound, IsRoundPart, hosted, has_report, places_of}
-use Rattle.rounds.specs.Steps.{Part}
-use Rattle.rounds.specs.Told.{IsTold, IsCut, Apart, AllTold, AllCut}
+use Rattle.rounds.specs.Steps.{AddsPart}
+use Rattle.rounds.specs.Told.{IsTold, IsToldUpTo, Apart, AllTold, AllToldUpTo}
 use Rattle.rounds.proofs.Parts.{Added-join}
 use Rattle.rounds.proofs.Logs.{IsCut-told}
 use Rattle.rounds.proofs.Others.{Silent, Silent-nil, Silent-append, IsTold-silent, Silent-events}
@@ -36,7 +36,7 @@ module _ (Form : Address → List LogEntry → Type 0) (silent : IsSilent Form) 
       (EachPart-silent Cut cut_silent slaves each.1 (λ k d lt. far (suc k) d (omega arith)) each.4))
 
 module _ {E : Type 0} (stands : E → List Event → Type 0) (rules : E → Rules) (slaves : List E) (log : List LogEntry) where
-  pub AllCut-told : AllTold stands rules slaves log → AllCut stands rules slaves log
+  pub AllCut-told : AllTold stands rules slaves log → AllToldUpTo stands rules slaves log
   AllCut-told all = λ k d lt. IsCut-told stands _ _ log (all k d lt)
 
   -- what the master's end does tells nothing of the slaves
@@ -49,7 +49,7 @@ module _ {E : Type 0} (stands : E → List Event → Type 0) (rules : E → Rule
       IsTold-silent stands _ _ log p (silent _ m.place (rw (get_or-map rules slaves k d) at far) p form) (all k d lt)
 
 module _ {E : Type 0} (stands : E → List Event → Type 0) (rules : E → Rules) (log : List LogEntry) where
-  pub first_cut : (master : Option E) → IfSome master (λ end. IsTold stands (rules end) end log) → IfSome master (λ end. IsCut stands (rules end) end log)
+  pub first_cut : (master : Option E) → IfSome master (λ end. IsTold stands (rules end) end log) → IfSome master (λ end. IsToldUpTo stands (rules end) end log)
   first_cut None told = told
   first_cut (Some end) told = IsCut-told stands _ end log told
 
@@ -68,14 +68,14 @@ module _ {E : Type 0} (stands : E → List Event → Type 0) (rules : E → Rule
       IsTold-silent stands _ end log p (EachPart-silent Form silent _ Cut cut_silent slaves p (λ k d lt. apart 0 (suc k) d (omega arith) (omega arith) (omega arith)) each) told
 
 module _ {N : Type 0} (calls : N → Option (List LogEntry)) (master : Option Rules) (slaves : List Rules) (a b c : N) (l m n : List LogEntry) where
-  pub looks_all : Part calls (IfFirst IsLook master) a b l m → Part calls (EachEnd IsLook (places_of slaves)) b c m n → Part calls (IsLooks master slaves) a c l n
+  pub looks_all : AddsPart calls (IfFirst IsLook master) a b l m → AddsPart calls (EachEnd IsLook (places_of slaves)) b c m n → AddsPart calls (IsLooks master slaves) a c l n
   looks_all f s = record {
     part = f.part ++ s.part;
     form = record { first = f.part; rest = s.part; form = refl; own = f.form; others = s.form };
     added = Added-join calls a b c l m n f.part s.part f.added s.added;
   }
 
-  pub looks_stopped : Part calls (IfFirst IsLook master) a b l m → Part calls (EachPart IsLook IsLookPart (places_of slaves)) b c m n → Part calls (IsLooksPart master slaves) a c l n
+  pub looks_stopped : AddsPart calls (IfFirst IsLook master) a b l m → AddsPart calls (EachPart IsLook IsLookPart (places_of slaves)) b c m n → AddsPart calls (IsLooksPart master slaves) a c l n
   looks_stopped f s = record {
     part = f.part ++ s.part;
     form = record { first = f.part; rest = s.part; form = refl; stop = inr (f.form, s.form) };
@@ -83,7 +83,7 @@ module _ {N : Type 0} (calls : N → Option (List LogEntry)) (master : Option Ru
   }
 
 pub looks_stopped_first : {N : Type 0} (calls : N → Option (List LogEntry)) (master : Option Rules) (slaves : List Rules) (a b : N) (l m : List LogEntry)
-    → Part calls (IfFirst IsLookPart master) a b l m → Part calls (IsLooksPart master slaves) a b l m
+    → AddsPart calls (IfFirst IsLookPart master) a b l m → AddsPart calls (IsLooksPart master slaves) a b l m
 looks_stopped_first calls master slaves a b l m f = record {
   part = f.part;
   form = record { first = f.part; rest = []; form = sym (append-nil f.part); stop = inl (f.form, refl) };
@@ -99,29 +99,29 @@ module _ (master : Option Rules) (log : List LogEntry) where
     of_master (Some m) apart = ap m.over (Silent-events m.place log p (Each-silent Form silent m.place slaves p (λ k d lt. apart 0 (suc k) d (omega arith) (omega arith) (omega arith)) each))
 
 module _ {N : Type 0} (calls : N → Option (List LogEntry)) (master : Option Rules) (slaves : List Rules) (a b : N) (l m : List LogEntry) where
-  pub turns_reported : has_report master m ≡ true → Part calls (IfFirst IsTurn master) a b l m → Part calls (IsTurns master slaves l) a b l m
+  pub turns_reported : has_report master m ≡ true → AddsPart calls (IfFirst IsTurn master) a b l m → AddsPart calls (IsTurns master slaves l) a b l m
   turns_reported report f = record {
     part = f.part;
     form = record { first = f.part; rest = []; form = sym (append-nil f.part); own = f.form; others = rw (← f.added.log, report) refl };
     added = f.added;
   }
 
-  pub turns_stopped_first : Part calls (IfFirst IsTurnPart master) a b l m → Part calls (IsTurnsPart master slaves l) a b l m
+  pub turns_stopped_first : AddsPart calls (IfFirst IsTurnPart master) a b l m → AddsPart calls (IsTurnsPart master slaves l) a b l m
   turns_stopped_first f = record {
     part = f.part;
     form = record { first = f.part; rest = []; form = sym (append-nil f.part); stop = inl (f.form, refl) };
     added = f.added;
   }
 
-  module _ (c : N) (n : List LogEntry) (report : has_report master m ≡ false) (f : Part calls (IfFirst IsTurn master) a b l m) where
-    pub turns_all : Part calls (EachEnd IsTurn (places_of slaves)) b c m n → Part calls (IsTurns master slaves l) a c l n
+  module _ (c : N) (n : List LogEntry) (report : has_report master m ≡ false) (f : AddsPart calls (IfFirst IsTurn master) a b l m) where
+    pub turns_all : AddsPart calls (EachEnd IsTurn (places_of slaves)) b c m n → AddsPart calls (IsTurns master slaves l) a c l n
     turns_all s = record {
       part = f.part ++ s.part;
       form = record { first = f.part; rest = s.part; form = refl; own = f.form; others = rw (← f.added.log, report) s.form };
       added = Added-join calls a b c l m n f.part s.part f.added s.added;
     }
 
-    pub turns_stopped : Part calls (EachPart IsTurn IsTurnPart (places_of slaves)) b c m n → Part calls (IsTurnsPart master slaves l) a c l n
+    pub turns_stopped : AddsPart calls (EachPart IsTurn IsTurnPart (places_of slaves)) b c m n → AddsPart calls (IsTurnsPart master slaves l) a c l n
     turns_stopped s = record {
       part = f.part ++ s.part;
       form = record { first = f.part; rest = s.part; form = refl; stop = inr (f.form, rw (← f.added.log) report, s.form) };
@@ -129,14 +129,14 @@ module _ {N : Type 0} (calls : N → Option (List LogEntry)) (master : Option Ru
     }
 
 module _ {N : Type 0} (calls : N → Option (List LogEntry)) (master : Option Rules) (slaves : List Rules) (a b c : N) (l m n : List LogEntry) where
-  pub round_all : Part calls (IsLooks master slaves) a b l m → Part calls (IsTurns master slaves m) b c m n → Part calls (IsRound master slaves l) a c l n
+  pub round_all : AddsPart calls (IsLooks master slaves) a b l m → AddsPart calls (IsTurns master slaves m) b c m n → AddsPart calls (IsRound master slaves l) a c l n
   round_all f s = record {
     part = f.part ++ s.part;
     form = record { looks = f.part; turns = s.part; form = refl; looked = f.form; turned = rw (← f.added.log) s.form };
     added = Added-join calls a b c l m n f.part s.part f.added s.added;
   }
 
-  pub round_stopped : Part calls (IsLooks master slaves) a b l m → Part calls (IsTurnsPart master slaves m) b c m n → Part calls (IsRoundPart master slaves l) a c l n
+  pub round_stopped : AddsPart calls (IsLooks master slaves) a b l m → AddsPart calls (IsTurnsPart master slaves m) b c m n → AddsPart calls (IsRoundPart master slaves l) a c l n
   round_stopped f s = record {
     part = f.part ++ s.part;
     form = record { looks = f.part; turns = s.part; form = refl; stop = inr (f.form, rw (← f.added.log) s.form) };
@@ -144,7 +144,7 @@ module _ {N : Type 0} (calls : N → Option (List LogEntry)) (master : Option Ru
   }
 
 pub round_stopped_first : {N : Type 0} (calls : N → Option (List LogEntry)) (master : Option Rules) (slaves : List Rules) (a b : N) (l m : List LogEntry)
-    → Part calls (IsLooksPart master slaves) a b l m → Part calls (IsRoundPart master slaves l) a b l m
+    → AddsPart calls (IsLooksPart master slaves) a b l m → AddsPart calls (IsRoundPart master slaves l) a b l m
 round_stopped_first calls master slaves a b l m f = record {
   part = f.part;
   form = record { looks = f.part; turns = []; form = sym (append-nil f.part); stop = inl (f.form, refl) };

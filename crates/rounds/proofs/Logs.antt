@@ -7,8 +7,8 @@ use Rattle.dcp_ends.specs.declared.entries.LogEntry.TheVariants.{Sent, Got, Idle
 use Rattle.dcp_ends.specs.Events.{Event, Gram, Tick, Send, Rules}
 use Rattle.dcp_ends.specs.Logs.{same_address, event_at, events_at, own_entry, own_at, sent_by, entry_of, answered}
 use Rattle.rounds.specs.Rounds.{AllSent, IsGot, IsGotPart}
-use Rattle.rounds.specs.Steps.{Added, SendsSome, LookForm, Part}
-use Rattle.rounds.specs.Told.{Follows, IsTold, IsCut}
+use Rattle.rounds.specs.Steps.{Added, SendsSome, LookForm, AddsPart}
+use Rattle.rounds.specs.Told.{Follows, IsTold, IsToldUpTo}
 use Rattle.rounds.proofs.Parts.{sent_by-append, Added-join}
 
 pub events_at-append : (a : Address) (p q : List LogEntry) → events_at a (p ++ q) ≡ events_at a p ++ events_at a q
@@ -71,7 +71,7 @@ Follows-event rules log event gone left split follows =
     rw (events_at-event a log event gone, own_at-event a log event gone, answered-append rules [] (events_at a log) event, ← split, sent_by-append, follows, append_assoc)
 
 module _ {E : Type 0} (stands : E → List Event → Type 0) (rules : Rules) where
-  pub IsCut-told : (end : E) (log : List LogEntry) → IsTold stands rules end log → IsCut stands rules end log
+  pub IsCut-told : (end : E) (log : List LogEntry) → IsTold stands rules end log → IsToldUpTo stands rules end log
   IsCut-told end log told = record { stands_for = told.stands_for; follows = record { left = []; own = append-nil (own_at rules.place log) ∙ told.follows; last = inl refl } }
 
   pub IsTold-same : (end : E) (log more : List LogEntry) → more ≡ log ++ [] → IsTold stands rules end log → IsTold stands rules end more
@@ -103,7 +103,7 @@ module _ {E : Type 0} (stands : E → List Event → Type 0) (rules : Rules) whe
         rw (longer sends sent) (record { stands_for = stands_for sends; follows = rw append-nil at own })
 
     -- the end took an event, and some of its sends went out
-    pub IsCut-event : SendsSome calls rules.place sends b c m n → IsCut stands rules e2 n
+    pub IsCut-event : SendsSome calls rules.place sends b c m n → IsToldUpTo stands rules e2 n
     IsCut-event some =
         let all : some.gone ++ some.left ≡ rules.sends (events_at rules.place l) event = some.split ∙ does _ told.stands_for in
         rw (longer some.gone some.added) (record {
@@ -119,14 +119,14 @@ module _ {N : Type 0} (calls : N → Option (List LogEntry)) (p : Address) (a b 
   got_form : (gone : List Send) → IsGot p (Got p from bytes ∷ sent_by p gone)
   got_form gone = record { from = from; bytes = bytes; sents = sent_by p gone; form = refl; own = AllSent-sent_by p gone }
 
-  pub LookedOnce-got : Added calls a b l m (Got p from bytes ∷ []) → Added calls b c m n (sent_by p sends) → Part calls (LookForm p true) a c l n
+  pub LookedOnce-got : Added calls a b l m (Got p from bytes ∷ []) → Added calls b c m n (sent_by p sends) → AddsPart calls (LookForm p true) a c l n
   LookedOnce-got got sent = record {
     part = Got p from bytes ∷ sent_by p sends;
     form = got_form sends;
     added = Added-join calls a b c l m n (Got p from bytes ∷ []) (sent_by p sends) got sent;
   }
 
-  pub LookStopped-got : Added calls a b l m (Got p from bytes ∷ []) → SendsSome calls p sends b c m n → Part calls (IsGotPart p) a c l n
+  pub LookStopped-got : Added calls a b l m (Got p from bytes ∷ []) → SendsSome calls p sends b c m n → AddsPart calls (IsGotPart p) a c l n
   LookStopped-got got some = record {
     part = Got p from bytes ∷ sent_by p some.gone;
     form = inr (got_form some.gone);

@@ -63,7 +63,7 @@ LookForm a true part = IsGot a part
 LookForm a false part = part ≡ Idle a ∷ []
 
 -- a part of this form was added
-pub record Part {N : Type 0} (calls : N → Option (List LogEntry)) (Form : List LogEntry → Type 0) (before now : N) (old new : List LogEntry) : Type 0 where
+pub record AddsPart {N : Type 0} (calls : N → Option (List LogEntry)) (Form : List LogEntry → Type 0) (before now : N) (old new : List LogEntry) : Type 0 where
   pub part : List LogEntry
   pub form : Form part
   pub added : Added calls before now old new part

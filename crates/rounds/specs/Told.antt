@@ -31,7 +31,7 @@ pub record IsTold {E : Type 0} (stands : E → List Event → Type 0) (rules : R
   pub follows : Follows rules log
 
 -- the end stands for its events in the log, which may stop among the sends of the last
-pub record IsCut {E : Type 0} (stands : E → List Event → Type 0) (rules : Rules) (end : E) (log : List LogEntry) : Type 0 where
+pub record IsToldUpTo {E : Type 0} (stands : E → List Event → Type 0) (rules : Rules) (end : E) (log : List LogEntry) : Type 0 where
   pub stands_for : stands end (events_at rules.place log)
   pub follows : FollowsUpTo rules log
 
@@ -44,5 +44,5 @@ abbrev pub AllTold : {E : Type 0} → (E → List Event → Type 0) → (E → R
 AllTold stands rules ends log = All (λ end. IsTold stands (rules end) end log) ends
 
 -- each of these ends is told by the log, which may stop among the sends of its last event
-abbrev pub AllCut : {E : Type 0} → (E → List Event → Type 0) → (E → Rules) → List E → List LogEntry → Type 0
-AllCut stands rules ends log = All (λ end. IsCut stands (rules end) end log) ends
+abbrev pub AllToldUpTo : {E : Type 0} → (E → List Event → Type 0) → (E → Rules) → List E → List LogEntry → Type 0
+AllToldUpTo stands rules ends log = All (λ end. IsToldUpTo stands (rules end) end log) ends

@@ -5,9 +5,9 @@ ghost use Rattle.std.specs.List.{All};
 ghost use Rattle.std.specs.Option.{option_map};
 ghost use Rattle.dcp_ends.specs.Events.{Rules};
 ghost use Rattle.dcp_ends.specs.declared.entries.LogEntry.{LogEntry};
-ghost use Rattle.rounds.specs.Steps.{Added, Caused, Part};
+ghost use Rattle.rounds.specs.Steps.{Added, Caused, AddsPart};
 ghost use Rattle.rounds.specs.Rounds.{IsLook, IsLookPart, IsTurn, IsTurnPart, EachEnd, EachPart, IfFirst, IsLooks, IsLooksPart, IsTurns, IsTurnsPart, IsRound, IsRoundPart, hosted, has_report, places_of};
-ghost use Rattle.rounds.specs.Told.{IsTold, IsCut, AllTold, AllCut, Apart};
+ghost use Rattle.rounds.specs.Told.{IsTold, IsToldUpTo, AllTold, AllToldUpTo, Apart};
 
 use crate::one_end::{HostFault, look, turn};
 use crate::rooms::Room;
@@ -32,9 +32,9 @@ fn look_each<E: Seat, N: Net>(
     ensures rules { map E.rules ends.new ≡ map E.rules ends.old }
     ensures quiet { OnOk result (All (λ end. E.outs end ≡ []) ends.new) }
     ensures told { OnOk result (AllTold E.stands E.rules ends.new log.new.items) }
-    ensures cut { OnErr result (AllCut E.stands E.rules ends.new log.new.items) }
-    ensures ok { OnOk result (Part N.calls (EachEnd IsLook (places_of (map E.rules ends.old))) net.old net.new log.old.items log.new.items) }
-    ensures err { OnErr result (Part N.calls (EachPart IsLook IsLookPart (places_of (map E.rules ends.old))) net.old net.new log.old.items log.new.items) }
+    ensures cut { OnErr result (AllToldUpTo E.stands E.rules ends.new log.new.items) }
+    ensures ok { OnOk result (AddsPart N.calls (EachEnd IsLook (places_of (map E.rules ends.old))) net.old net.new log.old.items log.new.items) }
+    ensures err { OnErr result (AddsPart N.calls (EachPart IsLook IsLookPart (places_of (map E.rules ends.old))) net.old net.new log.old.items log.new.items) }
     ensures cause { Caused (N.count net.old) (N.count net.new) result }
 {
     for end in ends.iter_mut() {
@@ -58,9 +58,9 @@ fn turn_each<E: Seat, N: Net>(
     ensures rules { map E.rules ends.new ≡ map E.rules ends.old }
     ensures quiet { OnOk result (All (λ end. E.outs end ≡ []) ends.new) }
     ensures told { OnOk result (AllTold E.stands E.rules ends.new log.new.items) }
-    ensures cut { OnErr result (AllCut E.stands E.rules ends.new log.new.items) }
-    ensures ok { OnOk result (Part N.calls (EachEnd IsTurn (places_of (map E.rules ends.old))) net.old net.new log.old.items log.new.items) }
-    ensures err { OnErr result (Part N.calls (EachPart IsTurn IsTurnPart (places_of (map E.rules ends.old))) net.old net.new log.old.items log.new.items) }
+    ensures cut { OnErr result (AllToldUpTo E.stands E.rules ends.new log.new.items) }
+    ensures ok { OnOk result (AddsPart N.calls (EachEnd IsTurn (places_of (map E.rules ends.old))) net.old net.new log.old.items log.new.items) }
+    ensures err { OnErr result (AddsPart N.calls (EachPart IsTurn IsTurnPart (places_of (map E.rules ends.old))) net.old net.new log.old.items log.new.items) }
     ensures cause { Caused (N.count net.old) (N.count net.new) result }
 {
     for end in ends.iter_mut() {
@@ -84,9 +84,9 @@ fn look_first<E: Seat, N: Net>(
     ensures rules { option_map E.rules first.new ≡ option_map E.rules first.old }
     ensures quiet { OnOk result (IfSome first.new (λ end. E.outs end ≡ [])) }
     ensures told { OnOk result (IfSome first.new (λ end. IsTold E.stands (E.rules end) end log.new.items)) }
-    ensures cut { OnErr result (IfSome first.new (λ end. IsCut E.stands (E.rules end) end log.new.items)) }
-    ensures ok { OnOk result (Part N.calls (IfFirst IsLook (option_map E.rules first.old)) net.old net.new log.old.items log.new.items) }
-    ensures err { OnErr result (Part N.calls (IfFirst IsLookPart (option_map E.rules first.old)) net.old net.new log.old.items log.new.items) }
+    ensures cut { OnErr result (IfSome first.new (λ end. IsToldUpTo E.stands (E.rules end) end log.new.items)) }
+    ensures ok { OnOk result (AddsPart N.calls (IfFirst IsLook (option_map E.rules first.old)) net.old net.new log.old.items log.new.items) }
+    ensures err { OnErr result (AddsPart N.calls (IfFirst IsLookPart (option_map E.rules first.old)) net.old net.new log.old.items log.new.items) }
     ensures cause { Caused (N.count net.old) (N.count net.new) result }
 {
     let Some(end) = first else {
@@ -110,9 +110,9 @@ fn turn_first<E: Seat, N: Net>(
     ensures rules { option_map E.rules first.new ≡ option_map E.rules first.old }
     ensures quiet { OnOk result (IfSome first.new (λ end. E.outs end ≡ [])) }
     ensures told { OnOk result (IfSome first.new (λ end. IsTold E.stands (E.rules end) end log.new.items)) }
-    ensures cut { OnErr result (IfSome first.new (λ end. IsCut E.stands (E.rules end) end log.new.items)) }
-    ensures ok { OnOk result (Part N.calls (IfFirst IsTurn (option_map E.rules first.old)) net.old net.new log.old.items log.new.items) }
-    ensures err { OnErr result (Part N.calls (IfFirst IsTurnPart (option_map E.rules first.old)) net.old net.new log.old.items log.new.items) }
+    ensures cut { OnErr result (IfSome first.new (λ end. IsToldUpTo E.stands (E.rules end) end log.new.items)) }
+    ensures ok { OnOk result (AddsPart N.calls (IfFirst IsTurn (option_map E.rules first.old)) net.old net.new log.old.items log.new.items) }
+    ensures err { OnErr result (AddsPart N.calls (IfFirst IsTurnPart (option_map E.rules first.old)) net.old net.new log.old.items log.new.items) }
     ensures cause { Caused (N.count net.old) (N.count net.new) result }
 {
     let Some(end) = first else {
@@ -144,10 +144,10 @@ fn look_all<M: Seat, S: Seat, N: Net>(
     ensures quiet_slaves { OnOk result (All (λ end. S.outs end ≡ []) slaves.new) }
     ensures told_master { OnOk result (IfSome master.new (λ end. IsTold M.stands (M.rules end) end log.new.items)) }
     ensures told_slaves { OnOk result (AllTold S.stands S.rules slaves.new log.new.items) }
-    ensures cut_master { OnErr result (IfSome master.new (λ end. IsCut M.stands (M.rules end) end log.new.items)) }
-    ensures cut_slaves { OnErr result (AllCut S.stands S.rules slaves.new log.new.items) }
-    ensures ok { OnOk result (Part N.calls (IsLooks (option_map M.rules master.old) (map S.rules slaves.old)) net.old net.new log.old.items log.new.items) }
-    ensures err { OnErr result (Part N.calls (IsLooksPart (option_map M.rules master.old) (map S.rules slaves.old)) net.old net.new log.old.items log.new.items) }
+    ensures cut_master { OnErr result (IfSome master.new (λ end. IsToldUpTo M.stands (M.rules end) end log.new.items)) }
+    ensures cut_slaves { OnErr result (AllToldUpTo S.stands S.rules slaves.new log.new.items) }
+    ensures ok { OnOk result (AddsPart N.calls (IsLooks (option_map M.rules master.old) (map S.rules slaves.old)) net.old net.new log.old.items log.new.items) }
+    ensures err { OnErr result (AddsPart N.calls (IsLooksPart (option_map M.rules master.old) (map S.rules slaves.old)) net.old net.new log.old.items log.new.items) }
     ensures cause { Caused (N.count net.old) (N.count net.new) result }
 {
     look_first(alloc, master, net, log, room)?;
@@ -187,11 +187,11 @@ fn turn_all<M: Seat, S: Seat, N: Net>(
     ensures quiet_slaves { OnOk result (All (λ end. S.outs end ≡ []) slaves.new) }
     ensures told_master { OnOk result (IfSome master.new (λ end. IsTold M.stands (M.rules end) end log.new.items)) }
     ensures told_slaves { OnOk result (AllTold S.stands S.rules slaves.new log.new.items) }
-    ensures cut_master { OnErr result (IfSome master.new (λ end. IsCut M.stands (M.rules end) end log.new.items)) }
-    ensures cut_slaves { OnErr result (AllCut S.stands S.rules slaves.new log.new.items) }
-    ensures ok { OnOk result (Part N.calls (IsTurns (option_map M.rules master.old) (map S.rules slaves.old) log.old.items) net.old net.new log.old.items log.new.items) }
+    ensures cut_master { OnErr result (IfSome master.new (λ end. IsToldUpTo M.stands (M.rules end) end log.new.items)) }
+    ensures cut_slaves { OnErr result (AllToldUpTo S.stands S.rules slaves.new log.new.items) }
+    ensures ok { OnOk result (AddsPart N.calls (IsTurns (option_map M.rules master.old) (map S.rules slaves.old) log.old.items) net.old net.new log.old.items log.new.items) }
     ensures report { IfOk result (λ over. over ≡ has_report (option_map M.rules master.old) log.new.items) }
-    ensures err { OnErr result (Part N.calls (IsTurnsPart (option_map M.rules master.old) (map S.rules slaves.old) log.old.items) net.old net.new log.old.items log.new.items) }
+    ensures err { OnErr result (AddsPart N.calls (IsTurnsPart (option_map M.rules master.old) (map S.rules slaves.old) log.old.items) net.old net.new log.old.items log.new.items) }
     ensures cause { Caused (N.count net.old) (N.count net.new) result }
 {
     turn_first(alloc, master, net, log)?;
@@ -226,11 +226,11 @@ pub fn run_round<M: Seat, S: Seat, N: Net>(
     ensures quiet_slaves { OnOk result (All (λ end. S.outs end ≡ []) slaves.new) }
     ensures told_master { OnOk result (IfSome master.new (λ end. IsTold M.stands (M.rules end) end log.new.items)) }
     ensures told_slaves { OnOk result (AllTold S.stands S.rules slaves.new log.new.items) }
-    ensures cut_master { OnErr result (IfSome master.new (λ end. IsCut M.stands (M.rules end) end log.new.items)) }
-    ensures cut_slaves { OnErr result (AllCut S.stands S.rules slaves.new log.new.items) }
-    ensures ok { OnOk result (Part N.calls (IsRound (option_map M.rules master.old) (map S.rules slaves.old) log.old.items) net.old net.new log.old.items log.new.items) }
+    ensures cut_master { OnErr result (IfSome master.new (λ end. IsToldUpTo M.stands (M.rules end) end log.new.items)) }
+    ensures cut_slaves { OnErr result (AllToldUpTo S.stands S.rules slaves.new log.new.items) }
+    ensures ok { OnOk result (AddsPart N.calls (IsRound (option_map M.rules master.old) (map S.rules slaves.old) log.old.items) net.old net.new log.old.items log.new.items) }
     ensures report { IfOk result (λ over. over ≡ has_report (option_map M.rules master.old) log.new.items) }
-    ensures err { OnErr result (Part N.calls (IsRoundPart (option_map M.rules master.old) (map S.rules slaves.old) log.old.items) net.old net.new log.old.items log.new.items) }
+    ensures err { OnErr result (AddsPart N.calls (IsRoundPart (option_map M.rules master.old) (map S.rules slaves.old) log.old.items) net.old net.new log.old.items log.new.items) }
     ensures cause { Caused (N.count net.old) (N.count net.new) result }
 {
     look_all(alloc, master, slaves, net, log, room)?;

@@ -5,9 +5,9 @@ ghost use Rattle.dcp_ends.specs.Events.{Event};
 ghost use Rattle.dcp_ends.specs.declared.entries.LogEntry.TheVariants.{Sent, Got, Idle, Turn};
 ghost use Rattle.dcp_ends.specs.Logs.{sent_by};
 ghost use Rattle.rounds.specs.declared.one_end.HostFault.TheVariants.{OutOfMemory};
-ghost use Rattle.rounds.specs.Steps.{Added, SendsSome, Caused, TookGram, LookForm, Part};
+ghost use Rattle.rounds.specs.Steps.{Added, SendsSome, Caused, TookGram, LookForm, AddsPart};
 ghost use Rattle.rounds.specs.Rounds.{IsGotPart, IsLook, IsLookPart, IsTurn, IsTurnPart};
-ghost use Rattle.rounds.specs.Told.{IsTold, IsCut};
+ghost use Rattle.rounds.specs.Told.{IsTold, IsToldUpTo};
 
 use crate::rooms::Room;
 use crate::seats::Seat;
@@ -170,9 +170,9 @@ fn look_once<E: Seat, N: Net>(
     ensures rules { E.rules end.new ≡ E.rules end.old }
     ensures quiet { OnOk result (E.outs end.new ≡ []) }
     ensures told { OnOk result (IsTold E.stands (E.rules end.old) end.new log.new.items) }
-    ensures cut { OnErr result (IsCut E.stands (E.rules end.old) end.new log.new.items) }
-    ensures ok { IfOk result (λ more. Part N.calls (LookForm (E.rules end.old).place more) net.old net.new log.old.items log.new.items) }
-    ensures err { OnErr result (Part N.calls (IsGotPart (E.rules end.old).place) net.old net.new log.old.items log.new.items) }
+    ensures cut { OnErr result (IsToldUpTo E.stands (E.rules end.old) end.new log.new.items) }
+    ensures ok { IfOk result (λ more. AddsPart N.calls (LookForm (E.rules end.old).place more) net.old net.new log.old.items log.new.items) }
+    ensures err { OnErr result (AddsPart N.calls (IsGotPart (E.rules end.old).place) net.old net.new log.old.items log.new.items) }
     ensures cause { Caused (N.count net.old) (N.count net.new) result }
 {
     let Some(gram) = take_gram(alloc, net, log, end.address(), room)? else {
@@ -198,9 +198,9 @@ pub fn look<E: Seat, N: Net>(
     ensures rules { E.rules end.new ≡ E.rules end.old }
     ensures quiet { OnOk result (E.outs end.new ≡ []) }
     ensures told { OnOk result (IsTold E.stands (E.rules end.old) end.new log.new.items) }
-    ensures cut { OnErr result (IsCut E.stands (E.rules end.old) end.new log.new.items) }
-    ensures ok { OnOk result (Part N.calls (IsLook (E.rules end.old).place) net.old net.new log.old.items log.new.items) }
-    ensures err { OnErr result (Part N.calls (IsLookPart (E.rules end.old).place) net.old net.new log.old.items log.new.items) }
+    ensures cut { OnErr result (IsToldUpTo E.stands (E.rules end.old) end.new log.new.items) }
+    ensures ok { OnOk result (AddsPart N.calls (IsLook (E.rules end.old).place) net.old net.new log.old.items log.new.items) }
+    ensures err { OnErr result (AddsPart N.calls (IsLookPart (E.rules end.old).place) net.old net.new log.old.items log.new.items) }
     ensures cause { Caused (N.count net.old) (N.count net.new) result }
 {
     'looks: for _got in 0..MOST {
@@ -226,9 +226,9 @@ pub fn turn<E: Seat, N: Net>(
     ensures rules { E.rules end.new ≡ E.rules end.old }
     ensures quiet { OnOk result (E.outs end.new ≡ []) }
     ensures told { OnOk result (IsTold E.stands (E.rules end.old) end.new log.new.items) }
-    ensures cut { OnErr result (IsCut E.stands (E.rules end.old) end.new log.new.items) }
-    ensures ok { OnOk result (Part N.calls (IsTurn (E.rules end.old).place) net.old net.new log.old.items log.new.items) }
-    ensures err { OnErr result (Part N.calls (IsTurnPart (E.rules end.old).place) net.old net.new log.old.items log.new.items) }
+    ensures cut { OnErr result (IsToldUpTo E.stands (E.rules end.old) end.new log.new.items) }
+    ensures ok { OnOk result (AddsPart N.calls (IsTurn (E.rules end.old).place) net.old net.new log.old.items log.new.items) }
+    ensures err { OnErr result (AddsPart N.calls (IsTurnPart (E.rules end.old).place) net.old net.new log.old.items log.new.items) }
     ensures cause { Caused (N.count net.old) (N.count net.new) result }
 {
     log.reserve(1)?;

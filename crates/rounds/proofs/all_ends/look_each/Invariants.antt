@@ -1,7 +1,7 @@
 use Rattle.std.proofs.Common.{◌≡◌, ◌≤◌, [], map, take, IsTrue}
 use Rattle.std.specs.List.{All}
 use Rattle.rounds.specs.Rounds.{EachEnd, IsLook, places_of}
-use Rattle.rounds.specs.Steps.{Part}
+use Rattle.rounds.specs.Steps.{AddsPart}
 use Rattle.rounds.specs.Told.{AllTold}
 use Rattle.rounds.proofs.all_ends.look_each.Given as goal
 
@@ -13,6 +13,6 @@ invariant-loop-end g l =
       same : map rules l.ends ≡ map rules l.fn.ends;
       quiet : All (λ end. g.E.Seat.outs end ≡ []) l.ends;
       told : AllTold g.E.Seat.stands rules l.ends l.log.items;
-      looks : Part g.N.Net.calls (EachEnd IsLook (take l.end-index (places_of (map rules l.fn.ends)))) l.fn.net l.net l.fn.log.items l.log.items;
+      looks : AddsPart g.N.Net.calls (EachEnd IsLook (take l.end-index (places_of (map rules l.fn.ends)))) l.fn.net l.net l.fn.log.items l.log.items;
       later : g.N.Net.count l.fn.net ≤ g.N.Net.count l.net;
     }

@@ -1,6 +1,6 @@
 use Rattle.std.proofs.Common.{◌≡◌, ◌≤◌, [], IsTrue}
 use Rattle.rounds.specs.Rounds.{Gots}
-use Rattle.rounds.specs.Steps.{Part}
+use Rattle.rounds.specs.Steps.{AddsPart}
 use Rattle.rounds.specs.Told.{IsTold}
 use Rattle.rounds.proofs.one_end.look.Given as goal
 
@@ -12,6 +12,6 @@ invariant-looks g l =
       same : g.E.Seat.rules l.end ≡ rules;
       quiet : g.E.Seat.outs l.end ≡ [];
       told : IsTold g.E.Seat.stands rules l.end l.log.items;
-      gots : Part g.N.Net.calls (Gots rules.place l._got) l.fn.net l.net l.fn.log.items l.log.items;
+      gots : AddsPart g.N.Net.calls (Gots rules.place l._got) l.fn.net l.net l.fn.log.items l.log.items;
       later : g.N.Net.count l.fn.net ≤ g.N.Net.count l.net;
     }
