@@ -17,3 +17,4 @@ pub mod Counting
 pub mod Onward
 pub mod Planned
 pub mod Fresh
+pub mod Happening

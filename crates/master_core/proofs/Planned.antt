@@ -1,9 +1,12 @@
 -- The lists of a plan can be asked.
 use Rattle.std.proofs.Common.{◌≡◌, ℕ, zero, suc, ◌+◌, ◌-◌, ◌^◌, ◌<◌, ◌≤◌, ◌==◌, ◌&&◌, Bool, true, false, Option, Some, None, List, [], ◌∷◌, ◌++◌, map, filter, length, refl, sym, ap, subst, ◌∙◌, arith, IsTrue, FitsSigned}
-use Rattle.std.specs.Prelude.{ℤ, All, slice_get, if◌then◌else◌}
+use Rattle.std.specs.Prelude.{ℤ, pos, negsuc, All, slice_get, if◌then◌else◌}
 use Rattle.std.specs.List.{AllByRecursion, flat_map, range_with_len, find}
+use mathlib.Core.Bool.{cond}
 use Rattle.std.specs.Int.{w64}
 use Rattle.std.proofs.lemmas.List.Elements.{recursion_from_All}
+use Rattle.std.proofs.lemmas.Bool.Decides.{nat_tests}
+use Rattle.std.proofs.lemmas.Int.{ints}
 use Rattle.dcp_types.specs.Codes.{protocol_code}
 use Rattle.dcp_types.specs.declared.addresses.Address.{Address}
 use Rattle.dcp_types.specs.declared.protocols.Protocol.{Protocol}
@@ -25,7 +28,7 @@ use Rattle.scenario.specs.Sound.{IsScenario, IsAddress, IsEvery}
 use Rattle.lockstep.specs.Wiring.{interval, q_of, every_between}
 use Rattle.plan_spec.specs.declared.links.DataLink.{DataLink}
 use Rattle.plan_spec.specs.declared.pairs.Pair.{Pair}
-use Rattle.plan_spec.specs.Links.{positions, wire_links, links_from, wired_pairs, wire_link}
+use Rattle.plan_spec.specs.Links.{is_wire, is_wired, pairs_from, positions, wire_links, links_from, wired_pairs, wire_link}
 use Rattle.plan_spec.specs.Setup.{settings_of, set_parameter, told_interval, numbered, input_at, output_at, incoming, outgoing, watched, setup_list, adjust_list, net_info, address_at, address_in}
 use Rattle.config_plan.proofs.More.{filter_few, grid_few, pairs_few}
 use Rattle.master_spec.specs.declared.requests.Request.TheVariants.{Configure}
@@ -71,7 +74,8 @@ set_all : (s : ℕ) (xs : List Setting) → AllByRecursion (λ x. IsTyped x) xs 
 set_all s xs a = map_all set_parameter (λ (body : Cfg). IsAskable (Configure body)) (filter (λ (x : Setting). x.slave == s) xs) (each (filter (λ (x : Setting). x.slave == s) xs) (filter_all (λ (x : Setting). x.slave == s) (λ (x : Setting). IsTyped x) xs a))
   where
     wide : (z : ℤ) → FitsSigned w64 z → IsTrue (fits types.I64 z)
-    wide z h = ?
+    wide (pos n) h = grind (arith, ints, nat_tests, h)
+    wide (negsuc n) h = grind (arith, ints, nat_tests, h)
     each : (xs : List Setting) → AllByRecursion (λ x. IsTyped x) xs → AllByRecursion (λ (x : Setting). IsAskable (Configure (set_parameter x))) xs
     each [] a = tt
     each (x ∷ xs) a = (parameter x.index x.value (omega (arith, a.0.0)) (wide x.value a.0.1), each xs a.1)
@@ -111,13 +115,13 @@ q_few : (o : Option Every) → ((e : Every) → o ≡ Some e → e.q ≤ 1000) �
 q_few None h = omega arith
 q_few (Some e) h = omega (arith, h e refl)
 
+found_by : {A : Type 0} (P : A → Type 0) (y x : A) (o : Option A) (b : Bool) → P y → (o ≡ Some x → P x) → cond b (Some y) o ≡ Some x → P x
+found_by P y x o true h f e = let s : y ≡ x = cc in subst P s h
+found_by P y x o false h f e = f e
+
 found_all : {A : Type 0} (p : A → Bool) (P : A → Type 0) (xs : List A) (x : A) → AllByRecursion P xs → find p xs ≡ Some x → P x
 found_all p P [] x a e = absurd (cc)
-found_all p P (y ∷ xs) x a e = by (p y) e
-  where
-    by : (b : Bool) → (if b then Some y else find p xs) ≡ Some x → P x
-    by true e = let s : y ≡ x = cc in subst P s a.0
-    by false e = found_all p P xs x a.1 e
+found_all p P (y ∷ xs) x a e = found_by P y x (find p xs) (p y) a.0 (λ f. found_all p P xs x a.1 f) e
 
 interval_few : (every : List Every) (a b : ℕ) → AllByRecursion (λ e. e.q ≤ 1000) every → interval every a b < 2 ^ 32
 interval_few every a b all = q_few (every_between every a b) (λ e is. found_all (λ (e : Every). (e.from == a) && (e.to == b)) (λ (e : Every). e.q ≤ 1000) every e all is)
@@ -142,7 +146,7 @@ outputs_all id i None hd hi h = tt
 outputs_all id i (Some p) hd hi h = (output id i p.vr hd hi (h p refl), tt)
 
 positions_few : (sc : Scenario) (l : DataLink) → 0 + length (positions sc.wires l.from l.to) ≤ 65536
-positions_few sc l = let h : length (positions sc.wires l.from l.to) ≤ 64 = grid_few _ in omega (arith, h)
+positions_few sc l = let h : length (positions sc.wires l.from l.to) ≤ 64 = grid_few (is_wire sc.wires l.from l.to) in omega (arith, h)
 
 incoming_all : (sc : Scenario) (d : SlaveDesc) (l : DataLink) → IsScenario sc → IsDesc d → IsLink l → AreAskable (incoming sc d l)
 incoming_all sc d l h desc link =
@@ -166,7 +170,7 @@ watched_all sc s d h desc small =
 
 wire_links_all : (sc : Scenario) → IsScenario sc → AllByRecursion (λ l. IsLink l) (wire_links sc)
 wire_links_all sc h =
-    let few : length (wired_pairs sc) ≤ 256 = pairs_few _ 1 (length sc.slaves) 1 (length sc.slaves) h.few_slaves.1 h.few_slaves.1 in
+    let few : length (wired_pairs sc) ≤ 256 = pairs_few (is_wired sc.wires) 1 (length sc.slaves) 1 (length sc.slaves) h.few_slaves.1 h.few_slaves.1 in
     let every = recursion_from_All (λ (e : Every). e.q ≤ 1000) sc.every (λ i d l. (h.every i d l).q.1) in
     links_all sc 17 (wired_pairs sc) every (omega (arith, few))
 
@@ -176,8 +180,11 @@ setup_all sc s d h v desc small =
     let ins = flat_all (incoming sc d) IsLink (filter (λ (l : DataLink). l.to == s) (wire_links sc)) (λ l k. incoming_all sc d l h desc k) (filter_all (λ (l : DataLink). l.to == s) IsLink (wire_links sc) links) in
     let outs = flat_all (outgoing sc d) IsLink (filter (λ (l : DataLink). l.from == s) (wire_links sc)) (λ l k. outgoing_all sc d l h desc k) (filter_all (λ (l : DataLink). l.from == s) IsLink (wire_links sc) links) in
     let sets = set_all s sc.settings (recursion_from_All (λ (x : Setting). IsTyped x) sc.settings v.settings) in
-    join (cfg.Clear ∷ cfg.TimeRes d.numerator d.denominator ∷ []) _ (clear, (time_res d.numerator d.denominator desc.numerator.1 desc.denominator.1, tt))
-    (join (settings_of s sc.settings) _ sets (join _ _ ins (join _ (watched sc s d) outs (watched_all sc s d h desc small))))
+    let head : List Cfg = cfg.Clear ∷ cfg.TimeRes d.numerator d.denominator ∷ [] in
+    let a : List Cfg = settings_of s sc.settings in
+    let b : List Cfg = flat_map (incoming sc d) (filter (λ (l : DataLink). l.to == s) (wire_links sc)) in
+    let e : List Cfg = flat_map (outgoing sc d) (filter (λ (l : DataLink). l.from == s) (wire_links sc)) in
+    join (((head ++ a) ++ b) ++ e) (watched sc s d) (join ((head ++ a) ++ b) e (join (head ++ a) b (join head a (clear, (time_res d.numerator d.denominator desc.numerator.1 desc.denominator.1, tt)) sets) ins) outs) (watched_all sc s d h desc small)
 
 adjust_all : (sc : Scenario) (r s : ℕ) → HasValues sc → AreAskable (adjust_list sc r s)
 adjust_all sc r s v =

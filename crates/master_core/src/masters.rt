@@ -90,6 +90,7 @@ impl MasterCore {
     fn count_row(&mut self)
         ensures meets { (c : Course) → Meets self.old c → Meets self.new (with_counted c) }
         ensures setup { setup_of self.new ≡ setup_of self.old }
+        ensures turns { self.new.turns ≡ self.old.turns }
         ensures out { self.new.out ≡ self.old.out }
     {
         if self.is_row_due() {
@@ -113,6 +114,7 @@ impl MasterCore {
         requires { length self.old.out ≤ 16 }
         ensures meets { (now : Now) (c : Course) → StandsIn now self.old c → IsBehind c.phase self.old.schedule → self.old.out ≡ c.sent → Meets self.new (course.with_next (setup_of self.old) c) }
         ensures setup { setup_of self.new ≡ setup_of self.old }
+        ensures turns { self.new.turns ≡ self.old.turns }
     {
         self.phase = self.phase.saturating_add(1);
         begin_all(&mut self.talks, &self.schedule, &mut self.out);
@@ -123,6 +125,7 @@ impl MasterCore {
         requires { length self.old.out ≤ 16 }
         ensures meets { (c : Course) → Meets self.old c → 1 ≤ c.phase → Meets self.new (course.decided (setup_of self.old) c None) }
         ensures setup { setup_of self.new ≡ setup_of self.old }
+        ensures turns { self.new.turns ≡ self.old.turns }
     {
         match self.schedule.advanced() {
             Some(schedule) => {
@@ -142,6 +145,7 @@ impl MasterCore {
         requires { length self.old.out ≤ 16 }
         ensures meets { (c : Course) → Meets self.old c → 1 ≤ c.phase → Meets self.new (course.decided (setup_of self.old) c (course.failed c.phase c.talks)) }
         ensures setup { setup_of self.new ≡ setup_of self.old }
+        ensures turns { self.new.turns ≡ self.old.turns }
     {
         match first_failed(&self.talks, self.phase) {
             Some(report) => self.report = Some(report),
@@ -154,6 +158,7 @@ impl MasterCore {
         requires { self.old.out ≡ [] }
         ensures meets { (c : Course) → StandsFor self.old c → Meets self.new (with_talks_turned (setup_of self.old) c) }
         ensures setup { setup_of self.new ≡ setup_of self.old }
+        ensures turns { self.new.turns ≡ self.old.turns }
         ensures room { length self.new.out ≤ 16 }
     {
         let settled = are_settled(&self.talks);
@@ -165,6 +170,7 @@ impl MasterCore {
         requires { self.old.out ≡ [] }
         ensures meets { (c : Course) → StandsFor self.old c → 1 ≤ c.phase → Meets self.new (course.turned (setup_of self.old) (course.with_turns (setup_of self.old) (list_all course.is_settled c.talks) c)) }
         ensures setup { setup_of self.new ≡ setup_of self.old }
+        ensures turns { self.new.turns ≡ self.old.turns }
     {
         self.turn_talks();
         self.count_row();
@@ -178,6 +184,7 @@ impl MasterCore {
         requires { self.old.out ≡ [] }
         ensures meets { (c : Course) → StandsFor self.old c → Meets self.new (course.after_turn (setup_of self.old) c) }
         ensures setup { setup_of self.new ≡ setup_of self.old }
+        ensures turns { self.new.turns ≡ self.old.turns }
     {
         if self.phase == 0 {
             self.begin_phase();
@@ -191,6 +198,7 @@ impl MasterCore {
         requires { self.old.out ≡ [] }
         ensures meets { (c : Course) → StandsFor self.old c → Meets self.new (with_gram_heard (setup_of self.old) from bytes.now c) }
         ensures setup { setup_of self.new ≡ setup_of self.old }
+        ensures turns { self.new.turns ≡ self.old.turns }
     {
         hear_all(
             &mut self.talks,
@@ -206,6 +214,7 @@ impl MasterCore {
         requires { self.old.out ≡ [] }
         ensures meets { (c : Course) → StandsFor self.old c → Meets self.new (course.after_gram (setup_of self.old) from bytes.now c) }
         ensures setup { setup_of self.new ≡ setup_of self.old }
+        ensures turns { self.new.turns ≡ self.old.turns }
     {
         self.hear(from, bytes);
         self.count_row();
