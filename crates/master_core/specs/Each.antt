@@ -1,0 +1,8 @@
+-- Two lists of one length whose elements at each place belong together.
+use Rattle.std.specs.Prelude.{List, [], ◌∷◌}
+
+abbrev pub Each : {A B : Type 0} → (A → B → Type 0) → List A → List B → Type 0
+Each R [] [] = Unit {0}
+Each R [] (y ∷ ys) = ⊥
+Each R (x ∷ xs) [] = ⊥
+Each R (x ∷ xs) (y ∷ ys) = R x y × Each R xs ys

@@ -1,0 +1,10 @@
+pub mod Stages
+pub mod Rest
+pub mod Slots
+pub mod Each
+pub mod Askable
+pub mod Talking
+pub mod Columns
+pub mod Fitting
+pub mod Scheduled
+pub mod Standing

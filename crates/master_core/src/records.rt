@@ -1,0 +1,42 @@
+//! What the master keeps.
+
+ghost use Rattle.std.specs.Prelude.{◌≡◌, ◌≤◌, false, length};
+
+use crate::outbox::Outbox;
+use crate::rows::Rows;
+use crate::stages::Schedule;
+use conversation::Conversation;
+use dcp_types::{Address, Limits};
+use master_spec::{Report, Slave};
+
+/// A conversation with a slave, and the outputs of the present phase once they have come.
+#[derive(Debug, Drop)]
+pub(crate) struct Talk {
+    /// It has at most 8 outputs.
+    pub slave: Slave,
+    pub conversation: Conversation,
+    /// The bytes of all its outputs, and then what was there before.
+    pub outputs: [u8; 64],
+    ghost few: { length slave.types ≤ 8 },
+    ghost quiet: { conversation.is_due ≡ false },
+}
+
+/// The master. It is driven as an end: `on_gram` and `on_turn` are its events; `outgoing` is what the
+/// newest event sends, and `clear_outgoing` says that it was sent. Only then may the next event come.
+/// `report`, `rows`, `row` and `turns` tell at any time how far it has come, and `is_over` whether there
+/// is a report. Only `new` takes memory.
+#[derive(Debug, Drop)]
+pub struct MasterCore {
+    pub(crate) address: Address,
+    pub(crate) limits: Limits,
+    /// One for each slave, in order: at most 16.
+    pub(crate) talks: Vec<Talk>,
+    /// How many phases have begun.
+    pub(crate) phase: u32,
+    pub(crate) schedule: Schedule,
+    pub(crate) rows: Rows,
+    pub(crate) report: Option<Report>,
+    pub(crate) turns: u64,
+    pub(crate) out: Outbox,
+    ghost few: { length talks.items ≤ 16 },
+}

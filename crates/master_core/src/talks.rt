@@ -1,0 +1,123 @@
+//! One conversation, and what it sends.
+
+ghost use Rattle.std.specs.Prelude.{◌≡◌, ◌<◌, ◌≤◌, ◌+◌, ◌++◌, false, length, take, Some, IfSome, MatchOption};
+ghost use Rattle.std.specs.List.{flat_map};
+ghost use Rattle.scenario.specs.Sound.{IsLimits};
+ghost use Rattle.dcp_types.specs.declared.limits.Limits.{Limits};
+ghost use Rattle.master_spec.specs.Marks.{Turned, Begun};
+ghost use Rattle.master_spec.specs.Course as course;
+ghost use Rattle.conversation.specs.Standing.{due_of};
+ghost use Rattle.dcp_ends.specs.Logs.{same_address};
+ghost use Rattle.master_spec.specs.News.{news_of};
+ghost use Rattle.master_core.specs.Stages as stages;
+ghost use Rattle.master_core.specs.Slots.{sends_to};
+ghost use Rattle.master_core.specs.Talking.{StandsAt, IsFresh, IsNow, Now, at_stage};
+
+use crate::outbox::Outbox;
+use crate::records::Talk;
+use crate::stages::Schedule;
+use crate::sizes::payload_size;
+use conversation::{Conversation, hear};
+use dcp_types::{Address, Limits};
+use master_spec::Slave;
+
+fn same_address(a: Address, b: Address) -> bool
+    ensures { result ≡ same_address a b }
+{
+    a.ip == b.ip && a.port == b.port
+}
+
+/// What is due to a slave goes out.
+fn send_due(conversation: &mut Conversation, to: Address, out: &mut Outbox)
+    requires { length out.old < 32 }
+    ensures cleared { conversation.new ≡ record conversation.old { is_due = false } }
+    ensures sends { out.new ≡ out.old ++ flat_map (sends_to to) (due_of conversation.old) }
+    ensures room { length out.new ≤ length out.old + 1 }
+{
+    if let Some(bytes) = conversation.due() {
+        out.put(to, bytes);
+    }
+    conversation.clear_due();
+}
+
+/// The room with the payload at its front, where there is one.
+fn with_taken(mut room: [u8; 64], taken: Option<&[u8]>) -> [u8; 64]
+    requires { IfSome taken (λ payload. length payload.now ≤ 64) }
+    ensures { MatchOption taken.entry (result ≡ room) (λ payload. take (length payload.now) result ≡ payload.now) }
+{
+    if let Some(payload) = taken {
+        room[..payload.len()].copy_from_slice(payload);
+    }
+    room
+}
+
+impl Talk {
+    /// A conversation with a slave, in which nothing has happened.
+    pub fn new(slave: Slave, limits: Limits) -> Talk
+        requires few { length slave.types ≤ 8 }
+        requires limits { IsLimits limits }
+        ensures slave { result.slave ≡ slave }
+        ensures fresh { IsFresh limits result }
+    {
+        let conversation = Conversation::new(slave.id, limits);
+        Talk {
+            slave,
+            conversation,
+            outputs: [0; 64],
+        }
+    }
+
+    /// The slave begins the present phase.
+    pub fn begin(&mut self, schedule: &Schedule, out: &mut Outbox)
+        requires { length out.old < 32 }
+        ensures stands { (limits : Limits) (now : Now) (talk : course.Talk) → StandsAt limits now self.old talk → StandsAt limits (at_stage schedule.now.steps schedule.now.stage) self.new (course.marked limits talk (Some (Begun (stages.job_at schedule.now.steps schedule.now.stage talk.slave.script)))) }
+        ensures sends { (limits : Limits) (now : Now) (talk : course.Talk) → StandsAt limits now self.old talk → out.new ≡ out.old ++ course.sends_after limits talk (Some (Begun (stages.job_at schedule.now.steps schedule.now.stage talk.slave.script))) }
+        ensures room { length out.new ≤ length out.old + 1 }
+        ensures slave { self.new.slave ≡ self.old.slave }
+    {
+        let task = schedule.task(self.slave.script.uuid);
+        let list = schedule.list(&self.slave.script);
+        self.conversation.begin(task, list);
+        send_due(&mut self.conversation, self.slave.address, out);
+    }
+
+    /// The master has its turn. `settled` tells that no slave was going when it began.
+    pub fn turn(&mut self, settled: bool, out: &mut Outbox)
+        requires { length out.old < 32 }
+        ensures stands { (limits : Limits) (now : Now) (talk : course.Talk) → StandsAt limits now self.old talk → StandsAt limits now self.new (course.marked limits talk (Some (Turned settled))) }
+        ensures sends { (limits : Limits) (now : Now) (talk : course.Talk) → StandsAt limits now self.old talk → out.new ≡ out.old ++ course.sends_after limits talk (Some (Turned settled)) }
+        ensures room { length out.new ≤ length out.old + 1 }
+        ensures slave { self.new.slave ≡ self.old.slave }
+    {
+        self.conversation.on_turn(settled);
+        send_due(&mut self.conversation, self.slave.address, out);
+    }
+
+    /// A datagram has come from the slave.
+    fn take(&mut self, schedule: &Schedule, bytes: &[u8], out: &mut Outbox)
+        requires { length out.old < 32 }
+        ensures stands { (limits : Limits) (now : Now) (talk : course.Talk) → StandsAt limits now self.old talk → IsNow schedule.now now → StandsAt limits now self.new (course.marked limits talk (course.mark_for talk.slave talk.marks (news_of bytes.now))) }
+        ensures sends { (limits : Limits) (now : Now) (talk : course.Talk) → StandsAt limits now self.old talk → IsNow schedule.now now → out.new ≡ out.old ++ course.sends_after limits talk (course.mark_for talk.slave talk.marks (news_of bytes.now)) }
+        ensures room { length out.new ≤ length out.old + 1 }
+        ensures slave { self.new.slave ≡ self.old.slave }
+    {
+        let size = payload_size(self.slave.types.as_slice());
+        let list = schedule.list(&self.slave.script);
+        let taken = hear(&mut self.conversation, size, list, bytes);
+        self.outputs = with_taken(self.outputs, taken);
+        send_due(&mut self.conversation, self.slave.address, out);
+    }
+
+    /// A datagram has come. It concerns the slave where it comes from its address.
+    pub fn hear(&mut self, schedule: &Schedule, from: Address, bytes: &[u8], out: &mut Outbox)
+        requires { length out.old < 32 }
+        ensures stands { (limits : Limits) (now : Now) (talk : course.Talk) → StandsAt limits now self.old talk → IsNow schedule.now now → StandsAt limits now self.new (course.marked limits talk (course.mark_of_gram talk from bytes.now)) }
+        ensures sends { (limits : Limits) (now : Now) (talk : course.Talk) → StandsAt limits now self.old talk → IsNow schedule.now now → out.new ≡ out.old ++ course.sends_after limits talk (course.mark_of_gram talk from bytes.now) }
+        ensures room { length out.new ≤ length out.old + 1 }
+        ensures slave { self.new.slave ≡ self.old.slave }
+    {
+        if same_address(from, self.slave.address) {
+            self.take(schedule, bytes, out);
+        }
+    }
+}
