@@ -15,17 +15,17 @@ use Rattle.dcp_types.specs.declared.data_types.DataType.TheVariants as types
 use Rattle.dcp_types.specs.Values.{fits}
 use Rattle.pdu_layout.specs.declared.messages.Cfg.{Cfg}
 use Rattle.pdu_layout.specs.declared.messages.Cfg.TheVariants as cfg
-use Rattle.slave_desc.specs.declared.lists.Port.{Port}
+use Rattle.slave_desc.specs.declared.ports.Port.{Port}
 use Rattle.slave_desc.specs.declared.descriptions.SlaveDesc.{SlaveDesc}
-use Rattle.slave_desc.specs.Canonical.{IsDesc}
+use Rattle.slave_desc.specs.Descriptions.{IsDesc}
 use Rattle.scenario.specs.declared.scenarios.Setting.{Setting}
 use Rattle.scenario.specs.declared.scenarios.Rerun.{Rerun}
 use Rattle.scenario.specs.declared.scenarios.Every.{Every}
 use Rattle.scenario.specs.declared.scenarios.Scenario.{Scenario}
-use Rattle.scenario.specs.Checks.{setting_in}
-use Rattle.scenario.specs.Links.{slave_at}
+use Rattle.scenario.specs.Settings.{setting_in}
+use Rattle.scenario.specs.Lookups.{slave_at}
 use Rattle.scenario.specs.Sound.{IsScenario, IsAddress, IsEvery}
-use Rattle.lockstep.specs.Wiring.{interval, q_of, every_between}
+use Rattle.scenario.specs.Wiring.{interval, q_of, every_between}
 use Rattle.plan_spec.specs.declared.links.DataLink.{DataLink}
 use Rattle.plan_spec.specs.declared.pairs.Pair.{Pair}
 use Rattle.plan_spec.specs.Links.{is_wire, is_wired, pairs_from, positions, wire_links, links_from, wired_pairs, wire_link}

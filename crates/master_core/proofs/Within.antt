@@ -4,7 +4,7 @@ use Rattle.std.specs.Prelude.{nat_lt, nat_le, if◌then◌else◌, slice_get}
 use Rattle.std.proofs.lemmas.Bool.{and_parts, leb-true, ltb-true}
 use Rattle.std.proofs.lemmas.Bool.Decides.{nat_tests}
 use Rattle.std.proofs.Math.Nat.{mul-le-mul_right, suc-mul}
-use Rattle.lockstep.specs.Lockstep.{place}
+use Rattle.lockstep.specs.Lockstep.{row_index}
 use Rattle.master_spec.specs.Tasks.{row_of}
 use Rattle.master_core.specs.declared.stages.Part.{Part}
 use Rattle.master_core.specs.declared.stages.Part.TheVariants as parts
@@ -45,7 +45,7 @@ row_task steps uuid run parts.Reset = refl
 row_task steps uuid run parts.Adjust = refl
 row_task steps uuid run parts.Deregister = refl
 
-place_below : (steps runs run k : ℕ) → 1 ≤ run → run ≤ runs → k ≤ steps → place steps run k < runs * (steps + 1)
+place_below : (steps runs run k : ℕ) → 1 ≤ run → run ≤ runs → k ≤ steps → row_index steps run k < runs * (steps + 1)
 place_below steps runs run k low high h =
     let whole : (run - 1 + 1) * (steps + 1) ≤ runs * (steps + 1) = mul-le-mul_right (steps + 1) (omega (arith, low, high)) in
     let one : suc (run - 1) * (steps + 1) ≡ (run - 1) * (steps + 1) + (steps + 1) = suc-mul (run - 1) (steps + 1) in

@@ -3,7 +3,7 @@ use Rattle.std.specs.Prelude.{◌<◌, All, FitsSigned}
 use Rattle.std.specs.Int.{w64}
 use Rattle.scenario.specs.declared.scenarios.Setting.{Setting}
 use Rattle.scenario.specs.declared.scenarios.Scenario.{Scenario}
-use Rattle.scenario.specs.Checks.{setting_in}
+use Rattle.scenario.specs.Settings.{setting_in}
 
 -- the index is a byte, the value a number of 64 bits
 abbrev pub IsTyped : Setting → Type 0

@@ -1,7 +1,7 @@
 -- The phases of a run as the code tells them apart, and the job that each of them is.
 use Rattle.std.specs.Prelude.{ℕ, ◌+◌, ◌-◌, ◌≤◌, nat_lt, nat_le, Bool, true, ◌&&◌, if◌then◌else◌, Option, Some, None, List, [], slice_index_or}
 use Rattle.pdu_layout.specs.declared.messages.Cfg.{Cfg}
-use Rattle.lockstep.specs.Lockstep.{place}
+use Rattle.lockstep.specs.Lockstep.{row_index}
 use Rattle.master_spec.specs.declared.setups.Script.{Script}
 use Rattle.master_spec.specs.declared.tasks.Task.{Task}
 use Rattle.master_spec.specs.declared.tasks.Task.TheVariants as tasks
@@ -17,10 +17,10 @@ task_in steps uuid run parts.Setup = tasks.Setup
 task_in steps uuid run parts.Prepare = tasks.Prepare
 task_in steps uuid run parts.Configure = tasks.Configure
 task_in steps uuid run parts.Initialize = tasks.Initialize
-task_in steps uuid run parts.FirstOutputs = tasks.FirstOutputs (place steps run 0)
+task_in steps uuid run parts.FirstOutputs = tasks.FirstOutputs (row_index steps run 0)
 task_in steps uuid run parts.Run = tasks.Run
 task_in steps uuid run (parts.Step k) = tasks.Step k
-task_in steps uuid run (parts.Outputs k) = tasks.Outputs k (place steps run k)
+task_in steps uuid run (parts.Outputs k) = tasks.Outputs k (row_index steps run k)
 task_in steps uuid run parts.Stop = tasks.Stop
 task_in steps uuid run parts.Reset = tasks.Reset
 task_in steps uuid run parts.Adjust = tasks.Adjust
@@ -49,10 +49,10 @@ row_in steps run parts.Setup = None
 row_in steps run parts.Prepare = None
 row_in steps run parts.Configure = None
 row_in steps run parts.Initialize = None
-row_in steps run parts.FirstOutputs = Some (place steps run 0)
+row_in steps run parts.FirstOutputs = Some (row_index steps run 0)
 row_in steps run parts.Run = None
 row_in steps run (parts.Step k) = None
-row_in steps run (parts.Outputs k) = Some (place steps run k)
+row_in steps run (parts.Outputs k) = Some (row_index steps run k)
 row_in steps run parts.Stop = None
 row_in steps run parts.Reset = None
 row_in steps run parts.Adjust = None
