@@ -9,11 +9,11 @@ ghost use Rattle.scenario.specs.Sound.{IsScenario};
 ghost use Rattle.master_core.specs.Talking.{IsFresh, slave_in};
 
 use config_plan::Plan;
-use dcp_types::{DataType, OutOfMemory};
+use dcp_types::{DataType, Items, OutOfMemory};
 use crate::records::Talk;
 use master_spec::{Script, Slave};
 use pdu_layout::Cfg;
-use scenario::{Items, Scenario};
+use scenario::Scenario;
 use slave_desc::{Port, SlaveDesc};
 use std::alloc::Global;
 
