@@ -35,46 +35,46 @@ all_fetched category (Fetch other most ∷ calls) = if other == category then al
 all_fetched category (call ∷ calls) = all_fetched category calls
 
 -- An entry that was noted in mode 0, whether it was fetched, and how many further entries of its category were noted in mode 0 before that.
-pub record Fate : Type 0 where
+pub record LogFate : Type 0 where
   pub line : LogLine
   pub is_fetched : Bool
   pub further : ℕ
 
 -- 64 further ones overwrite an entry
-abbrev pub is_overwritten : Fate → Bool
+abbrev pub is_overwritten : LogFate → Bool
 is_overwritten f = not (nat_lt f.further 64)
 
-abbrev pub waits : Fate → Bool
+abbrev pub waits : LogFate → Bool
 waits f = not f.is_fetched && nat_lt f.further 64
 
 -- one more entry is noted behind those that were not fetched
-abbrev pub one_further : Fate → Fate
+abbrev pub one_further : LogFate → LogFate
 one_further f = if f.is_fetched then f else record f { further = f.further + 1 }
 
-abbrev pub fresh : LogLine → Fate
-fresh entry = record { line = entry; is_fetched = false; further = 0 }
+abbrev pub just_noted : LogLine → LogFate
+just_noted entry = record { line = entry; is_fetched = false; further = 0 }
 
 -- the first so many of those that wait are fetched
-abbrev pub with_fetched : ℕ → List Fate → List Fate
-with_fetched zero fates = fates
+abbrev pub with_fetched : ℕ → List LogFate → List LogFate
+with_fetched zero log_fates = log_fates
 with_fetched (suc most) [] = []
-with_fetched (suc most) (f ∷ fates) = if waits f then record f { is_fetched = true } ∷ with_fetched most fates else f ∷ with_fetched (suc most) fates
+with_fetched (suc most) (f ∷ log_fates) = if waits f then record f { is_fetched = true } ∷ with_fetched most log_fates else f ∷ with_fetched (suc most) log_fates
 
 -- an entry of this level is noted in mode 0
-abbrev pub is_kept : Shelf → ℕ → Bool
-is_kept s level = is_noted s level && not (s.mode == 1)
+abbrev pub keeps : Shelf → ℕ → Bool
+keeps s level = is_noted s level && not (s.mode == 1)
 
 -- the entries of a category that were noted in mode 0, in order, each with what became of it
-abbrev pub fates : (category : ℕ) → List Call → List Fate
-fates category [] = []
-fates category (Note other level code step ∷ calls) =
+abbrev pub log_fates : (category : ℕ) → List Call → List LogFate
+log_fates category [] = []
+log_fates category (Note other level code step ∷ calls) =
     let s = shelf (after_calls calls) category in
-    (if (other == category) && is_kept s level then map one_further (fates category calls) ++ fresh (line s.next category level code step) ∷ [] else fates category calls)
-fates category (Fetch other most ∷ calls) = if other == category then with_fetched most (fates category calls) else fates category calls
-fates category (call ∷ calls) = fates category calls
+    (if (other == category) && keeps s level then map one_further (log_fates category calls) ++ just_noted (line s.next category level code step) ∷ [] else log_fates category calls)
+log_fates category (Fetch other most ∷ calls) = if other == category then with_fetched most (log_fates category calls) else log_fates category calls
+log_fates category (call ∷ calls) = log_fates category calls
 
 -- Nothing is lost and nothing comes twice: what was fetched and then what is kept are the entries noted in mode 0, in order, without the
 -- overwritten ones.
 abbrev pub KeepsAll : Type 0
 KeepsAll = (category : ℕ) (calls : List Call) → IsCategory category → AreCalls calls
-    → all_fetched category calls ++ (shelf (after_calls calls) category).kept ≡ map (λ f. f.line) (filter (λ f. not (is_overwritten f)) (fates category calls))
+    → all_fetched category calls ++ (shelf (after_calls calls) category).kept ≡ map (λ f. f.line) (filter (λ f. not (is_overwritten f)) (log_fates category calls))

@@ -17,9 +17,9 @@ use Rattle.dcp_types.specs.declared.addresses.Address.{Address}
 use Rattle.slave_desc.specs.declared.descriptions.SlaveDesc.{SlaveDesc}
 use Rattle.slave_wiring.specs.Changes.{Change, output, entries, ids, target, interval, base, ordinal}
 use Rattle.slave_wiring.specs.Payloads.{IsMessage, payload, data_message, all_fit, output_value, bytes_for, kind_of}
-use Rattle.wirings.specs.Ports.{index_of, place_with}
-use Rattle.wirings.specs.Payloads.{value_for, bytes_at}
-use Rattle.wirings.specs.declared.places.Place.{Place}
+use Rattle.wirings.specs.Ports.{port_index, place_with}
+use Rattle.wirings.specs.Payloads.{value_for, place_bytes}
+use Rattle.wirings.specs.declared.places.PortPlace.{PortPlace}
 use Rattle.wirings.specs.Sending.{output_row, AreOutputs}
 use Rattle.wirings.specs.declared.tables.OutputRow.{OutputRow}
 use Rattle.wirings.specs.declared.tables.Outputs.{Outputs}
@@ -36,17 +36,17 @@ width_few I32 = omega arith
 width_few I64 = omega arith
 
 -- the values at the first so many places are written
-pub record Written (outputs : List ℤ) (places : List Place) (room : List ℕ) (at i : ℕ) : Type 0 where
+pub record Written (outputs : List ℤ) (places : List PortPlace) (room : List ℕ) (at i : ℕ) : Type 0 where
   pub few : at ≤ 8 * i
-  pub bytes : take at room ≡ flat_map (bytes_at outputs) (take i places)
+  pub bytes : take at room ≡ flat_map (place_bytes outputs) (take i places)
 
-pub written_more : (outputs : List ℤ) (places : List Place) (room room' : List ℕ) (at at' i : ℕ) (d : Place) → i < length places → Written outputs places room at i
-    → at' ≡ at + width (get_or places i d).kind → take at' room' ≡ take at room ++ bytes_at outputs (get_or places i d) → Written outputs places room' at' (i + 1)
+pub written_more : (outputs : List ℤ) (places : List PortPlace) (room room' : List ℕ) (at at' i : ℕ) (d : PortPlace) → i < length places → Written outputs places room at i
+    → at' ≡ at + width (get_or places i d).kind → take at' room' ≡ take at room ++ place_bytes outputs (get_or places i d) → Written outputs places room' at' (i + 1)
 written_more outputs places room room' at at' i d within w end bytes =
-    let p : Place = get_or places i d in
+    let p : PortPlace = get_or places i d in
     record {
       few = omega (arith, width_few p.kind, w.few);
-      bytes = bytes ∙ ap (λ (l : List ℕ). l ++ bytes_at outputs p) w.bytes ∙ flat_map_more (bytes_at outputs) [] (take i places) p ∙ ap (flat_map (bytes_at outputs)) (sym (take_more places i d within));
+      bytes = bytes ∙ ap (λ (l : List ℕ). l ++ place_bytes outputs p) w.bytes ∙ flat_map_more (place_bytes outputs) [] (take i places) p ∙ ap (flat_map (place_bytes outputs)) (sym (take_more places i d within));
     }
 
 pub data_spelled : (a b : ℕ) (x : List ℕ) → a < 65536 → b < 65536 → ((i : ℕ) → get_or x i 0 < 256) → length x ≤ 64 → HasSpelling (data_message a b x)
@@ -61,7 +61,7 @@ pub some_bytes : (m : Message) (n : ℕ) (room : List ℕ) → Spells m (take n 
 some_bytes m n room s = omega (arith, ap length s.bytes, length-take n room)
 
 record IsValue (ports : List Port) (values : List ℤ) (vr : ℕ) : Type 0 where
-  is : get_or values (index_of vr ports) (pos 0) ≡ output_value vr ports values
+  is : get_or values (port_index vr ports) (pos 0) ≡ output_value vr ports values
   fit : fits (kind_of (port_with vr ports)) (output_value vr ports values) ≡ true
 
 left : (a b : Bool) → (a && b) ≡ true → a ≡ true
@@ -81,13 +81,13 @@ value_is (p ∷ ps) (v ∷ vs) vr h =
     (λ e. record { is = rw e refl; fit = rw e (left (fits p.kind v) (all_fit ps vs) h) })
     (λ e. let r = value_is ps vs vr (right (fits p.kind v) (all_fit ps vs) h) in record { is = rw e r.is; fit = rw e r.fit })
 
-bytes_same : (ports : List Port) (values : List ℤ) (vr : ℕ) → all_fit ports values ≡ true → bytes_at values (place_with ports vr) ≡ bytes_for ports values vr
+bytes_same : (ports : List Port) (values : List ℤ) (vr : ℕ) → all_fit ports values ≡ true → place_bytes values (place_with ports vr) ≡ bytes_for ports values vr
 bytes_same ports values vr h =
     let v = value_is ports values vr h in
     rw (v.is, v.fit) refl
 
 -- the payload at the places of these value references
-pub payload_same : (ports : List Port) (values : List ℤ) (vrs : List ℕ) → all_fit ports values ≡ true → flat_map (bytes_at values) (map (place_with ports) vrs) ≡ flat_map (bytes_for ports values) vrs
+pub payload_same : (ports : List Port) (values : List ℤ) (vrs : List ℕ) → all_fit ports values ≡ true → flat_map (place_bytes values) (map (place_with ports) vrs) ≡ flat_map (bytes_for ports values) vrs
 payload_same ports values [] h = refl
 payload_same ports values (vr ∷ vrs) h =
     let e = bytes_same ports values vr h in
@@ -117,7 +117,7 @@ no_message d changes o id i steps values room r h e read none =
 
 pub message : (d : SlaveDesc) (changes : List Change) (o : Outputs) (id i steps : ℕ) (values : List ℤ) (room : List ℕ) (r : OutputRow) (to : Address) (size number at : ℕ) (bytes : List ℕ)
     → AreOutputs d changes o → slice_get (ids output changes) i ≡ Some id → r ≡ get_or o.rows.items i r → all_fit d.outputs values ≡ true
-    → r.target ≡ Some to → number ≡ (r.base + steps / r.interval) % 65536 → at ≡ get_or o.ids i 0 → bytes ≡ flat_map (bytes_at values) r.places
+    → r.target ≡ Some to → number ≡ (r.base + steps / r.interval) % 65536 → at ≡ get_or o.ids i 0 → bytes ≡ flat_map (place_bytes values) r.places
     → take size room ≡ spelling (data_message number at bytes)
     → IsMessage d changes steps values id room (target id changes) (Some (to, size))
 message d changes o id i steps values room r to size number at bytes h e read fit goes n a b s =
@@ -127,7 +127,7 @@ message d changes o id i steps values room r to size number at bytes h e read fi
     let run = steps / interval output id changes in
     let n' : number ≡ ordinal output id changes steps % 65536 = n ∙ ap (λ (q : OutputRow). (q.base + steps / q.interval) % 65536) row ∙ mod-add-mod first 65536 run in
     let a' : at ≡ id = a ∙ ap (λ (l : List ℕ). get_or l i 0) h.sorted ∙ (got (ids output changes) i id e).is in
-    let b' : bytes ≡ payload d id changes values = b ∙ ap (λ (q : OutputRow). flat_map (bytes_at values) q.places) row ∙ payload_same d.outputs values (reverse (entries output id changes)) fit in
+    let b' : bytes ≡ payload d id changes values = b ∙ ap (λ (q : OutputRow). flat_map (place_bytes values) q.places) row ∙ payload_same d.outputs values (reverse (entries output id changes)) fit in
     let s' : take size room ≡ spelling (data_message (ordinal output id changes steps % 65536) id (payload d id changes values)) =
     s ∙ ap (λ (m : ℕ). spelling (data_message m at bytes)) n' ∙ ap (λ (m : ℕ). spelling (data_message (ordinal output id changes steps % 65536) m bytes)) a'
     ∙ ap (λ (l : List ℕ). spelling (data_message (ordinal output id changes steps % 65536) id l)) b' in

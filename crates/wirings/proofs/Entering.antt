@@ -20,9 +20,9 @@ use Rattle.slave_wiring.specs.Refusals.{refusal, port_with, is_wired, unless}
 use Rattle.slave_wiring.specs.Payloads as payloads
 use Rattle.slave_wiring.specs.Payloads.{Wires, Kept, Spot, kind_of, input_types, spot, value_at, input_value, inputs, kept_under}
 use Rattle.wirings.specs.Ids.{IsThere, IsPlaceFor}
-use Rattle.wirings.specs.Ports.{IsPort, index_of, place_with}
-use Rattle.wirings.specs.Receiving.{kept_ordinal, input_row, segment_of, segment_for, IsPlaced, IsSound, AreInputs}
-use Rattle.wirings.specs.declared.places.Place.{Place}
+use Rattle.wirings.specs.Ports.{IsPort, port_index, place_with}
+use Rattle.wirings.specs.Receiving.{kept_ordinal, input_row, segment_of, segment_for, IsPlaced, IsCoherent, AreInputs}
+use Rattle.wirings.specs.declared.places.PortPlace.{PortPlace}
 use Rattle.wirings.specs.declared.tables.InputRow.{InputRow}
 use Rattle.wirings.specs.declared.tables.Segment.{Segment}
 use Rattle.wirings.specs.declared.tables.Inputs.{Inputs}
@@ -33,21 +33,21 @@ use Rattle.wirings.proofs.Receiving.{there_at, place_at, row_is}
 
 -- ---- refusals
 
-kind_is : (vr : ℕ) (ports : List Port) (place : Place) (p : IsPort vr ports place) → place.kind ≡ p.port.kind
-kind_is vr ports place p = ap (λ (q : Place). q.kind) p.same ∙ ap kind_of p.found
+kind_is : (vr : ℕ) (ports : List Port) (place : PortPlace) (p : IsPort vr ports place) → place.kind ≡ p.port.kind
+kind_is vr ports place p = ap (λ (q : PortPlace). q.kind) p.same ∙ ap kind_of p.found
 
 pub no_input : (d : SlaveDesc) (changes : List Change) (id position vr : ℕ) (source : DataType) → port_with vr d.inputs ≡ None → refusal d changes (cfg.Input id position vr source) ≡ Some UnknownVr
 unfolding refusal
 no_input d changes id position vr source e = rw e refl
 
-pub bad_type : (d : SlaveDesc) (changes : List Change) (id position vr : ℕ) (source : DataType) (place : Place) → IsPort vr d.inputs place → type_code source ≢ type_code place.kind → refusal d changes (cfg.Input id position vr source) ≡ Some TypeMismatch
+pub bad_type : (d : SlaveDesc) (changes : List Change) (id position vr : ℕ) (source : DataType) (place : PortPlace) → IsPort vr d.inputs place → type_code source ≢ type_code place.kind → refusal d changes (cfg.Input id position vr source) ≡ Some TypeMismatch
 unfolding refusal
 bad_type d changes id position vr source place p ne =
     let k : type_code place.kind ≡ type_code p.port.kind = ap type_code (kind_is vr d.inputs place p) in
     let e : (type_code source == type_code p.port.kind) ≡ false = grind (arith, nat_tests, ne, k) in
     rw (p.found, e) refl
 
-pub judged : (d : SlaveDesc) (changes : List Change) (id position vr : ℕ) (source : DataType) (place : Place) (b : Bool) → IsPort vr d.inputs place → type_code source ≡ type_code place.kind
+pub judged : (d : SlaveDesc) (changes : List Change) (id position vr : ℕ) (source : DataType) (place : PortPlace) (b : Bool) → IsPort vr d.inputs place → type_code source ≡ type_code place.kind
     → ((position == length (entries input id changes)) && not (is_wired vr changes)) ≡ b → refusal d changes (cfg.Input id position vr source) ≡ unless b Position
 unfolding refusal
 judged d changes id position vr source place b p same e =
@@ -58,7 +58,7 @@ judged d changes id position vr source place b p same e =
 -- ---- the port of an entry among all ports
 
 record IsHere (vr : ℕ) (ports : List Port) (port : Port) : Type 0 where
-  at : (d : Port) → get_or ports (index_of vr ports) d ≡ port
+  at : (d : Port) → get_or ports (port_index vr ports) d ≡ port
   vr' : port.vr ≡ vr
 
 here : (vr : ℕ) (ports : List Port) (port : Port) → port_with vr ports ≡ Some port → IsHere vr ports port
@@ -84,7 +84,7 @@ map_apart f g vr (p ∷ ps) a same =
     cc
 
 -- g is f but at the port with a value reference
-map_port : {R : Type 0} (f g : Port → R) (vr : ℕ) (ports : List Port) (port : Port) → AreApart ports → port_with vr ports ≡ Some port → ((q : Port) → vr ≢ q.vr → g q ≡ f q) → map g ports ≡ set (map f ports) (index_of vr ports) (g port)
+map_port : {R : Type 0} (f g : Port → R) (vr : ℕ) (ports : List Port) (port : Port) → AreApart ports → port_with vr ports ≡ Some port → ((q : Port) → vr ≢ q.vr → g q ≡ f q) → map g ports ≡ set (map f ports) (port_index vr ports) (g port)
 map_port f g vr [] port a e same = absurd cc
 map_port f g vr (p ∷ ps) port a e same =
     by_test (p.vr == vr)
@@ -97,15 +97,15 @@ map_port f g vr (p ∷ ps) port a e same =
     let found : port_with vr ps ≡ Some port = rw t at e in
     let h = same p ne in
     let r = map_port f g vr ps port (apart_rest p ps a) found same in
-    rw t (ap (λ l. g p ∷ l) r ∙ ap (λ x. x ∷ set (map f ps) (index_of vr ps) (g port)) h))
+    rw t (ap (λ l. g p ∷ l) r ∙ ap (λ x. x ∷ set (map f ps) (port_index vr ps) (g port)) h))
 
 -- ---- where the input of an entry stood before
 
-pub segment_there : (d : SlaveDesc) (w : Wires) (s : Inputs) (vr : ℕ) (place : Place) → AreInputs d w s → IsPort vr d.inputs place → get_or s.segments place.index None ≡ segment_for d w.changes (spot vr w.changes)
+pub segment_there : (d : SlaveDesc) (w : Wires) (s : Inputs) (vr : ℕ) (place : PortPlace) → AreInputs d w s → IsPort vr d.inputs place → get_or s.segments place.index None ≡ segment_for d w.changes (spot vr w.changes)
 segment_there d w s vr place h p =
     let f : Port → Option Segment = λ port. segment_for d w.changes (spot port.vr w.changes) in
     let r = here vr d.inputs p.port p.found in
-    let at : get_or d.inputs place.index p.port ≡ p.port = ap (λ (q : Place). get_or d.inputs q.index p.port) p.same ∙ r.at p.port in
+    let at : get_or d.inputs place.index p.port ≡ p.port = ap (λ (q : PortPlace). get_or d.inputs q.index p.port) p.same ∙ r.at p.port in
     sym (get_or-take (length d.inputs) s.segments place.index None p.within)
     ∙ ap (λ l. get_or l place.index None) h.segments
     ∙ get_or-map f d.inputs place.index p.port None p.within
@@ -119,10 +119,10 @@ stands_somewhere : (d : SlaveDesc) (changes : List Change) (o : Option Spot) →
 stands_somewhere d changes None = refl
 stands_somewhere d changes (Some e) = refl
 
-pub free_is : (d : SlaveDesc) (w : Wires) (s : Inputs) (vr : ℕ) (place : Place) → AreInputs d w s → IsPort vr d.inputs place → get_or s.segments place.index None ≡ None → spot vr w.changes ≡ None
+pub free_is : (d : SlaveDesc) (w : Wires) (s : Inputs) (vr : ℕ) (place : PortPlace) → AreInputs d w s → IsPort vr d.inputs place → get_or s.segments place.index None ≡ None → spot vr w.changes ≡ None
 free_is d w s vr place h p e = stands_nowhere d w.changes (spot vr w.changes) (sym (segment_there d w s vr place h p) ∙ e)
 
-pub wired_at : (d : SlaveDesc) (w : Wires) (s : Inputs) (vr : ℕ) (place : Place) → AreInputs d w s → IsPort vr d.inputs place → is_some (get_or s.segments place.index None) ≡ is_wired vr w.changes
+pub wired_at : (d : SlaveDesc) (w : Wires) (s : Inputs) (vr : ℕ) (place : PortPlace) → AreInputs d w s → IsPort vr d.inputs place → is_some (get_or s.segments place.index None) ≡ is_wired vr w.changes
 wired_at d w s vr place h p = ap (λ (o : Option Segment). is_some o) (segment_there d w s vr place h p) ∙ stands_somewhere d w.changes (spot vr w.changes) ∙ sym (wired_is vr w.changes)
 
 -- ---- after the entry
@@ -176,7 +176,7 @@ own_segment d w id position vr y source t size =
     ∙ ap (λ (l : List DataType). Some (segment_of l e)) (types_own d w.changes id position vr source id (same_id id))
     ∙ ap (λ (g : Segment). Some g) (segment_is (types ++ kind ∷ []) kind e (placed_last types kind e size))
 
-own_value : (d : SlaveDesc) (w : Wires) (id position vr y : ℕ) (source : DataType) → IsSound d w → (vr == y) ≡ true → position ≡ length (input_types d id w.changes)
+own_value : (d : SlaveDesc) (w : Wires) (id position vr y : ℕ) (source : DataType) → IsCoherent d w → (vr == y) ≡ true → position ≡ length (input_types d id w.changes)
     → value_at d (after w id position vr source) (spot y (Set (cfg.Input id position vr source) ∷ w.changes)) ≡ pos 0
 own_value d w id position vr y source h t size =
     let types = input_types d id w.changes in
@@ -187,7 +187,7 @@ own_value d w id position vr y source h t size =
     ∙ kept_short types kind e (kept_under id w.kept) size (λ k o. h.short id k o)
 
 -- the other ports
-other_segment : (d : SlaveDesc) (w : Wires) (id position vr y : ℕ) (source : DataType) → IsSound d w → vr ≢ y
+other_segment : (d : SlaveDesc) (w : Wires) (id position vr y : ℕ) (source : DataType) → IsCoherent d w → vr ≢ y
     → segment_for d (Set (cfg.Input id position vr source) ∷ w.changes) (spot y (Set (cfg.Input id position vr source) ∷ w.changes)) ≡ segment_for d w.changes (spot y w.changes)
 other_segment d w id position vr y source h ne =
     let t : (vr == y) ≡ false = grind (arith, nat_tests, ne) in
@@ -197,7 +197,7 @@ other_segment d w id position vr y source h ne =
     at None e = refl
     at (Some x) e = ap (λ (g : Segment). Some g) (segment_still d w.changes id position vr source (kind_of (port_with y d.inputs)) x (h.placed y x e))
 
-values_still : (d : SlaveDesc) (w : Wires) (id position vr y : ℕ) (source : DataType) → IsSound d w → position ≡ length (input_types d id w.changes) → spot vr w.changes ≡ None
+values_still : (d : SlaveDesc) (w : Wires) (id position vr y : ℕ) (source : DataType) → IsCoherent d w → position ≡ length (input_types d id w.changes) → spot vr w.changes ≡ None
     → value_at d (after w id position vr source) (spot y (Set (cfg.Input id position vr source) ∷ w.changes)) ≡ value_at d w (spot y w.changes)
 values_still d w id position vr y source h size free =
     by_test (vr == y)
@@ -213,7 +213,7 @@ map_each : {R : Type 0} (f g : Port → R) (ports : List Port) → ((q : Port) �
 map_each f g [] same = refl
 map_each f g (p ∷ ps) same = let e = same p in let r = map_each f g ps same in cc
 
-sound_still : (d : SlaveDesc) (w : Wires) (id position vr : ℕ) (source : DataType) → IsSound d w → position ≡ length (input_types d id w.changes) → IsSound d (after w id position vr source)
+sound_still : (d : SlaveDesc) (w : Wires) (id position vr : ℕ) (source : DataType) → IsCoherent d w → position ≡ length (input_types d id w.changes) → IsCoherent d (after w id position vr source)
 sound_still d w id position vr source' h size = record {
   told = λ y e. h.told y (has_fewer (vr_for y (input (Set (cfg.Input id position vr source')))) (entries input y w.changes) e);
   none = λ y e. h.none y (has_fewer (vr_for y (input (Set (cfg.Input id position vr source')))) (entries input y w.changes) e);
@@ -256,7 +256,7 @@ own_row d w id position vr source =
     ∙ ap (λ (n : ℕ). record r { count = length (entries input id w.changes) + 1; size = n }) z
 
 -- what the entry makes of the segments and the values
-pub entered_segments : (d : SlaveDesc) (w : Wires) (s : Inputs) (id position vr size : ℕ) (source : DataType) (place : Place) → AreInputs d w s → IsPort vr d.inputs place → position ≡ length (input_types d id w.changes) → size ≡ sum_by width (input_types d id w.changes)
+pub entered_segments : (d : SlaveDesc) (w : Wires) (s : Inputs) (id position vr size : ℕ) (source : DataType) (place : PortPlace) → AreInputs d w s → IsPort vr d.inputs place → position ≡ length (input_types d id w.changes) → size ≡ sum_by width (input_types d id w.changes)
     → take (length d.inputs) (set s.segments place.index (Some (record { id = id; offset = size; kind = place.kind }))) ≡ map (λ port. segment_for d (Set (cfg.Input id position vr source) ∷ w.changes) (spot port.vr (Set (cfg.Input id position vr source) ∷ w.changes))) d.inputs
 entered_segments d w s id position vr size source place h p at bytes =
     let changes : List Change = Set (cfg.Input id position vr source) ∷ w.changes in
@@ -266,8 +266,8 @@ entered_segments d w s id position vr size source place h p at bytes =
     let r = here vr d.inputs port p.found in
     let new : Option Segment = Some (record { id = id; offset = size; kind = place.kind }) in
     let t : (vr == port.vr) ≡ true = grind (arith, nat_tests, r.vr') in
-    let k : place.kind ≡ kind_of (port_with vr d.inputs) = ap (λ (q : Place). q.kind) p.same in
-    let i : place.index ≡ index_of vr d.inputs = ap (λ (q : Place). q.index) p.same in
+    let k : place.kind ≡ kind_of (port_with vr d.inputs) = ap (λ (q : PortPlace). q.kind) p.same in
+    let i : place.index ≡ port_index vr d.inputs = ap (λ (q : PortPlace). q.index) p.same in
     let mine : new ≡ g port =
     ap (λ (n : ℕ). Some (record { id = id; offset = n; kind = place.kind })) bytes
     ∙ ap (λ (q : DataType). Some (record { id = id; offset = sum_by width (input_types d id w.changes); kind = q })) k
@@ -275,7 +275,7 @@ entered_segments d w s id position vr size source place h p at bytes =
     take-set-lt (length d.inputs) s.segments place.index new p.within
     ∙ ap (λ (l : List (Option Segment)). set l place.index new) h.segments
     ∙ ap (λ (n : ℕ). set (map f d.inputs) n new) i
-    ∙ ap (set (map f d.inputs) (index_of vr d.inputs)) mine
+    ∙ ap (set (map f d.inputs) (port_index vr d.inputs)) mine
     ∙ sym (map_port f g vr d.inputs port h.apart p.found (λ q ne. other_segment d w id position vr q.vr source h.sound ne))
 
 pub entered_values : (d : SlaveDesc) (w : Wires) (s : Inputs) (id position vr : ℕ) (source : DataType) → AreInputs d w s → position ≡ length (input_types d id w.changes) → spot vr w.changes ≡ None
@@ -283,7 +283,7 @@ pub entered_values : (d : SlaveDesc) (w : Wires) (s : Inputs) (id position vr : 
 entered_values d w s id position vr source h at free =
     h.values ∙ sym (map_each (input_value d w) (input_value d (after w id position vr source)) d.inputs (λ q. values_still d w id position vr q.vr source h.sound at free))
 
-pub extended : (d : SlaveDesc) (w : Wires) (s n : Inputs) (id i position vr : ℕ) (source : DataType) (r : InputRow) (place : Place)
+pub extended : (d : SlaveDesc) (w : Wires) (s n : Inputs) (id i position vr : ℕ) (source : DataType) (r : InputRow) (place : PortPlace)
     → AreInputs d w s → IsThere s.ids id i → IsPort vr d.inputs place → get_or s.segments place.index None ≡ None → r ≡ get_or s.rows.items i r → position ≡ r.count
     → n.ports.items ≡ s.ports.items → n.ids ≡ s.ids → n.rows.items ≡ set s.rows.items i (record r { count = r.count + 1; size = r.size + width place.kind })
     → n.segments ≡ set s.segments place.index (Some (record { id = id; offset = r.size; kind = place.kind })) → n.values ≡ s.values
@@ -295,7 +295,7 @@ extended d w s n id i position vr source r place h t p free read count ports sam
     let at : IsThere all id i = there_at d w s id i h t in
     let kept : put_ascending id all ≡ all = put_there id i all at in
     let own : r ≡ f id = row_is d w s id i r h t read in
-    let k : place.kind ≡ kind_of (port_with vr d.inputs) = ap (λ (q : Place). q.kind) p.same in
+    let k : place.kind ≡ kind_of (port_with vr d.inputs) = ap (λ (q : PortPlace). q.kind) p.same in
     let new : InputRow = record r { count = r.count + 1; size = r.size + width place.kind } in
     let mine : new ≡ g id =
     ap (λ (q : InputRow). record q { count = q.count + 1; size = q.size + width place.kind }) own
@@ -325,7 +325,7 @@ same_row r q c z s v b k =
     let f6 : Option ℕ → InputRow = λ x. record q { kept = x } in
     ap f1 c ∙ ap f2 z ∙ ap f3 s ∙ ap f4 v ∙ ap f5 b ∙ ap f6 k
 
-pub begun : (d : SlaveDesc) (w : Wires) (s n : Inputs) (id i position vr : ℕ) (source' : DataType) (place : Place)
+pub begun : (d : SlaveDesc) (w : Wires) (s n : Inputs) (id i position vr : ℕ) (source' : DataType) (place : PortPlace)
     → AreInputs d w s → IsPlaceFor s.ids id i → IsPort vr d.inputs place → get_or s.segments place.index None ≡ None → position ≡ 0
     → n.ports.items ≡ s.ports.items → n.ids ≡ insert s.ids i id
     → n.rows.items ≡ insert s.rows.items i (record { count = 1; size = width place.kind; source = None; interval = 1; base = 0; kept = None })
@@ -340,7 +340,7 @@ begun d w s n id i position vr source' place h t p free zero' ports ids' rows se
     let put : put_ascending id all ≡ insert all i id = put_new id i all at in
     let e : entries input id w.changes ≡ [] = has_none (entries input id w.changes) new in
     let types : input_types d id w.changes ≡ [] = ap (λ (l : List ℕ). map (λ v. kind_of (port_with v d.inputs)) (reverse l)) e in
-    let k : place.kind ≡ kind_of (port_with vr d.inputs) = ap (λ (q : Place). q.kind) p.same in
+    let k : place.kind ≡ kind_of (port_with vr d.inputs) = ap (λ (q : PortPlace). q.kind) p.same in
     let size : 0 ≡ sum_by width (input_types d id w.changes) = ap (sum_by width) (sym types) in
     let row : InputRow = record { count = 1; size = width place.kind; source = None; interval = 1; base = 0; kept = None } in
     let c : 1 ≡ length (entries input id w.changes) + 1 = ap (λ (l : List ℕ). length l + 1) (sym e) in
@@ -372,7 +372,7 @@ pub none_yet : (d : SlaveDesc) (w : Wires) (s : Inputs) (id i : ℕ) → AreInpu
 none_yet d w s id i h t = ap (λ (l : List ℕ). length l) (sym (has_none (entries input id w.changes) (unknown input id i w.changes (place_at d w s id i h t))))
 
 -- an input is wired already
-pub wired_refused : (d : SlaveDesc) (w : Wires) (s : Inputs) (id position vr : ℕ) (source : DataType) (place : Place) → AreInputs d w s → IsPort vr d.inputs place → type_code source ≡ type_code place.kind → is_some (get_or s.segments place.index None) ≡ true → refusal d w.changes (cfg.Input id position vr source) ≡ Some Position
+pub wired_refused : (d : SlaveDesc) (w : Wires) (s : Inputs) (id position vr : ℕ) (source : DataType) (place : PortPlace) → AreInputs d w s → IsPort vr d.inputs place → type_code source ≡ type_code place.kind → is_some (get_or s.segments place.index None) ≡ true → refusal d w.changes (cfg.Input id position vr source) ≡ Some Position
 wired_refused d w s id position vr source place h p same e =
     let x : is_wired vr w.changes ≡ true = sym (wired_at d w s vr place h p) ∙ e in
     judged d w.changes id position vr source place false p same (rw x (never (position == length (entries input id w.changes))))
@@ -381,7 +381,7 @@ wired_refused d w s id position vr source place h p same e =
     never true = refl
     never false = refl
 
-pub position_judged : (d : SlaveDesc) (w : Wires) (s : Inputs) (id position vr count : ℕ) (source : DataType) (place : Place) (b : Bool) → AreInputs d w s → IsPort vr d.inputs place → type_code source ≡ type_code place.kind → get_or s.segments place.index None ≡ None
+pub position_judged : (d : SlaveDesc) (w : Wires) (s : Inputs) (id position vr count : ℕ) (source : DataType) (place : PortPlace) (b : Bool) → AreInputs d w s → IsPort vr d.inputs place → type_code source ≡ type_code place.kind → get_or s.segments place.index None ≡ None
     → count ≡ length (entries input id w.changes) → (position == count) ≡ b → refusal d w.changes (cfg.Input id position vr source) ≡ unless b Position
 position_judged d w s id position vr count source place b h p same free n e =
     let x : is_wired vr w.changes ≡ false = sym (wired_at d w s vr place h p) ∙ ap (λ (o : Option Segment). is_some o) free in

@@ -4,12 +4,12 @@ use Rattle.std.proofs.lemmas.Bool.Decides.{nat_tests}
 use Rattle.std.specs.Prelude.{◌==◌}
 use Rattle.slave_desc.specs.declared.ports.Port.{Port}
 use Rattle.slave_wiring.specs.Refusals.{port_with}
-use Rattle.wirings.specs.declared.places.Place.{Place}
-use Rattle.wirings.specs.Ports.{index_of, IsPort}
+use Rattle.wirings.specs.declared.places.PortPlace.{PortPlace}
+use Rattle.wirings.specs.Ports.{port_index, IsPort}
 use Rattle.std.proofs.lemmas.List.{get_or_default}
 
 pub record IsFirst (vr : ℕ) (ports : List Port) (i : ℕ) (port : Port) : Type 0 where
-  pub index : index_of vr ports ≡ i
+  pub index : port_index vr ports ≡ i
   pub found : port_with vr ports ≡ Some port
 
 pub first_is : (vr : ℕ) (ports : List Port) (i : ℕ) (port : Port) → i < length ports → ((k : ℕ) (d : Port) → k < i → (get_or ports k d).vr ≢ vr) → get_or ports i port ≡ port → port.vr ≡ vr → IsFirst vr ports i port
@@ -35,7 +35,7 @@ port_found vr ports i d within front same =
     let r = first_is vr ports i port within front (get_or_default ports i port d within) same in
     record { port = port; found = r.found; same = rw (r.index, r.found) refl; within = within }
 
-pub port_of : (vr : ℕ) (xs ports : List Port) (place : Place) → xs ≡ ports → IsPort vr xs place → IsPort vr ports place
+pub port_of : (vr : ℕ) (xs ports : List Port) (place : PortPlace) → xs ≡ ports → IsPort vr xs place → IsPort vr ports place
 port_of vr xs ports place e p = subst (λ (l : List Port). IsPort vr l place) e p
 
 pub no_port_of : (vr : ℕ) (xs ports : List Port) → xs ≡ ports → port_with vr xs ≡ None → port_with vr ports ≡ None

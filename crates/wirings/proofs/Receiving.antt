@@ -24,9 +24,9 @@ use Rattle.slave_wiring.specs.Refusals.{refusal, port_with, is_wired, unless, is
 use Rattle.slave_wiring.specs.Payloads as payloads
 use Rattle.slave_wiring.specs.Payloads.{Wires, Kept, Spot, bare, brought, is_wanted, kind_of, input_types, spot, spot_given, value_kept, value_at, input_value, inputs, kept_under, is_address, is_here, is_of, restarted, cut}
 use Rattle.wirings.specs.Ids.{IsThere, IsPlaceFor, IsFound}
-use Rattle.wirings.specs.Ports.{IsPort, index_of, place_with}
-use Rattle.wirings.specs.Receiving.{kept_ordinal, input_row, segment_of, segment_for, segment_value, value_after, IsPlaced, IsSound, AreInputs, is_kept_for, wants, input_restarted}
-use Rattle.wirings.specs.declared.places.Place.{Place}
+use Rattle.wirings.specs.Ports.{IsPort, port_index, place_with}
+use Rattle.wirings.specs.Receiving.{kept_ordinal, input_row, segment_of, segment_for, segment_value, value_after, IsPlaced, IsCoherent, AreInputs, is_kept_for, wants, input_restarted}
+use Rattle.wirings.specs.declared.places.PortPlace.{PortPlace}
 use Rattle.wirings.specs.declared.tables.InputRow.{InputRow}
 use Rattle.wirings.specs.declared.tables.Segment.{Segment}
 use Rattle.wirings.specs.declared.tables.Inputs.{Inputs}

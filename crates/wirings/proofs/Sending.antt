@@ -18,7 +18,7 @@ use Rattle.slave_wiring.specs.Refusals.{is_transport, refusal, is_full, output_r
 use Rattle.wirings.specs.Ids.{IsThere, IsPlaceFor, IsFound}
 use Rattle.wirings.specs.Ports.{IsPort, place_with}
 use Rattle.wirings.specs.Sending.{output_row, AreOutputs, row_restarted}
-use Rattle.wirings.specs.declared.places.Place.{Place}
+use Rattle.wirings.specs.declared.places.PortPlace.{PortPlace}
 use Rattle.wirings.specs.declared.tables.OutputRow.{OutputRow}
 use Rattle.wirings.specs.declared.tables.Outputs.{Outputs}
 use Rattle.wirings.proofs.Ascending.{by_test, among_there, not_among, put_there, put_new, map_set, map_insert, map_absent, row_at}
@@ -43,7 +43,7 @@ pub no_port : (d : SlaveDesc) (changes : List Change) (id position vr : ℕ) →
 unfolding refusal
 no_port d changes id position vr f p = rw (f, p) refl
 
-pub judged : (d : SlaveDesc) (changes : List Change) (id position vr : ℕ) (place : Place) → is_full id changes ≡ false → IsPort vr d.outputs place → (b : Bool) → ((position == length (entries output id changes)) && nat_lt position 8) ≡ b → refusal d changes (cfg.Output id position vr) ≡ unless b Position
+pub judged : (d : SlaveDesc) (changes : List Change) (id position vr : ℕ) (place : PortPlace) → is_full id changes ≡ false → IsPort vr d.outputs place → (b : Bool) → ((position == length (entries output id changes)) && nat_lt position 8) ≡ b → refusal d changes (cfg.Output id position vr) ≡ unless b Position
 unfolding refusal
 judged d changes id position vr place f p b e = rw (f, p.found, e) refl
 
@@ -54,20 +54,20 @@ other_row ports changes id position vr y ne =
     rw e refl
 
 -- and gives its own one place more
-own_row : (ports : List Port) (changes : List Change) (id position vr : ℕ) (place : Place) → place ≡ place_with ports vr
+own_row : (ports : List Port) (changes : List Change) (id position vr : ℕ) (place : PortPlace) → place ≡ place_with ports vr
     → output_row ports (Set (cfg.Output id position vr) ∷ changes) id ≡ record (output_row ports changes id) { places = (output_row ports changes id).places ++ place ∷ [] }
 own_row ports changes id position vr place p =
     let e : (id == id) ≡ true = grind (arith, nat_tests) in
-    let f : Place → List Place = λ q. map (place_with ports) (reverse (entries output id changes)) ++ q ∷ [] in
+    let f : PortPlace → List PortPlace = λ q. map (place_with ports) (reverse (entries output id changes)) ++ q ∷ [] in
     let m : map (place_with ports) (reverse (vr ∷ entries output id changes)) ≡ map (place_with ports) (reverse (entries output id changes)) ++ place ∷ [] =
     ap (map (place_with ports)) (reverse-append (vr ∷ []) (entries output id changes)) ∙ map-append (place_with ports) (reverse (entries output id changes)) (vr ∷ []) ∙ ap f (sym p) in
-    rw e (ap (λ (l : List Place). record (output_row ports changes id) { places = l }) m)
+    rw e (ap (λ (l : List PortPlace). record (output_row ports changes id) { places = l }) m)
 
 pub told_still : (d : SlaveDesc) (changes : List Change) (id position vr : ℕ) → ((y : ℕ) → has_id output y changes ≡ false → target y changes ≡ None)
     → (y : ℕ) → has_id output y (Set (cfg.Output id position vr) ∷ changes) ≡ false → target y changes ≡ None
 told_still d changes id position vr told y h = told y (has_fewer (vr_for y (output (Set (cfg.Output id position vr)))) (entries output y changes) h)
 
-pub extended : (d : SlaveDesc) (changes : List Change) (o n : Outputs) (id i position vr : ℕ) (r : OutputRow) (places : List Place) (place : Place)
+pub extended : (d : SlaveDesc) (changes : List Change) (o n : Outputs) (id i position vr : ℕ) (r : OutputRow) (places : List PortPlace) (place : PortPlace)
     → AreOutputs d changes o → IsThere o.ids id i → IsPort vr d.outputs place → r ≡ get_or o.rows.items i r → places ≡ r.places ++ place ∷ []
     → n.ports.items ≡ o.ports.items → n.ids ≡ o.ids → n.rows.items ≡ set o.rows.items i (record r { places = places })
     → AreOutputs d (Set (cfg.Output id position vr) ∷ changes) n
@@ -79,7 +79,7 @@ extended d changes o n id i position vr r places place h t p read pushed ports s
     let kept : put_ascending id all ≡ all = put_there id i all at in
     let own : r ≡ f id = read ∙ ap (λ (l : List OutputRow). get_or l i r) h.rows ∙ row_at f id i all r at in
     let mine : record r { places = places } ≡ g id =
-    ap (λ (l : List Place). record r { places = l }) pushed
+    ap (λ (l : List PortPlace). record r { places = l }) pushed
     ∙ ap (λ (q : OutputRow). record q { places = q.places ++ place ∷ [] }) own
     ∙ sym (own_row d.outputs changes id position vr place p.same) in
     record {
@@ -92,16 +92,16 @@ extended d changes o n id i position vr r places place h t p read pushed ports s
       told = told_still d changes id position vr h.told;
     }
 
-same_row : (r : OutputRow) (p : List Place) (t : Option Address) (q b : ℕ) → r.places ≡ p → r.target ≡ t → r.interval ≡ q → r.base ≡ b → r ≡ record { places = p; target = t; interval = q; base = b }
+same_row : (r : OutputRow) (p : List PortPlace) (t : Option Address) (q b : ℕ) → r.places ≡ p → r.target ≡ t → r.interval ≡ q → r.base ≡ b → r ≡ record { places = p; target = t; interval = q; base = b }
 same_row r p t q b e f g h =
-    let f1 : List Place → OutputRow = λ x. record r { places = x } in
+    let f1 : List PortPlace → OutputRow = λ x. record r { places = x } in
     let f2 : Option Address → OutputRow = λ x. record r { places = p; target = x } in
     let f3 : ℕ → OutputRow = λ x. record r { places = p; target = t; interval = x } in
     let f4 : ℕ → OutputRow = λ x. record r { places = p; target = t; interval = q; base = x } in
     ap f1 e ∙ ap f2 f ∙ ap f3 g ∙ ap f4 h
 
 -- what is kept of an id with its first entry
-first_row : (ports : List Port) (changes : List Change) (id position vr : ℕ) (place : Place) (r : OutputRow) → place ≡ place_with ports vr
+first_row : (ports : List Port) (changes : List Change) (id position vr : ℕ) (place : PortPlace) (r : OutputRow) → place ≡ place_with ports vr
     → has_id output id changes ≡ false → target id changes ≡ None
     → r.places ≡ place ∷ [] → r.target ≡ None → r.interval ≡ 1 → r.base ≡ 0
     → r ≡ output_row ports (Set (cfg.Output id position vr) ∷ changes) id
@@ -109,14 +109,14 @@ first_row ports changes id position vr place r p new none places target' every f
     let e : entries output id changes ≡ [] = has_none (entries output id changes) new in
     let b : base output id changes ≡ 0 = base_new output id changes new in
     same_row r _ _ _ _
-    (places ∙ ap (λ (q : Place). q ∷ []) p ∙ ap (λ (l : List ℕ). map (place_with ports) (reverse l) ++ place_with ports vr ∷ []) (sym e))
+    (places ∙ ap (λ (q : PortPlace). q ∷ []) p ∙ ap (λ (l : List ℕ). map (place_with ports) (reverse l) ++ place_with ports vr ∷ []) (sym e))
     (target' ∙ sym none)
     (every ∙ sym (interval_new output id changes new))
     (first ∙ ap (λ (n : ℕ). n % 65536) (sym b))
-    ∙ ap (λ (q : Place). record (output_row ports changes id) { places = (output_row ports changes id).places ++ q ∷ [] }) (sym p)
+    ∙ ap (λ (q : PortPlace). record (output_row ports changes id) { places = (output_row ports changes id).places ++ q ∷ [] }) (sym p)
     ∙ sym (own_row ports changes id position vr place p)
 
-pub begun : (d : SlaveDesc) (changes : List Change) (o n : Outputs) (id i position vr : ℕ) (r : OutputRow) (place : Place)
+pub begun : (d : SlaveDesc) (changes : List Change) (o n : Outputs) (id i position vr : ℕ) (r : OutputRow) (place : PortPlace)
     → AreOutputs d changes o → IsPlaceFor o.ids id i → IsPort vr d.outputs place
     → r.places ≡ place ∷ [] → r.target ≡ None → r.interval ≡ 1 → r.base ≡ 0
     → n.ports.items ≡ o.ports.items → n.ids ≡ insert o.ids i id → n.rows.items ≡ insert o.rows.items i r
@@ -167,7 +167,7 @@ pub none_at : (d : SlaveDesc) (changes : List Change) (o : Outputs) (id i : ℕ)
 none_at d changes o id i h t = ap length (sym (has_none (entries output id changes) (unknown output id i changes (place_at d changes o id i h t))))
 
 -- an entry at this position, where the id has so many
-pub judged_at : (d : SlaveDesc) (changes : List Change) (id position vr count : ℕ) (place : Place) (b : Bool) → is_full id changes ≡ false → IsPort vr d.outputs place → count ≡ length (entries output id changes)
+pub judged_at : (d : SlaveDesc) (changes : List Change) (id position vr count : ℕ) (place : PortPlace) (b : Bool) → is_full id changes ≡ false → IsPort vr d.outputs place → count ≡ length (entries output id changes)
     → b ≡ ((position == count) && nat_lt position 8) → refusal d changes (cfg.Output id position vr) ≡ unless b Position
 judged_at d changes id position vr count place b f p n e =
     judged d changes id position vr place f p b (ap (λ (m : ℕ). (position == m) && nat_lt position 8) (sym n) ∙ sym e)

@@ -15,7 +15,7 @@ use Rattle.slave_wiring.specs.Refusals.{port_with}
 use Rattle.slave_wiring.specs.Payloads as payloads
 use Rattle.slave_wiring.specs.Payloads.{Wires, Kept, Spot, brought, is_wanted, kind_of, input_types, spot, value_at, input_value, inputs, kept_under, is_address, is_here, is_of, restarted}
 use Rattle.wirings.specs.Ids.{IsThere, IsPlaceFor}
-use Rattle.wirings.specs.Receiving.{kept_ordinal, input_row, segment_of, segment_for, segment_value, value_after, IsPlaced, IsSound, AreInputs, is_kept_for, wants, input_restarted}
+use Rattle.wirings.specs.Receiving.{kept_ordinal, input_row, segment_of, segment_for, segment_value, value_after, IsPlaced, IsCoherent, AreInputs, is_kept_for, wants, input_restarted}
 use Rattle.wirings.specs.declared.tables.InputRow.{InputRow}
 use Rattle.wirings.specs.declared.tables.Segment.{Segment}
 use Rattle.wirings.specs.declared.tables.Inputs.{Inputs}
@@ -70,7 +70,7 @@ own_kept d w id n payload =
     let e : (id == id) ≡ true = grind (arith, nat_tests) in
     ap (λ (o : Option Kept). record (input_row d w id) { kept = kept_ordinal o }) (under_own w id n payload id e)
 
-value_kept_now : (d : SlaveDesc) (w : Wires) (id n : ℕ) (payload : List ℕ) (y : ℕ) → IsSound d w → length payload ≡ sum_by width (input_types d id w.changes)
+value_kept_now : (d : SlaveDesc) (w : Wires) (id n : ℕ) (payload : List ℕ) (y : ℕ) → IsCoherent d w → length payload ≡ sum_by width (input_types d id w.changes)
     → value_after (segment_for d w.changes (spot y w.changes)) id payload (value_at d w (spot y w.changes)) ≡ value_at d (with_payload w id n payload) (spot y w.changes)
 value_kept_now d w id n payload y h size = at (spot y w.changes) refl
   where
@@ -87,7 +87,7 @@ value_kept_now d w id n payload y h size = at (spot y w.changes) refl
         (λ t. let back : (id == x.id) ≡ false = grind (arith, nat_tests, t) in
         rw t (ap (λ (o : Option Kept). payloads.value_kept (input_types d x.id w.changes) x.position o) (sym (under_other w id n payload x.id back))))
 
-sound_kept : (d : SlaveDesc) (w : Wires) (id n : ℕ) (payload : List ℕ) → IsSound d w → has_id input id w.changes ≡ true → length payload ≡ sum_by width (input_types d id w.changes) → IsSound d (with_payload w id n payload)
+sound_kept : (d : SlaveDesc) (w : Wires) (id n : ℕ) (payload : List ℕ) → IsCoherent d w → has_id input id w.changes ≡ true → length payload ≡ sum_by width (input_types d id w.changes) → IsCoherent d (with_payload w id n payload)
 sound_kept d w id n payload h k size = record {
   told = h.told;
   none = λ y e. by_test (id == y)

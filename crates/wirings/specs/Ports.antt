@@ -3,18 +3,18 @@ use Rattle.std.specs.Prelude.{◌≡◌, ℕ, zero, suc, ◌==◌, ◌<◌, List
 use Rattle.slave_desc.specs.declared.ports.Port.{Port}
 use Rattle.slave_wiring.specs.Refusals.{port_with}
 use Rattle.slave_wiring.specs.Payloads.{kind_of}
-use Rattle.wirings.specs.declared.places.Place.{Place}
+use Rattle.wirings.specs.declared.places.PortPlace.{PortPlace}
 
 -- the number of the first port with this value reference, or how many ports there are
-abbrev pub index_of : ℕ → List Port → ℕ
-index_of vr [] = 0
-index_of vr (port ∷ ports) = if port.vr == vr then 0 else suc (index_of vr ports)
+abbrev pub port_index : ℕ → List Port → ℕ
+port_index vr [] = 0
+port_index vr (port ∷ ports) = if port.vr == vr then 0 else suc (port_index vr ports)
 
 -- the place of the port with this value reference
-abbrev pub place_with : List Port → ℕ → Place
-place_with ports vr = record { index = index_of vr ports; kind = kind_of (port_with vr ports) }
+abbrev pub place_with : List Port → ℕ → PortPlace
+place_with ports vr = record { index = port_index vr ports; kind = kind_of (port_with vr ports) }
 
-pub record IsPort (vr : ℕ) (ports : List Port) (place : Place) : Type 0 where
+pub record IsPort (vr : ℕ) (ports : List Port) (place : PortPlace) : Type 0 where
   pub port : Port
   pub found : port_with vr ports ≡ Some port
   pub same : place ≡ place_with ports vr

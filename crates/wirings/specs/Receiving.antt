@@ -46,7 +46,7 @@ pub record IsPlaced (types : List DataType) (kind : DataType) (e : Spot) : Type 
   pub position : e.position ≡ length before
 
 -- what holds of the changes that are accepted and the payloads that are kept
-pub record IsSound (d : SlaveDesc) (w : Wires) : Type 0 where
+pub record IsCoherent (d : SlaveDesc) (w : Wires) : Type 0 where
   pub told : (id : ℕ) → has_id input id w.changes ≡ false → source id w.changes ≡ None
   pub none : (id : ℕ) → has_id input id w.changes ≡ false → kept_under id w.kept ≡ None
   pub placed : (vr : ℕ) (e : Spot) → spot vr w.changes ≡ Some e → IsPlaced (input_types d e.id w.changes) (kind_of (port_with vr d.inputs)) e
@@ -60,7 +60,7 @@ pub record AreInputs (d : SlaveDesc) (w : Wires) (s : Inputs) : Type 0 where
   pub rows : s.rows.items ≡ map (input_row d w) (ids input w.changes)
   pub segments : take (length d.inputs) s.segments ≡ map (λ port. segment_for d w.changes (spot port.vr w.changes)) d.inputs
   pub values : take (length d.inputs) s.values ≡ inputs d w
-  pub sound : IsSound d w
+  pub sound : IsCoherent d w
 
 -- the value in a payload; 0 where the payload ends before it
 abbrev pub segment_value : Segment → List ℕ → ℤ

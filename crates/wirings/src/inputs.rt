@@ -18,7 +18,7 @@ ghost use Rattle.wirings.specs.Receiving.{AreInputs, is_kept_for};
 use crate::addresses::address_of;
 use crate::data_ids::DataIds;
 use crate::numbers::{base_after, in_run};
-use crate::places::Place;
+use crate::places::PortPlace;
 use crate::ports::place_of;
 use crate::segments::{is_kept_for, take_values, wants};
 use crate::tables::{INPUTS, InputRow, Inputs, Segment};
@@ -88,7 +88,13 @@ impl Inputs {
     }
 
     /// Adds an entry for an input that has none to an id that has some.
-    fn extend(&mut self, i: usize, id: u16, position: u16, place: Place) -> Result<(), ErrorCode>
+    fn extend(
+        &mut self,
+        i: usize,
+        id: u16,
+        position: u16,
+        place: PortPlace,
+    ) -> Result<(), ErrorCode>
         requires there { IsThere self.old.ids id i }
         requires within { place.index < length self.old.ports.items }
         requires free { slice_index_or self.old.segments place.index None ≡ None }
@@ -114,7 +120,7 @@ impl Inputs {
     }
 
     /// Adds an id with its first entry, for an input that has none.
-    fn begin(&mut self, i: usize, id: u16, position: u16, place: Place) -> Result<(), ErrorCode>
+    fn begin(&mut self, i: usize, id: u16, position: u16, place: PortPlace) -> Result<(), ErrorCode>
         requires absent { IsPlaceFor self.old.ids id i }
         requires within { place.index < length self.old.ports.items }
         requires free { slice_index_or self.old.segments place.index None ≡ None }

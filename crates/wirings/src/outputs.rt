@@ -14,7 +14,7 @@ use crate::addresses::address_of;
 use crate::data_ids::{DataIds, IDS};
 use crate::numbers::{base_after, is_end, number_after};
 use crate::payloads::{PAYLOAD, put_data, write_payload};
-use crate::places::{POSITIONS, Places};
+use crate::places::{POSITIONS, PortPlaces};
 use crate::ports::place_of;
 use crate::tables::{OutputRow, Outputs};
 use dcp_types::{Address, ErrorCode, OutOfMemory};
@@ -97,7 +97,7 @@ impl Outputs {
         if !is_next(position, 0) {
             return Err(ErrorCode::Position);
         }
-        let mut places = Places::new();
+        let mut places = PortPlaces::new();
         places.push(place);
         let row = OutputRow {
             places,

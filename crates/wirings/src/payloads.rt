@@ -5,9 +5,9 @@ ghost use Rattle.std.specs.List.{flat_map};
 ghost use Rattle.dcp_types.specs.Values.{width, fits};
 ghost use Rattle.pdu_layout.specs.Reading.{spelling};
 ghost use Rattle.slave_wiring.specs.Payloads.{data_message};
-ghost use Rattle.wirings.specs.Payloads.{value_for, bytes_at};
+ghost use Rattle.wirings.specs.Payloads.{value_for, place_bytes};
 
-use crate::places::{POSITIONS, Place};
+use crate::places::{POSITIONS, PortPlace};
 use dcp_types::{fits, put_value};
 use pdu_codec::encode;
 use pdu_layout::Pdu;
@@ -16,7 +16,7 @@ use pdu_layout::Pdu;
 pub(crate) const PAYLOAD: usize = 8 * POSITIONS;
 
 /// The value of an output, where it is there and lies in its type; 0 else.
-fn value_for(outputs: &[i128], place: Place) -> i128
+fn value_for(outputs: &[i128], place: PortPlace) -> i128
     ensures value { result ≡ value_for outputs.now place }
     ensures fits { IsTrue (fits place.kind result) }
 {
@@ -27,10 +27,10 @@ fn value_for(outputs: &[i128], place: Place) -> i128
 }
 
 /// Writes the value of one position, and answers where the next one begins.
-fn write_value(place: Place, outputs: &[i128], room: &mut [u8; PAYLOAD], at: usize) -> usize
+fn write_value(place: PortPlace, outputs: &[i128], room: &mut [u8; PAYLOAD], at: usize) -> usize
     requires { at + 8 ≤ 64 }
     ensures end { result ≡ at + width place.kind }
-    ensures bytes { take result room.new ≡ take at room.old ++ bytes_at outputs.now place }
+    ensures bytes { take result room.new ≡ take at room.old ++ place_bytes outputs.now place }
 {
     let end = at + place.kind.width();
     put_value(place.kind, value_for(outputs, place), &mut room[at..end]);
@@ -38,10 +38,14 @@ fn write_value(place: Place, outputs: &[i128], room: &mut [u8; PAYLOAD], at: usi
 }
 
 /// Writes the values at these places, one after the other, and answers how many bytes they have.
-pub(crate) fn write_payload(places: &[Place], outputs: &[i128], room: &mut [u8; PAYLOAD]) -> usize
+pub(crate) fn write_payload(
+    places: &[PortPlace],
+    outputs: &[i128],
+    room: &mut [u8; PAYLOAD],
+) -> usize
     requires { length places.now ≤ 8 }
     ensures few { result ≤ 64 }
-    ensures bytes { take result room.new ≡ flat_map (bytes_at outputs.now) places.now }
+    ensures bytes { take result room.new ≡ flat_map (place_bytes outputs.now) places.now }
 {
     let mut at = 0;
     for place in places {

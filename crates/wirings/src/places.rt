@@ -10,38 +10,38 @@ pub(crate) const POSITIONS: usize = 8;
 
 /// A port: its number among the ports of its side, and its type.
 #[derive(Clone, Copy)]
-pub(crate) struct Place {
+pub(crate) struct PortPlace {
     pub(crate) index: usize,
     pub(crate) kind: DataType,
 }
 
 /// The ports of an output id, the first at position 0.
 #[derive(Drop)]
-pub(crate) struct Places {
-    items: [Place; POSITIONS],
+pub(crate) struct PortPlaces {
+    items: [PortPlace; POSITIONS],
     count: usize,
 }
 
-impl Model for Places {
+impl Model for PortPlaces {
     ghost use Rattle.std.specs.Prelude.{List, ◌≤◌, take};
-    ghost use Rattle.wirings.specs.declared.places.Place.{Place};
+    ghost use Rattle.wirings.specs.declared.places.PortPlace.{PortPlace};
 
-    ghost Value = { List Place };
+    ghost Value = { List PortPlace };
 
     ghost view = { λ p. take p.count p.items };
 
     ghost invariant = { λ p. p.count ≤ 8 };
 }
 
-impl Places {
-    pub(crate) fn new() -> Places
+impl PortPlaces {
+    pub(crate) fn new() -> PortPlaces
         ensures { result ≡ [] }
     {
-        let unused = Place {
+        let unused = PortPlace {
             index: 0,
             kind: DataType::U8,
         };
-        Places {
+        PortPlaces {
             items: [unused; POSITIONS],
             count: 0,
         }
@@ -53,7 +53,7 @@ impl Places {
         self.as_slice().len()
     }
 
-    pub(crate) fn push(&mut self, place: Place)
+    pub(crate) fn push(&mut self, place: PortPlace)
         requires { length self.old < 8 }
         ensures { self.new ≡ self.old ++ place ∷ [] }
     {
@@ -61,7 +61,7 @@ impl Places {
         self.count += 1;
     }
 
-    pub(crate) fn as_slice(&self) -> &[Place]
+    pub(crate) fn as_slice(&self) -> &[PortPlace]
         ensures items { result.now ≡ self.now }
         ensures few { length result.now ≤ 8 }
     {

@@ -4,14 +4,14 @@ ghost use Rattle.std.specs.Prelude.{◌≡◌, ◌≤◌, ◌*◌, length, vec_c
 ghost use Rattle.fixed_models.specs.Domains.{IsInput};
 
 use crate::data_ids::DataIds;
-use crate::places::Places;
+use crate::places::PortPlaces;
 use dcp_types::{Address, DataType};
 use slave_desc::Port;
 
 /// What is known of an output id.
 #[derive(Drop)]
 pub(crate) struct OutputRow {
-    pub(crate) places: Places,
+    pub(crate) places: PortPlaces,
     pub(crate) target: Option<Address>,
     /// The steps from one message to the next.
     pub(crate) interval: u32,

@@ -2,7 +2,7 @@ use Rattle.std.proofs.Common.{refl, ap, sym, ◌∙◌, arith, List, [], ◌∷�
 use Rattle.std.proofs.lemmas.Grind.{common_steps}
 use Rattle.dcp_types.specs.declared.error_codes.ErrorCode.TheVariants.{Position}
 use Rattle.slave_wiring.specs.Refusals.{unless}
-use Rattle.wirings.specs.declared.places.Place.{Place}
+use Rattle.wirings.specs.declared.places.PortPlace.{PortPlace}
 use Rattle.wirings.proofs.Finding.{port_of, no_port_of}
 use Rattle.wirings.proofs.Sending.{full_at, room_at, no_port, judged_at, none_at, begun}
 use Rattle.wirings.proofs.tables.Outputs.begin.Goals as goal
@@ -29,5 +29,5 @@ returns c = λ d changes h.
           port (none_at d changes c.args.self.now _ _ h c.requires) c.is_next.ensures
           ∙ ap (λ b. unless b Position) c.if-not-is_next.false,
       begun d changes c.args.self.now _ _ _ _ _ (record { places = c.push.new.self; target = None; interval = 1; base = 0 }) c.in-Some.place h c.requires port
-          (c.push.ensures ∙ ap (λ (l : List Place). l ++ c.in-Some.place ∷ []) c.new-places.ensures) refl refl refl refl c.insert.ensures (grind (arith, common_steps)),
+          (c.push.ensures ∙ ap (λ (l : List PortPlace). l ++ c.in-Some.place ∷ []) c.new-places.ensures) refl refl refl refl c.insert.ensures (grind (arith, common_steps)),
     )

@@ -1,6 +1,6 @@
 use Rattle.std.proofs.Common.{◌∙◌, ap, sym}
 use Rattle.std.specs.List.{flat_map}
-use Rattle.wirings.specs.Payloads.{bytes_at}
+use Rattle.wirings.specs.Payloads.{place_bytes}
 use Rattle.wirings.proofs.Building.{no_message, message}
 use Rattle.wirings.proofs.tables.Outputs.build.Goals as goal
 
@@ -11,4 +11,4 @@ pub returns-clause-built : goal.returns-clause-built
 returns-clause-built c = λ d changes h id e fit.
     message d changes c.args.self.now id c.args.i c.args.steps c.args.outputs.now c.put_data-size.new.room c.index-row.result.now c.in-Some.target c.put_data-size.result c.number_after-number.result c.at.result _
     h e c.index-row.ensures fit c.in-Some.is c.number_after-number.ensures c.at.ensures
-    (c.write_payload-length.ensures.bytes ∙ ap (flat_map (bytes_at c.args.outputs.now)) c.as_slice.ensures.items) c.put_data-size.ensures.bytes
+    (c.write_payload-length.ensures.bytes ∙ ap (flat_map (place_bytes c.args.outputs.now)) c.as_slice.ensures.items) c.put_data-size.ensures.bytes
