@@ -8,9 +8,9 @@ ghost use Rattle.master_spec.specs.Setup as specs;
 ghost use Rattle.scenario.specs.Sound.{IsScenario};
 ghost use Rattle.master_core.specs.Talking.{IsFresh, slave_in};
 
+use crate::records::Talk;
 use config_plan::Plan;
 use dcp_types::{DataType, OutOfMemory};
-use crate::records::Talk;
 use master_spec::{Script, Slave};
 use pdu_layout::Cfg;
 use scenario::{Items, Scenario};
