@@ -44,7 +44,7 @@ begin_stands limits now t new talk c steps stage task list s is lists stands giv
 pub begin_sends : (limits : Limits) (now : Now) (t : Talk) (talk : course.Talk) (c : Conversation) (steps : ℕ) (stage : Stage) (task : Task) (list : List Cfg) (out new : List Send) → StandsAt limits now t talk
     → task ≡ task_in steps t.slave.script.uuid stage.run stage.part → list ≡ list_in t.slave.script stage.run stage.part
     → (CanSend t.conversation.id (Begun (record { task = task; list = list }) ∷ talk.marks) (reaction t.conversation.limits (Begun (record { task = task; list = list })) talk.marks)
-       → due_of c ≡ messages_after t.conversation.limits t.conversation.id (Begun (record { task = task; list = list })) talk.marks)
+    → due_of c ≡ messages_after t.conversation.limits t.conversation.id (Begun (record { task = task; list = list })) talk.marks)
     → new ≡ out ++ flat_map (sends_to t.slave.address) (due_of c) → new ≡ out ++ sends_after limits talk (Some (Begun (job_at steps stage talk.slave.script)))
 begin_sends limits now t talk c steps stage task list out new s is lists due sends =
     let e = job_made steps stage t talk task list s.slave is lists in

@@ -25,7 +25,8 @@ use Rattle.master_core.specs.Talking.{StandsAt, IsFresh, now_in, slave_in}
 pub fresh_stand : (limits : Limits) (s : Schedule) (ts : List Talk) → AllByRecursion (λ t. IsFresh limits t) ts → AllByRecursion (λ slave. IsScriptAskable slave) (map slave_in ts)
     → Each (StandsAt limits (now_in 0 s)) ts (map fresh (map slave_in ts))
 fresh_stand limits s [] f a = tt
-fresh_stand limits s (t ∷ ts) f a = (record {
+fresh_stand limits s (t ∷ ts) f a = (
+  record {
     slave = refl;
     stands = f.0.stands;
     id = f.0.id;
@@ -35,7 +36,9 @@ fresh_stand limits s (t ∷ ts) f a = (record {
     latest_is = tt;
     outputs = λ row payload at is. absurd (cc);
     script = a.0;
-  }, fresh_stand limits s ts f.1 a.1)
+  },
+  fresh_stand limits s ts f.1 a.1,
+)
 
 length_slaves : (sc : Scenario) (s : ℕ) (ds : List SlaveDesc) → length (slaves_from sc s ds) ≡ length ds
 length_slaves sc s [] = refl
@@ -54,5 +57,5 @@ empty_rows s steps runs width w r same is none values room st rn = record {
   width_is = is ∙ sym same;
   each = All-nil (λ (row : List ℤ). length row ≡ width);
   room = subst (λ (n : ℕ). n * lines_of s ≤ vec_capacity r.values) (sym same)
-    (subst (λ (n : ℕ). w * (n * (s.steps + 1)) ≤ vec_capacity r.values) (sym rn) (subst (λ (n : ℕ). w * (runs * (n + 1)) ≤ vec_capacity r.values) (sym st) room));
+      (subst (λ (n : ℕ). w * (n * (s.steps + 1)) ≤ vec_capacity r.values) (sym rn) (subst (λ (n : ℕ). w * (runs * (n + 1)) ≤ vec_capacity r.values) (sym st) room));
 }

@@ -45,7 +45,7 @@ has_list limits now t talk schedule list s fit is =
 pub record Heard {R : Type 0} (bytes : R → List ℕ) (t : Talk) (c : Conversation) (o : Option R) (size : ℕ) (list : List Cfg) (news : News) : Type 0 where
   pub stands : (marks : List Mark) (slave : Slave) → Stands t.conversation marks → HasList marks list → IsWith t.conversation slave size → Stands c (extended t.conversation.limits (mark_for slave marks news) marks)
   pub due : (marks : List Mark) (slave : Slave) → Stands t.conversation marks → HasList marks list → IsWith t.conversation slave size → CanSendAfter t.conversation.limits t.conversation.id (mark_for slave marks news) marks
-    → due_of c ≡ messages_if t.conversation.limits t.conversation.id (mark_for slave marks news) marks
+      → due_of c ≡ messages_if t.conversation.limits t.conversation.id (mark_for slave marks news) marks
   pub taken_is : (marks : List Mark) (slave : Slave) → Stands t.conversation marks → IsWith t.conversation slave size → option_map bytes o ≡ taken (mark_for slave marks news) marks
   pub sized : IfSome o (λ r. length (bytes r) ≡ size)
   pub given : (c.id ≡ t.conversation.id) × (c.limits ≡ t.conversation.limits)

@@ -18,3 +18,4 @@ pub mod Onward
 pub mod Planned
 pub mod Fresh
 pub mod Happening
+pub mod Placing

@@ -116,10 +116,10 @@ begun_stands now limits phase ts new s rows report setup c h b steps runs slaves
     phase_is = ap (λ n. min (n + 1) 4294967295) h.phase_is ∙ next_phase c.phase s b;
     some = omega (arith, h.some, same_count new ts slaves);
     talks_stand =
-      let f : Said → Said = λ talk. marked limits talk (Some (Begun (job_at s.steps s.stage talk.slave.script))) in
-      let g : Said → Said = λ talk. marked setup.limits talk (begun setup (c.phase + 1) talk) in
-      let e : map f c.talks ≡ map g c.talks = map_same f g c.talks (λ talk. ap (λ (m : Option Mark). marked limits talk m) (sym (begun_is setup c.phase s talk steps runs b)) ∙ ap (λ (l : Limits). marked l talk (begun setup (c.phase + 1) talk)) (sym same)) in
-      subst (λ (n : ℕ). Each (StandsAt limits (now_in n s)) new (map g c.talks)) (sym (add-one c.phase)) (subst (λ (l : List Said). Each (StandsAt limits (at_stage s.steps s.stage)) new l) e each);
+        let f : Said → Said = λ talk. marked limits talk (Some (Begun (job_at s.steps s.stage talk.slave.script))) in
+        let g : Said → Said = λ talk. marked setup.limits talk (begun setup (c.phase + 1) talk) in
+        let e : map f c.talks ≡ map g c.talks = map_same f g c.talks (λ talk. ap (λ (m : Option Mark). marked limits talk m) (sym (begun_is setup c.phase s talk steps runs b)) ∙ ap (λ (l : Limits). marked l talk (begun setup (c.phase + 1) talk)) (sym same)) in
+        subst (λ (n : ℕ). Each (StandsAt limits (now_in n s)) new (map g c.talks)) (sym (add-one c.phase)) (subst (λ (l : List Said). Each (StandsAt limits (at_stage s.steps s.stage)) new l) e each);
     rows_are = rows_stay (lines_of s) new ts rows c.rows slaves h.rows_are;
     report_is = h.report_is;
   };

@@ -76,6 +76,7 @@ set_all s xs a = map_all set_parameter (λ (body : Cfg). IsAskable (Configure bo
     wide : (z : ℤ) → FitsSigned w64 z → IsTrue (fits types.I64 z)
     wide (pos n) h = grind (arith, ints, nat_tests, h)
     wide (negsuc n) h = grind (arith, ints, nat_tests, h)
+
     each : (xs : List Setting) → AllByRecursion (λ x. IsTyped x) xs → AllByRecursion (λ (x : Setting). IsAskable (Configure (set_parameter x))) xs
     each [] a = tt
     each (x ∷ xs) a = (parameter x.index x.value (omega (arith, a.0.0)) (wide x.value a.0.1), each xs a.1)
@@ -152,14 +153,14 @@ incoming_all : (sc : Scenario) (d : SlaveDesc) (l : DataLink) → IsScenario sc 
 incoming_all sc d l h desc link =
     let vrs = recursion_from_All (λ (p : Port). p.vr < 2 ^ 64) d.inputs desc.vrs.0 in
     let first = numbered_all (λ i (p : Pair). input_at l.id i (slice_get d.inputs p.to)) (λ (p : Pair). Unit {0}) 0 (positions sc.wires l.from l.to) (positions_few sc l)
-          (λ j p small u. inputs_all l.id j (slice_get d.inputs p.to) link.0 small (λ port is. at_all (λ (p : Port). p.vr < 2 ^ 64) d.inputs p.to port vrs is)) (every_one (positions sc.wires l.from l.to)) in
+    (λ j p small u. inputs_all l.id j (slice_get d.inputs p.to) link.0 small (λ port is. at_all (λ (p : Port). p.vr < 2 ^ 64) d.inputs p.to port vrs is)) (every_one (positions sc.wires l.from l.to)) in
     join _ (cfg.Source (net_info sc l.id l.from) ∷ told_interval l) first (source (net_info sc l.id l.from) (net_fits sc l.id l.from h link.0), told_all l link)
 
 outgoing_all : (sc : Scenario) (d : SlaveDesc) (l : DataLink) → IsScenario sc → IsDesc d → IsLink l → AreAskable (outgoing sc d l)
 outgoing_all sc d l h desc link =
     let vrs = recursion_from_All (λ (p : Port). p.vr < 2 ^ 64) d.outputs desc.vrs.1 in
     let first = numbered_all (λ i (p : Pair). output_at l.id i (slice_get d.outputs p.from)) (λ (p : Pair). Unit {0}) 0 (positions sc.wires l.from l.to) (positions_few sc l)
-          (λ j p small u. outputs_all l.id j (slice_get d.outputs p.from) link.0 small (λ port is. at_all (λ (p : Port). p.vr < 2 ^ 64) d.outputs p.from port vrs is)) (every_one (positions sc.wires l.from l.to)) in
+    (λ j p small u. outputs_all l.id j (slice_get d.outputs p.from) link.0 small (λ port is. at_all (λ (p : Port). p.vr < 2 ^ 64) d.outputs p.from port vrs is)) (every_one (positions sc.wires l.from l.to)) in
     join _ (cfg.Target (net_info sc l.id l.to) ∷ told_interval l) first (target (net_info sc l.id l.to) (net_fits sc l.id l.to h link.0), told_all l link)
 
 watched_all : (sc : Scenario) (s : ℕ) (d : SlaveDesc) → IsScenario sc → IsDesc d → s < 65536 → AreAskable (watched sc s d)
@@ -197,12 +198,15 @@ adjusts_all sc s (r ∷ rs) v = (adjust_all sc r s v, adjusts_all sc s rs v)
 
 slaves_all : (sc : Scenario) (s : ℕ) (ds : List SlaveDesc) → IsScenario sc → HasValues sc → AllByRecursion (λ d. IsDesc d) ds → s + length ds ≤ 256 → AllByRecursion (λ slave. IsScriptAskable slave) (slaves_from sc s ds)
 slaves_all sc s [] h v a few = tt
-slaves_all sc s (d ∷ ds) h v a few = (record {
+slaves_all sc s (d ∷ ds) h v a few = (
+  record {
     id = omega (arith, few);
     uuid = a.0.uuid;
     setup = setup_all sc s d h v a.0 (omega (arith, few));
     adjusts = adjusts_all sc s (range_with_len 1 (sc.runs - 1)) v;
-  }, slaves_all sc (s + 1) ds h v a.1 (omega (arith, few)))
+  },
+  slaves_all sc (s + 1) ds h v a.1 (omega (arith, few)),
+)
 
 -- all slaves of a scenario
 pub all_askable : (sc : Scenario) → IsScenario sc → HasValues sc → AllByRecursion (λ slave. IsScriptAskable slave) (slaves_from sc 1 sc.slaves)

@@ -18,9 +18,9 @@ use Rattle.master_core.proofs.Eachs.{Mixed, mixed_step, mixed_sent, mixed_all, e
 -- the mark that each makes, and the jobs that they have after it
 pub record Progress (later : Now → Now) (m : Said → Option Mark) (IsFit : Now → Type 0) (i : ℕ) (old items : List Talk) (base out : List Send) : Type 0 where
   pub stands : (limits : Limits) (now : Now) (said : List Said) → Each (StandsAt limits now) old said → IsFit now
-    → Mixed (λ t talk. StandsAt limits (later now) t (marked limits talk (m talk))) (StandsAt limits now) i items said
+      → Mixed (λ t talk. StandsAt limits (later now) t (marked limits talk (m talk))) (StandsAt limits now) i items said
   pub sends : (limits : Limits) (now : Now) (said : List Said) → Each (StandsAt limits now) old said → IsFit now
-    → out ≡ base ++ flat_map (λ talk. sends_after limits talk (m talk)) (take i said)
+      → out ≡ base ++ flat_map (λ talk. sends_after limits talk (m talk)) (take i said)
   pub room : length out ≤ length base + i
   pub slaves : map slave_in items ≡ map slave_in old
 
@@ -44,13 +44,13 @@ pub progress_step : (later : Now → Now) (m : Said → Option Mark) (IsFit : No
     → length new ≤ length out + 1 → t.slave ≡ slave_in (get_or items i d) → Progress later m IsFit (i + 1) old (set items i t) base new
 progress_step later m IsFit i old items base out new d t p h one two few same = record {
   stands = λ limits now said e fit.
-    let P : Talk → Said → Type 0 = λ t talk. StandsAt limits (later now) t (marked limits talk (m talk)) in
-    subst (λ (n : ℕ). Mixed P (StandsAt limits now) n (set items i t) said) (sym (add-one i))
+      let P : Talk → Said → Type 0 = λ t talk. StandsAt limits (later now) t (marked limits talk (m talk)) in
+      subst (λ (n : ℕ). Mixed P (StandsAt limits now) n (set items i t) said) (sym (add-one i))
       (mixed_step P (StandsAt limits now) i items said d t (p.stands limits now said e fit) h (λ talk s. one limits now talk s fit));
   sends = λ limits now said e fit.
-    let P : Talk → Said → Type 0 = λ t talk. StandsAt limits (later now) t (marked limits talk (m talk)) in
-    let g : Said → List Send = λ talk. sends_after limits talk (m talk) in
-    subst (λ (n : ℕ). new ≡ base ++ flat_map g (take n said)) (sym (add-one i))
+      let P : Talk → Said → Type 0 = λ t talk. StandsAt limits (later now) t (marked limits talk (m talk)) in
+      let g : Said → List Send = λ talk. sends_after limits talk (m talk) in
+      subst (λ (n : ℕ). new ≡ base ++ flat_map g (take n said)) (sym (add-one i))
       (mixed_sent P (StandsAt limits now) g i items said d base out new (p.stands limits now said e fit) h (p.sends limits now said e fit) (λ talk s. two limits now talk s fit));
   room = omega (arith, few, p.room);
   slaves = map-set_same slave_in items i t d same ∙ p.slaves;
@@ -61,7 +61,7 @@ pub progress_stands : (later : Now → Now) (m : Said → Option Mark) (IsFit : 
 progress_stands later m IsFit i old items base out p h limits now said e fit =
     let P : Talk → Said → Type 0 = λ t talk. StandsAt limits (later now) t (marked limits talk (m talk)) in
     each_map (StandsAt limits (later now)) (λ talk. marked limits talk (m talk)) items said
-      (mixed_all P (StandsAt limits now) i items said (p.stands limits now said e fit) h)
+    (mixed_all P (StandsAt limits now) i items said (p.stands limits now said e fit) h)
 
 pub progress_sends : (later : Now → Now) (m : Said → Option Mark) (IsFit : Now → Type 0) (i : ℕ) (old items : List Talk) (base out : List Send) → Progress later m IsFit i old items base out → length items ≤ i
     → (limits : Limits) (now : Now) (said : List Said) → Each (StandsAt limits now) old said → IsFit now → out ≡ base ++ flat_map (λ talk. sends_after limits talk (m talk)) said

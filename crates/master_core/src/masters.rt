@@ -1,6 +1,6 @@
 //! The master's calls.
 
-ghost use Rattle.std.specs.Prelude.{◌≡◌, ◌≤◌, ◌-◌, ◌^◌, min, [], reverse, length, None, IfOk};
+ghost use Rattle.std.specs.Prelude.{◌≡◌, ◌≤◌, ◌-◌, ◌^◌, min, List, [], reverse, length, None, IfOk};
 ghost use Rattle.std.specs.List.{list_all};
 ghost use Rattle.dcp_ends.specs.Events.{Event};
 ghost use Rattle.scenario.specs.Sound.{IsScenario};
@@ -16,9 +16,11 @@ ghost use Rattle.master_core.specs.Standing.{StandsIn, StandsFor, StandsAfter, M
 use crate::outbox::Outbox;
 use crate::records::MasterCore;
 use crate::rows::Rows;
-use crate::stages::Schedule;
 use crate::setups::talks_of;
-use crate::surveys::{are_quiet, are_settled, column, first_failed, have_passed, put_row, width_of};
+use crate::stages::Schedule;
+use crate::surveys::{
+    are_quiet, are_settled, column, first_failed, have_passed, put_row, width_of,
+};
 use crate::turns::{begin_all, hear_all, turn_all};
 use config_plan::Plan;
 use dcp_types::{Address, OutOfMemory};
@@ -200,13 +202,7 @@ impl MasterCore {
         ensures setup { setup_of self.new ≡ setup_of self.old }
         ensures turns { self.new.turns ≡ self.old.turns }
     {
-        hear_all(
-            &mut self.talks,
-            &self.schedule,
-            from,
-            bytes,
-            &mut self.out,
-        );
+        hear_all(&mut self.talks, &self.schedule, from, bytes, &mut self.out);
     }
 
     /// A datagram before the report.

@@ -42,9 +42,7 @@ impl Rows {
         ensures { result ≡ (if nat_lt row self.now.counted then slice_get self.now.values.items (row * self.now.width + column) else None) }
     {
         if row < self.counted {
-            self.values
-                .get(row as usize * self.width + column)
-                .copied()
+            self.values.get(row as usize * self.width + column).copied()
         } else {
             None
         }

@@ -8,12 +8,12 @@ ghost use Rattle.master_spec.specs.Setup as specs;
 ghost use Rattle.scenario.specs.Sound.{IsScenario};
 ghost use Rattle.master_core.specs.Talking.{IsFresh, slave_in};
 
-use config_plan::Plan;
-use dcp_types::{DataType, Items, OutOfMemory};
 use crate::records::Talk;
+use config_plan::Plan;
+use dcp_types::{DataType, OutOfMemory};
 use master_spec::{Script, Slave};
 use pdu_layout::Cfg;
-use scenario::Scenario;
+use scenario::{Items, Scenario};
 use slave_desc::{Port, SlaveDesc};
 use std::alloc::Global;
 

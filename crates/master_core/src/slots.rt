@@ -1,7 +1,5 @@
 //! A message that is to be sent.
 
-
-
 use dcp_types::Address;
 
 /// A message of 1 to 1,024 bytes, and to whom it goes.

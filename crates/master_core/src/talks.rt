@@ -15,8 +15,8 @@ ghost use Rattle.master_core.specs.Talking.{StandsAt, IsFresh, IsNow, Now, at_st
 
 use crate::outbox::Outbox;
 use crate::records::Talk;
-use crate::stages::Schedule;
 use crate::sizes::payload_size;
+use crate::stages::Schedule;
 use conversation::{Conversation, hear};
 use dcp_types::{Address, Limits};
 use master_spec::Slave;

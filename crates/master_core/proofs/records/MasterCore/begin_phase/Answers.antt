@@ -9,6 +9,6 @@ returns-clause-meets c = λ now x s b before.
     let m = c.args.self.now in
     record {
       stands = subst (λ (n : ℕ). StandsWith m.limits n c.begin_all.new.talks.items m.schedule m.rows m.report (with_next (setup_of m) x)) (sym c.saturating_add-self.ensures)
-        (begun_stands now m.limits m.phase m.talks.items c.begin_all.new.talks.items m.schedule m.rows m.report (setup_of m) x s b refl refl c.begin_all.ensures.slaves (c.begin_all.ensures.stands m.limits now x.talks s.talks_stand) refl);
+          (begun_stands now m.limits m.phase m.talks.items c.begin_all.new.talks.items m.schedule m.rows m.report (setup_of m) x s b refl refl c.begin_all.ensures.slaves (c.begin_all.ensures.stands m.limits now x.talks s.talks_stand) refl);
       sent = begun_sent m.limits m.schedule (setup_of m) x m.out c.begin_all.new.out b refl refl refl before (c.begin_all.ensures.sends m.limits now x.talks s.talks_stand);
     }

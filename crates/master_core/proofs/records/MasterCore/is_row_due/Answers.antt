@@ -30,7 +30,7 @@ pub returns-then-self-row : goal.returns-then-self-row
 returns-then-self-row c = λ x s.
     let counted : c.args.self.now.rows.counted ≡ length x.rows = s.parts.rows_are.counted_are in
     let passed : c.have_passed.result ≡ list_all has_passed x.talks = c.have_passed.ensures c.args.self.now.limits (now_in x.phase c.args.self.now.schedule) x.talks
-      (subst (λ (ts : List Talk). Each (StandsAt c.args.self.now.limits (now_in x.phase c.args.self.now.schedule)) ts x.talks) (sym c.deref.ensures.value) s.parts.talks_stand) in
+    (subst (λ (ts : List Talk). Each (StandsAt c.args.self.now.limits (now_in x.phase c.args.self.now.schedule)) ts x.talks) (sym c.deref.ensures.value) s.parts.talks_stand) in
     due c.args.self.now x (Some c.in-Some.row) _ _ s c.row.ensures c.in-Some.is (both (length x.rows == c.in-Some.row) _ true (list_all has_passed x.talks) (eq-eqb _ _ (sym counted ∙ c.if-self-row.true)) passed)
 
 pub returns-else-self-row : goal.returns-else-self-row

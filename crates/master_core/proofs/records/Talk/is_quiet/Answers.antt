@@ -17,8 +17,8 @@ going a x y af ax = rw (← ax, af) refl
 pub returns-after-has_passed : goal.returns-after-has_passed
 returns-after-has_passed c = λ limits now talk s.
     elim c.if-has_passed.branch [
-      then-has_passed w ↦ quiet _ _ _ (is_settled talk) (has_passed talk) (is_some (open_request talk.marks)) c.if-is_settled.true (c.is_settled.ensures limits now talk s) (c.has_passed.ensures limits now talk s) w.if-has_passed.true (w.result-is ∙ w.waits_for_answer.ensures talk.marks s.stands)
-    | else-has_passed w ↦ not_passed _ _ _ (is_settled talk) (has_passed talk) (is_some (open_request talk.marks)) c.if-is_settled.true (c.is_settled.ensures limits now talk s) (c.has_passed.ensures limits now talk s) w.if-has_passed.false (w.result-is ∙ w.if-has_passed.false)
+      | then-has_passed w ↦ quiet _ _ _ (is_settled talk) (has_passed talk) (is_some (open_request talk.marks)) c.if-is_settled.true (c.is_settled.ensures limits now talk s) (c.has_passed.ensures limits now talk s) w.if-has_passed.true (w.result-is ∙ w.waits_for_answer.ensures talk.marks s.stands)
+      | else-has_passed w ↦ not_passed _ _ _ (is_settled talk) (has_passed talk) (is_some (open_request talk.marks)) c.if-is_settled.true (c.is_settled.ensures limits now talk s) (c.has_passed.ensures limits now talk s) w.if-has_passed.false (w.result-is ∙ w.if-has_passed.false)
     ]
 
 pub returns-else-is_settled : goal.returns-else-is_settled
