@@ -1,5 +1,5 @@
 -- What a call puts behind the text that a spool was given before.
-use Rattle.std.specs.Prelude.{◌≡◌, ℕ, List, ◌++◌, Option, Result, Ok, Err}
+use Rattle.std.specs.Prelude.{ℕ, List, ◌++◌, Option, Result, Ok, Err}
 use Rattle.byte_spool.specs.Outputs.{WroteAll, WroteFront}
 use Rattle.byte_spool.specs.Spools.{Spooled}
 use Rattle.byte_spool.specs.Unwritten.{Unwritten}

@@ -1,4 +1,4 @@
-use Rattle.std.proofs.Common.{◌≡◌, take}
+use Rattle.std.proofs.Common.{take}
 use Rattle.dcp_record.specs.Traces.{all_entry_bytes, log_entry_bytes}
 use Rattle.dcp_record.proofs.Joined.{Puts-then, entry_more}
 use Rattle.dcp_record.proofs.writers.put_entries.Goals as goal

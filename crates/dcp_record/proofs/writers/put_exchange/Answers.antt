@@ -1,4 +1,4 @@
-use Rattle.std.proofs.Common.{◌≡◌, List, ℕ, [], ◌∷◌, ◌++◌, length}
+use Rattle.std.proofs.Common.{List, ℕ, [], ◌∷◌, ◌++◌, length}
 use Rattle.std.specs.Int.{to_le_bytes, w16}
 use Rattle.dcp_record.specs.Traces.{address_bytes}
 use Rattle.dcp_record.proofs.Joined.{Puts-then}

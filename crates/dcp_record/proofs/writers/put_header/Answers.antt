@@ -1,4 +1,4 @@
-use Rattle.std.proofs.Common.{◌≡◌, List, ℕ, [], ◌∷◌, ◌++◌}
+use Rattle.std.proofs.Common.{List, ℕ, [], ◌∷◌, ◌++◌}
 use Rattle.std.specs.Int.{to_le_bytes, w32}
 use Rattle.dcp_record.proofs.Joined.{Puts-then}
 use Rattle.dcp_record.proofs.writers.put_header.Goals as goal

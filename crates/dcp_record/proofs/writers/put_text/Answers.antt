@@ -1,4 +1,4 @@
-use Rattle.std.proofs.Common.{◌≡◌, ◌≤◌, ◌-◌, arith, take, drop}
+use Rattle.std.proofs.Common.{◌≤◌, ◌-◌, arith, take, drop}
 use Rattle.dcp_record.proofs.Joined.{Puts-then, piece_more}
 use Rattle.dcp_record.proofs.writers.put_text.Goals as goal
 

@@ -1,4 +1,4 @@
-use Rattle.std.proofs.Common.{◌≡◌, List, ℕ, [], ◌++◌, length, subst}
+use Rattle.std.proofs.Common.{List, ℕ, [], ◌++◌, length, subst}
 use Rattle.byte_spool.specs.declared.outputs.Delivery.{Delivery}
 use Rattle.byte_spool.specs.Outputs.{Delivers}
 use Rattle.byte_spool.proofs.Spooling.{begun}
