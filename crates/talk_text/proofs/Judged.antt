@@ -16,7 +16,6 @@ use Rattle.pdu_layout.specs.Message.{Message}
 use Rattle.pdu_layout.specs.Reading.{spelling}
 use Rattle.pdu_text.specs.declared.reasons.PduTextWhy.{PduTextWhy}
 use Rattle.pdu_text.specs.Machine.{text_said}
-use Rattle.pdu_text.proofs.Judged.{said_reads}
 use Rattle.text_lines.specs.Texts.{words, is_skipped}
 use Rattle.text_lines.specs.Causes.{◌>>=◌, or_else, refused_if, unless}
 use Rattle.text_lines.specs.Runs.{run_of}
@@ -39,7 +38,8 @@ use Rattle.desc_text.proofs.Apart.{end_none}
 use Rattle.desc_text.proofs.Ranges.{items_desc}
 use Rattle.desc_text.specs.declared.items.Item.{Item}
 use Rattle.desc_text.specs.declared.partials.Partial.{Partial}
-use Rattle.talk_text.specs.Talks.{AreTalk, IsTalk, Says, SayAll, Tells, IsBegin}
+use Rattle.talk_text.specs.Talks.{AreTalk, IsTalk, Says, SayAll, IsBegin}
+use Rattle.talk_text.proofs.Messages.{tells}
 use Rattle.talk_text.specs.Judging.{why_of, first_is, is_begin, has_begun, why_more, why_block, why_message, why_event, why_entry, talk_why_at}
 use Rattle.talk_text.specs.Machine.{opened, begun, kept, take_block, message_event, event_said, added, take_event, take_line, finished, start}
 use Rattle.talk_text.specs.declared.events.Talk.{Talk}
@@ -202,7 +202,7 @@ module _ (done rest : List (List ℕ)) (line : List ℕ) (t : Talk) (a : AreTalk
   turn_took (Some w) m f u s e = absurd cc
 
   message_took : (r : Result Message PduTextWhy) → text_said line ≡ r → is_utf8 line ≡ true → (s : Stage) → (message_event r >>= added t) ≡ Ok s → Judged (why_message r) s
-  message_took (Ok m) is u s e = (refl, event_more (talk.Message (spelling m)) s u (record { message = m; reads = said_reads line m is; spelled = refl }) e)
+  message_took (Ok m) is u s e = (refl, event_more (talk.Message (spelling m)) s u (tells line m is) e)
   message_took (Err w) is u s e = absurd cc
 
   said_took : (b : Bool) → first_is (codes "turn") (words line) ≡ b → is_utf8 line ≡ true → (s : Stage)

@@ -1,4 +1,3 @@
-pub mod Taken
 pub mod Talks
 pub mod Judging
 pub mod Machine

@@ -4,9 +4,7 @@ use Rattle.std.specs.Str.{is_utf8}
 use Rattle.std.specs.Str.Lines.{lines}
 use Rattle.dcp_types.specs.declared.addresses.Address.{Address}
 use Rattle.dcp_ends.specs.Events.{Event, Gram, Tick}
-use Rattle.pdu_layout.specs.Message.{Message}
-use Rattle.pdu_layout.specs.Reading.{spelling}
-use Rattle.pdu_text.specs.Reading.{Reads}
+use Rattle.pdu_text.specs.Takers.{ReadsAndSpells}
 use Rattle.text_lines.specs.Texts.{words, is_skipped}
 use Rattle.desc_text.specs.Said.{items_in}
 use Rattle.desc_text.specs.Reads.{is_read, Describes}
@@ -26,17 +24,11 @@ event_of (talk.Message bytes) = Gram sender bytes
 abbrev pub events_of : Talk → List Event
 events_of t = map event_of t.events
 
--- the line is a message in its printed form, with these bytes
-pub record Tells (line bytes : List ℕ) : Type 0 where
-  pub message : Message
-  pub reads : Reads line message
-  pub spelled : bytes ≡ spelling message
-
--- a line after the block is skipped, or it says one event
+-- a line after the block is skipped, or it is `turn`, or a message in its printed form, with these bytes
 abbrev pub Says : List ℕ → List TalkEvent → Type 0
 Says line [] = is_skipped (words line) ≡ true
 Says line (talk.Turn ∷ []) = words line ≡ codes "turn" ∷ []
-Says line (talk.Message bytes ∷ []) = Tells line bytes
+Says line (talk.Message bytes ∷ []) = ReadsAndSpells line bytes
 Says line (first ∷ second ∷ more) = ⊥
 
 -- the lines say these events, one after the other

@@ -8,9 +8,9 @@
 #![tactic(auto)]
 
 mod events;
+mod message_lines;
 mod reading;
 mod saying;
-mod spelled;
 mod stages;
 
 pub use events::{Talk, TalkEvent, TalkEvents};

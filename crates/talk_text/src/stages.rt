@@ -7,7 +7,7 @@ ghost use Rattle.talk_text.specs.Judging.{first_is, is_begin, why_more};
 ghost use Rattle.talk_text.specs.Machine.{begun, take_block, event_said, take_event, take_line, finished};
 
 use crate::events::{Talk, TalkEvent, TalkEvents};
-use crate::spelled::message_event;
+use crate::message_lines::message_event;
 use desc_text::Partial;
 use std::alloc::Global;
 use text_lines::{LineRefused, TextWhy, is_skipped, is_utf8, words};

@@ -1,18 +1,19 @@
-use Rattle.std.proofs.Common.{sym, ap, ◌∙◌, Err}
+use Rattle.std.proofs.Common.{sym, ap, subst, ◌∙◌, Err}
 use Rattle.std.proofs.Common.{Result}
+use Rattle.pdu_text.specs.Takers.{ReadsAndSpells}
 use Rattle.pdu_text.specs.declared.reasons.PduTextWhy.{PduTextWhy}
 use Rattle.talk_text.specs.Judging.{why_of}
 use Rattle.talk_text.specs.declared.events.TalkEvent.{TalkEvent}
 use Rattle.text_lines.specs.declared.reasons.TextWhy.{TextWhy}
 use Rattle.talk_text.proofs.Messages.{message_is, message_refused}
-use Rattle.talk_text.proofs.spelled.message_event.Goals as goal
+use Rattle.talk_text.proofs.message_lines.message_event.Goals as goal
 
 abbrev bad : TextWhy → Result TalkEvent TextWhy
 bad w = Err w
 
 pub returns-in_ok-bytes-in-Ok : goal.returns-in_ok-bytes-in-Ok
 returns-in_ok-bytes-in-Ok c =
-    message_is c.args.line.now c.new-spelled.result c.with_pdu_text.new.taker _ c.in-Ok.ensures.ok c.new-spelled.ensures (λ b e. c.in_ok-bytes-in-Ok.ensures ∙ c.as_slice.ensures b e)
+    message_is c.args.line.now _ (subst (ReadsAndSpells c.args.line.now) (sym c.in_ok-bytes-in-Ok.ensures) c.in-Ok.ensures.ok)
 
 pub returns-in-Err-Line : goal.returns-in-Err-Line
 returns-in-Err-Line c =
