@@ -1,0 +1,5 @@
+//! Tests of a slave's parts. They stand here, so that the crates below are proved once.
+#![tactic(auto)]
+
+#[cfg(test)]
+mod wirings;
