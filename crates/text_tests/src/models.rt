@@ -589,17 +589,18 @@ fn words_and_ports_of_the_kinds(rt: HostRuntime) -> Result<(), Fail> {
     let alloc = rt.alloc();
     let rows = lines(alloc, PORTS)?;
     assert_eq!(rt; rows.len(), KINDS.len());
-    for (row, kind) in rows.iter().zip(&KINDS) {
+    for row in &rows {
         let words = words(alloc, row)?;
         let (word, least, most, outputs) = four_words(&words)?;
+        let kind = kind_of(word)?;
         assert_eq!(rt; kind.word().as_bytes(), word);
         let least = number_from(0, 8, least)? as usize;
         let most = number_from(0, 8, most)? as usize;
         let outputs = number_from(1, 2, outputs)? as usize;
         for inputs in 0..10 {
             let within = least <= inputs && inputs <= most;
-            assert_eq!(rt; has_ports(*kind, inputs, outputs), within);
-            assert!(rt; !has_ports(*kind, inputs, if outputs == 1 { 2 } else { 1 }));
+            assert_eq!(rt; has_ports(kind, inputs, outputs), within);
+            assert!(rt; !has_ports(kind, inputs, if outputs == 1 { 2 } else { 1 }));
         }
     }
     Ok(())
