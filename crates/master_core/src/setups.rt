@@ -10,10 +10,10 @@ ghost use Rattle.master_core.specs.Talking.{IsFresh, slave_in};
 
 use crate::records::Talk;
 use config_plan::Plan;
-use dcp_types::{DataType, OutOfMemory};
+use dcp_types::{DataType, Items, OutOfMemory};
 use master_spec::{Script, Slave};
 use pdu_layout::Cfg;
-use scenario::{Items, Scenario};
+use scenario::Scenario;
 use slave_desc::{Port, SlaveDesc};
 use std::alloc::Global;
 
