@@ -84,7 +84,7 @@ minus_fits (suc n) h = record { sfits = omega (arith, h) }
 plus_fits : (n : ℕ) → n ≤ 2 ^ 63 - 1 → FitsSigned w64 (pos n)
 plus_fits n h = record { sfits = omega (arith, h) }
 
-int64_fits : (w : List ℕ) (z : ℤ) → int64 w ≡ Ok z → FitsSigned w64 z
+pub int64_fits : (w : List ℕ) (z : ℤ) → int64 w ≡ Ok z → FitsSigned w64 z
 int64_fits w z e = by (has_minus w) e
   where
     by : (b : Bool) → cond b (number_from 0 (2 ^ 63) (drop 1 w) >>= λ n. Ok (neg_ℤ (pos n))) (number_from 0 (2 ^ 63 - 1) w >>= λ n. Ok (pos n)) ≡ Ok z → FitsSigned w64 z

@@ -1,10 +1,14 @@
 -- The lists of a plan can be asked.
 use Rattle.std.proofs.Common.{◌≡◌, ℕ, zero, suc, ◌+◌, ◌-◌, ◌^◌, ◌<◌, ◌≤◌, ◌==◌, ◌&&◌, Bool, true, false, Option, Some, None, List, [], ◌∷◌, ◌++◌, map, filter, length, refl, sym, ap, subst, ◌∙◌, arith, IsTrue, FitsSigned}
-use Rattle.std.specs.Prelude.{ℤ, pos, negsuc, All, slice_get, if◌then◌else◌}
+use Rattle.std.specs.Prelude.{ℤ, pos, negsuc, All, slice_get, slice_index_or, if◌then◌else◌}
 use Rattle.std.specs.List.{AllByRecursion, flat_map, range_with_len, find}
 use mathlib.Core.Bool.{cond}
 use Rattle.std.specs.Int.{w64}
 use Rattle.std.proofs.lemmas.List.Elements.{recursion_from_All}
+use Rattle.std.proofs.lemmas.Bool.{eqb-true}
+use Rattle.fixed_models.specs.declared.kinds.Kind.{Kind}
+use Rattle.fixed_models.specs.declared.kinds.Kind.TheVariants as kinds
+use Rattle.fixed_models.specs.Kinds.{takes}
 use Rattle.std.proofs.lemmas.Bool.Decides.{nat_tests}
 use Rattle.std.proofs.lemmas.Int.{ints}
 use Rattle.dcp_types.specs.Codes.{protocol_code}
@@ -23,8 +27,8 @@ use Rattle.scenario.specs.declared.scenarios.Rerun.{Rerun}
 use Rattle.scenario.specs.declared.scenarios.Every.{Every}
 use Rattle.scenario.specs.declared.scenarios.Scenario.{Scenario}
 use Rattle.scenario.specs.Settings.{setting_in}
-use Rattle.scenario.specs.Lookups.{slave_at}
-use Rattle.scenario.specs.Sound.{IsScenario, IsAddress, IsEvery}
+use Rattle.scenario.specs.Lookups.{slave_at, parameters_in}
+use Rattle.scenario.specs.Sound.{IsScenario, IsAddress, IsEvery, IsSetting}
 use Rattle.scenario.specs.Wiring.{interval, q_of, every_between}
 use Rattle.plan_spec.specs.declared.links.DataLink.{DataLink}
 use Rattle.plan_spec.specs.declared.pairs.Pair.{Pair}
@@ -35,7 +39,6 @@ use Rattle.master_spec.specs.declared.requests.Request.TheVariants.{Configure}
 use Rattle.master_spec.specs.declared.setups.Slave.{Slave}
 use Rattle.master_spec.specs.Setup.{slave_of, slaves_from, script_of}
 use Rattle.master_core.specs.Askable.{IsAskable, AreAskable, IsScriptAskable}
-use Rattle.master_core.specs.Fitting.{HasValues, IsTyped}
 use Rattle.master_core.proofs.Spelled.{clear, time_res, steps, input, output, target, source, parameter, IsNetInfo}
 
 -- ---- lists of configurations
@@ -69,6 +72,37 @@ every_one [] = tt
 every_one (x ∷ xs) = (tt, every_one xs)
 
 -- ---- settings
+
+-- the index is a byte, the value a number of 64 bits
+abbrev IsTyped : Setting → Type 0
+IsTyped x = (x.index < 256) × FitsSigned w64 x.value
+
+left : (a b : Bool) → (a && b) ≡ true → a ≡ true
+left true b e = refl
+left false b e = e
+
+one_of : (ps : List ℤ) (n : ℕ) → n ≤ 4 → (length ps == n) ≡ true → length ps ≤ 4
+one_of ps n h e = omega (arith, h, eqb-true (length ps) n e)
+
+takes_few : (k : Kind) (ps : List ℤ) → takes k ps ≡ true → length ps ≤ 4
+takes_few kinds.Const ps e = one_of ps 1 (omega arith) e
+takes_few kinds.Ramp ps e = one_of ps 2 (omega arith) e
+takes_few kinds.Counter ps e = one_of ps 1 (omega arith) (left (length ps == 1) _ e)
+takes_few kinds.Gain ps e = one_of ps 1 (omega arith) e
+takes_few kinds.Sum ps e = one_of ps 0 (omega arith) e
+takes_few kinds.Integrator ps e = one_of ps 2 (omega arith) e
+takes_few kinds.Lag ps e = one_of ps 2 (omega arith) (left (length ps == 2) _ e)
+takes_few kinds.Delay ps e = one_of ps 2 (omega arith) (left (length ps == 2) _ e)
+takes_few kinds.Limiter ps e = one_of ps 2 (omega arith) (left (length ps == 2) _ e)
+takes_few kinds.Deadband ps e = one_of ps 1 (omega arith) (left (length ps == 1) _ e)
+takes_few kinds.Divider ps e = one_of ps 1 (omega arith) e
+takes_few kinds.Oscillator ps e = one_of ps 4 (omega arith) e
+takes_few kinds.Tank ps e = one_of ps 3 (omega arith) (left (length ps == 3) _ (left _ _ e))
+takes_few kinds.Switch ps e = one_of ps 1 (omega arith) e
+
+parameters_few : (o : Option SlaveDesc) → ((d : SlaveDesc) → o ≡ Some d → IsDesc d) → length (parameters_in o) ≤ 4
+parameters_few None h = omega arith
+parameters_few (Some d) h = takes_few d.kind d.parameters (h d refl).taken
 
 set_all : (s : ℕ) (xs : List Setting) → AllByRecursion (λ x. IsTyped x) xs → AreAskable (settings_of s xs)
 set_all s xs a = map_all set_parameter (λ (body : Cfg). IsAskable (Configure body)) (filter (λ (x : Setting). x.slave == s) xs) (each (filter (λ (x : Setting). x.slave == s) xs) (filter_all (λ (x : Setting). x.slave == s) (λ (x : Setting). IsTyped x) xs a))
@@ -175,39 +209,44 @@ wire_links_all sc h =
     let every = recursion_from_All (λ (e : Every). e.q ≤ 1000) sc.every (λ i d l. (h.every i d l).q.1) in
     links_all sc 17 (wired_pairs sc) every (omega (arith, few))
 
-setup_all : (sc : Scenario) (s : ℕ) (d : SlaveDesc) → IsScenario sc → HasValues sc → IsDesc d → s < 65536 → AreAskable (setup_list sc s d)
-setup_all sc s d h v desc small =
+typed : (sc : Scenario) (x : Setting) → IsScenario sc → IsSetting sc.slaves x → IsTyped x
+typed sc x h k =
+    let few = parameters_few (slave_at sc.slaves x.slave) (λ d is. slave_desc_at sc.slaves x.slave d (recursion_from_All (λ (d : SlaveDesc). IsDesc d) sc.slaves h.slaves) is) in
+    (omega (arith, k.index, few), k.value)
+
+setup_all : (sc : Scenario) (s : ℕ) (d : SlaveDesc) → IsScenario sc → IsDesc d → s < 65536 → AreAskable (setup_list sc s d)
+setup_all sc s d h desc small =
     let links = wire_links_all sc h in
     let ins = flat_all (incoming sc d) IsLink (filter (λ (l : DataLink). l.to == s) (wire_links sc)) (λ l k. incoming_all sc d l h desc k) (filter_all (λ (l : DataLink). l.to == s) IsLink (wire_links sc) links) in
     let outs = flat_all (outgoing sc d) IsLink (filter (λ (l : DataLink). l.from == s) (wire_links sc)) (λ l k. outgoing_all sc d l h desc k) (filter_all (λ (l : DataLink). l.from == s) IsLink (wire_links sc) links) in
-    let sets = set_all s sc.settings (recursion_from_All (λ (x : Setting). IsTyped x) sc.settings v.settings) in
+    let sets = set_all s sc.settings (recursion_from_All (λ (x : Setting). IsTyped x) sc.settings (λ i x l. typed sc (slice_index_or sc.settings i x) h (h.settings i x l))) in
     let head : List Cfg = cfg.Clear ∷ cfg.TimeRes d.numerator d.denominator ∷ [] in
     let a : List Cfg = settings_of s sc.settings in
     let b : List Cfg = flat_map (incoming sc d) (filter (λ (l : DataLink). l.to == s) (wire_links sc)) in
     let e : List Cfg = flat_map (outgoing sc d) (filter (λ (l : DataLink). l.from == s) (wire_links sc)) in
     join (((head ++ a) ++ b) ++ e) (watched sc s d) (join ((head ++ a) ++ b) e (join (head ++ a) b (join head a (clear, (time_res d.numerator d.denominator desc.numerator.1 desc.denominator.1, tt)) sets) ins) outs) (watched_all sc s d h desc small)
 
-adjust_all : (sc : Scenario) (r s : ℕ) → HasValues sc → AreAskable (adjust_list sc r s)
-adjust_all sc r s v =
-    let reruns = recursion_from_All (λ (x : Rerun). IsTyped (setting_in x)) sc.reruns v.reruns in
+adjust_all : (sc : Scenario) (r s : ℕ) → IsScenario sc → AreAskable (adjust_list sc r s)
+adjust_all sc r s h =
+    let reruns = recursion_from_All (λ (x : Rerun). IsTyped (setting_in x)) sc.reruns (λ i x l. typed sc (setting_in (slice_index_or sc.reruns i x)) h (h.reruns i x l).setting) in
     set_all s (map setting_in (filter (λ (x : Rerun). x.run == r + 1) sc.reruns)) (map_all setting_in (λ (x : Setting). IsTyped x) (filter (λ (x : Rerun). x.run == r + 1) sc.reruns) (filter_all (λ (x : Rerun). x.run == r + 1) (λ (x : Rerun). IsTyped (setting_in x)) sc.reruns reruns))
 
-adjusts_all : (sc : Scenario) (s : ℕ) (rs : List ℕ) → HasValues sc → AllByRecursion (λ list. AreAskable list) (map (λ r. adjust_list sc r s) rs)
-adjusts_all sc s [] v = tt
-adjusts_all sc s (r ∷ rs) v = (adjust_all sc r s v, adjusts_all sc s rs v)
+adjusts_all : (sc : Scenario) (s : ℕ) (rs : List ℕ) → IsScenario sc → AllByRecursion (λ list. AreAskable list) (map (λ r. adjust_list sc r s) rs)
+adjusts_all sc s [] h = tt
+adjusts_all sc s (r ∷ rs) h = (adjust_all sc r s h, adjusts_all sc s rs h)
 
-slaves_all : (sc : Scenario) (s : ℕ) (ds : List SlaveDesc) → IsScenario sc → HasValues sc → AllByRecursion (λ d. IsDesc d) ds → s + length ds ≤ 256 → AllByRecursion (λ slave. IsScriptAskable slave) (slaves_from sc s ds)
-slaves_all sc s [] h v a few = tt
-slaves_all sc s (d ∷ ds) h v a few = (
+slaves_all : (sc : Scenario) (s : ℕ) (ds : List SlaveDesc) → IsScenario sc → AllByRecursion (λ d. IsDesc d) ds → s + length ds ≤ 256 → AllByRecursion (λ slave. IsScriptAskable slave) (slaves_from sc s ds)
+slaves_all sc s [] h a few = tt
+slaves_all sc s (d ∷ ds) h a few = (
   record {
     id = omega (arith, few);
     uuid = a.0.uuid;
-    setup = setup_all sc s d h v a.0 (omega (arith, few));
-    adjusts = adjusts_all sc s (range_with_len 1 (sc.runs - 1)) v;
+    setup = setup_all sc s d h a.0 (omega (arith, few));
+    adjusts = adjusts_all sc s (range_with_len 1 (sc.runs - 1)) h;
   },
-  slaves_all sc (s + 1) ds h v a.1 (omega (arith, few)),
+  slaves_all sc (s + 1) ds h a.1 (omega (arith, few)),
 )
 
 -- all slaves of a scenario
-pub all_askable : (sc : Scenario) → IsScenario sc → HasValues sc → AllByRecursion (λ slave. IsScriptAskable slave) (slaves_from sc 1 sc.slaves)
-all_askable sc h v = slaves_all sc 1 sc.slaves h v (recursion_from_All (λ (d : SlaveDesc). IsDesc d) sc.slaves h.slaves) (omega (arith, h.few_slaves.1))
+pub all_askable : (sc : Scenario) → IsScenario sc → AllByRecursion (λ slave. IsScriptAskable slave) (slaves_from sc 1 sc.slaves)
+all_askable sc h = slaves_all sc 1 sc.slaves h (recursion_from_All (λ (d : SlaveDesc). IsDesc d) sc.slaves h.slaves) (omega (arith, h.few_slaves.1))

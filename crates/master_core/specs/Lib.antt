@@ -5,6 +5,5 @@ pub mod Each
 pub mod Askable
 pub mod Talking
 pub mod Columns
-pub mod Fitting
 pub mod Scheduled
 pub mod Standing

@@ -9,7 +9,6 @@ ghost use Rattle.master_spec.specs.Course as course;
 ghost use Rattle.master_spec.specs.Course.{Course};
 ghost use Rattle.master_spec.specs.Rules.{master_rules, rules_from};
 ghost use Rattle.master_core.specs.Columns.{value_at};
-ghost use Rattle.master_core.specs.Fitting.{HasValues};
 ghost use Rattle.master_core.specs.Talking.{Now};
 ghost use Rattle.master_core.specs.Standing.{StandsIn, StandsFor, StandsAfter, Meets, IsBehind, setup_of, is_row_due, with_counted, with_talks_turned, with_gram_heard};
 
@@ -33,7 +32,6 @@ impl MasterCore {
     /// rows.
     pub fn new(alloc: Global, scenario: &Scenario, plan: &Plan) -> Result<MasterCore, OutOfMemory>
         requires sound { IsScenario scenario.now }
-        requires values { HasValues scenario.now }
         requires plan { plan.now ≡ plan_of scenario.now }
         ensures stands { IfOk result (λ m. StandsAfter m []) }
         ensures rules { IfOk result (λ m. rules_from (setup_of m) ≡ master_rules scenario.now) }

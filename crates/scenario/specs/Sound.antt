@@ -1,5 +1,6 @@
 -- What is known of a scenario that a text gave.
-use Rattle.std.specs.Prelude.{◌≡◌, ◌≢◌, ℕ, ◌≤◌, ◌<◌, ◌^◌, Bool, ◌==◌, ◌&&◌, true, false, List, ◌++◌, length, map, take, IfSome, All, AllPairs}
+use Rattle.std.specs.Prelude.{◌≡◌, ◌≢◌, ℕ, ◌≤◌, ◌<◌, ◌^◌, Bool, ◌==◌, ◌&&◌, true, false, List, ◌++◌, length, map, take, IfSome, All, AllPairs, FitsSigned}
+use Rattle.std.specs.Int.{w64}
 use Rattle.std.specs.List.{list_any}
 use Rattle.dcp_types.specs.declared.addresses.Address.{Address}
 use Rattle.dcp_types.specs.declared.limits.Limits.{Limits}
@@ -36,10 +37,11 @@ pub record IsWire (slaves : List SlaveDesc) (w : Wire) : Type 0 where
   pub into : w.into < length (inputs_at slaves w.to)
   pub types : type_at (outputs_at slaves w.from) w.out ≡ type_at (inputs_at slaves w.to) w.into
 
--- the parameter is there
+-- the parameter is there, and the value is a number of 64 bits
 pub record IsSetting (slaves : List SlaveDesc) (x : Setting) : Type 0 where
   pub slave : IsSlave slaves x.slave
   pub index : x.index < length (parameters_at slaves x.slave)
+  pub value : FitsSigned w64 x.value
 
 -- a later run, and a parameter that is there
 pub record IsRerun (slaves : List SlaveDesc) (runs : ℕ) (r : Rerun) : Type 0 where

@@ -14,6 +14,7 @@ use Rattle.text_lines.specs.Counts.{three_words, four_words}
 use Rattle.text_lines.proofs.PlainWords.{and_both}
 use Rattle.text_lines.proofs.Results.{bind_ok, some_ok, moved, chosen_ok}
 use Rattle.text_lines.proofs.WordRanges.{number_fits}
+use Rattle.desc_text.proofs.Ranges.{int64_fits}
 use Rattle.text_lines.specs.declared.reasons.TextWhy.TheVariants as why
 use Rattle.slave_desc.specs.declared.descriptions.SlaveDesc.{SlaveDesc}
 use Rattle.scenario_text.specs.Links.{place_of, slave_of, index_of, end_of, hex_value, type_of, wire_of, setting_of, rerun_of, every_of, message_of, drop_of, copy_of, hold_of, chaos_of, link_of}
@@ -88,6 +89,7 @@ setting_fits slaves args x e =
     moved (IsSetting slaves) (record { slave = s.0; index = i.0; value = v.0 }) x v.2 (record {
       slave = slave_fits slaves a.0.0 s.0 s.1;
       index = index_fits (length (parameters_at slaves s.0)) a.0.1 i.0 i.1;
+      value = int64_fits a.0.2 v.0 v.1;
     })
 
 rerun_fits : (slaves : List SlaveDesc) (runs : ℕ) (args : List (List ℕ)) (r : Rerun) → rerun_of slaves runs args ≡ Ok r → IsRerun slaves runs r
@@ -101,6 +103,7 @@ rerun_fits slaves runs args r e =
       setting = record {
         slave = slave_fits slaves a.0.1 s.0 s.1;
         index = index_fits (length (parameters_at slaves s.0)) a.0.2 i.0 i.1;
+        value = int64_fits a.0.3 v.0 v.1;
       };
       run = number_fits 2 runs a.0.0 n.0 n.1;
     })

@@ -23,7 +23,7 @@ returns-clause-stands c =
     let sc = c.args.scenario.now in
     let ts = c.in_ok-talks.talks.items in
     let few = slaves_few sc ts c.in_ok-talks.ensures.slaves in
-    let asks = subst (λ (l : List Slave). AllByRecursion (λ slave. IsScriptAskable slave) l) (sym c.in_ok-talks.ensures.slaves) (all_askable sc c.requires.sound c.requires.values) in
+    let asks = subst (λ (l : List Slave). AllByRecursion (λ slave. IsScriptAskable slave) l) (sym c.in_ok-talks.ensures.slaves) (all_askable sc c.requires.sound) in
     let width : outputs_width ts ≡ c.width_of.result = sym (c.width_of.ensures.width ∙ ap outputs_width c.deref.ensures.value) in
     record {
       stands = record {
