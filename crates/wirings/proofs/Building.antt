@@ -1,14 +1,13 @@
 -- The data messages that are built.
-use Rattle.std.proofs.Common.{◌≡◌, ℕ, zero, suc, ◌+◌, ◌*◌, ◌/◌, ◌%◌, ◌<◌, ◌≤◌, ◌++◌, Bool, true, false, cond, List, [], ◌∷◌, length, get_or, take, map, refl, ap, subst, sym, ◌∙◌, arith, Option, Some, None}
-use Rattle.std.specs.Prelude.{ℤ, pos, ◌==◌, ◌&&◌, if◌then◌else◌, reverse, slice_get}
+use Rattle.std.proofs.Common.{◌≡◌, ℕ, zero, suc, ◌+◌, ◌*◌, ◌/◌, ◌%◌, ◌<◌, ◌≤◌, ◌++◌, Bool, true, false, List, [], ◌∷◌, length, get_or, take, map, refl, ap, subst, sym, ◌∙◌, arith, Option, Some, None}
+use Rattle.std.specs.Prelude.{ℤ, pos, ◌==◌, ◌&&◌, reverse, slice_get}
 use Rattle.std.specs.List.{flat_map}
 use Rattle.std.proofs.lemmas.List.{get_or-map, length-append, length-take, flat_map_more, take_more}
 use Rattle.std.proofs.Math.Nat.{mod-add-mod}
 use Rattle.dcp_types.specs.declared.data_types.DataType.{DataType}
 use Rattle.dcp_types.specs.declared.data_types.DataType.TheVariants.{U8, U16, U32, U64, I8, I16, I32, I64}
-use Rattle.dcp_types.specs.Values.{width, fits, digits, value_bytes}
+use Rattle.dcp_types.specs.Values.{width, fits, digits}
 use Rattle.pdu_layout.specs.declared.fields.FieldKind.TheVariants as kinds
-use Rattle.pdu_layout.specs.Fields.FieldValue.{Number, Bytes}
 use Rattle.pdu_layout.specs.Message.{Message, Spells, HasSpelling}
 use Rattle.pdu_layout.specs.Reading.{spelling}
 use Rattle.slave_desc.specs.declared.ports.Port.{Port}
@@ -18,7 +17,7 @@ use Rattle.slave_desc.specs.declared.descriptions.SlaveDesc.{SlaveDesc}
 use Rattle.slave_wiring.specs.Changes.{Change, output, entries, ids, target, interval, base, ordinal}
 use Rattle.slave_wiring.specs.Payloads.{IsMessage, payload, data_message, all_fit, output_value, bytes_for, kind_of}
 use Rattle.wirings.specs.Ports.{port_index, place_with}
-use Rattle.wirings.specs.Payloads.{value_for, place_bytes}
+use Rattle.wirings.specs.Payloads.{place_bytes}
 use Rattle.wirings.specs.declared.places.PortPlace.{PortPlace}
 use Rattle.wirings.specs.Sending.{output_row, AreOutputs}
 use Rattle.wirings.specs.declared.tables.OutputRow.{OutputRow}

@@ -1,33 +1,32 @@
 -- An entry for an input.
-use Rattle.std.proofs.Common.{◌≡◌, ◌≢◌, ℕ, zero, suc, ◌+◌, ◌%◌, ◌<◌, ◌≤◌, ◌++◌, Bool, true, false, cond, List, [], ◌∷◌, length, get_or, set, take, map, refl, ap, sym, ◌∙◌, subst, arith, Option, Some, None, add-one}
+use Rattle.std.proofs.Common.{◌≡◌, ◌≢◌, ℕ, suc, ◌+◌, ◌%◌, ◌<◌, ◌++◌, Bool, true, false, List, [], ◌∷◌, length, get_or, set, take, map, refl, ap, sym, ◌∙◌, subst, arith, Option, Some, None, add-one}
 use Rattle.std.specs.Prelude.{ℤ, pos, ◌==◌, ◌&&◌, not, reverse, sum_by, is_some}
-use Rattle.std.specs.List.{insert, cons_option, filter_map}
+use Rattle.std.specs.List.{insert}
 use Rattle.std.proofs.Math.Seq.{take-set-lt}
 use Rattle.std.proofs.lemmas.Bool.Decides.{nat_tests}
-use Rattle.std.proofs.lemmas.List.{get_or-map, get_or-take, take_all}
+use Rattle.std.proofs.lemmas.List.{get_or-map, get_or-take}
 use Rattle.dcp_types.specs.declared.addresses.Address.{Address}
 use Rattle.dcp_types.specs.declared.data_types.DataType.{DataType}
-use Rattle.dcp_types.specs.declared.error_codes.ErrorCode.{ErrorCode}
-use Rattle.dcp_types.specs.declared.error_codes.ErrorCode.TheVariants.{NotSupported, UnknownVr, TypeMismatch, Position}
+use Rattle.dcp_types.specs.declared.error_codes.ErrorCode.TheVariants.{UnknownVr, TypeMismatch, Position}
 use Rattle.dcp_types.specs.Codes.{type_code}
 use Rattle.dcp_types.specs.Values.{width}
 use Rattle.pdu_layout.specs.declared.messages.Cfg.TheVariants as cfg
 use Rattle.slave_desc.specs.declared.ports.Port.{Port}
 use Rattle.slave_desc.specs.declared.descriptions.SlaveDesc.{SlaveDesc}
 use Rattle.slave_desc.specs.Descriptions.{AreApart}
-use Rattle.slave_wiring.specs.Changes.{Change, Set, Restart, input, entries, has_id, ids, source, interval, base, put_ascending, vr_for}
+use Rattle.slave_wiring.specs.Changes.{Change, Set, input, entries, has_id, ids, source, put_ascending, vr_for}
 use Rattle.slave_wiring.specs.Refusals.{refusal, port_with, is_wired, unless}
 use Rattle.slave_wiring.specs.Payloads as payloads
 use Rattle.slave_wiring.specs.Payloads.{Wires, Kept, Spot, kind_of, input_types, spot, value_at, input_value, inputs, kept_under}
 use Rattle.wirings.specs.Ids.{IsThere, IsPlaceFor}
-use Rattle.wirings.specs.Ports.{IsPort, port_index, place_with}
+use Rattle.wirings.specs.Ports.{IsPort, port_index}
 use Rattle.wirings.specs.Receiving.{kept_ordinal, input_row, segment_of, segment_for, IsPlaced, IsCoherent, AreInputs}
 use Rattle.wirings.specs.declared.places.PortPlace.{PortPlace}
 use Rattle.wirings.specs.declared.tables.InputRow.{InputRow}
 use Rattle.wirings.specs.declared.tables.Segment.{Segment}
 use Rattle.wirings.specs.declared.tables.Inputs.{Inputs}
 use Rattle.wirings.proofs.Ascending.{by_test, put_there, put_new, map_set, map_insert}
-use Rattle.wirings.proofs.Known.{ids_ascend, known, unknown, has_none, has_fewer, interval_new, base_new}
+use Rattle.wirings.proofs.Known.{ids_ascend, unknown, has_none, has_fewer, interval_new, base_new}
 use Rattle.wirings.proofs.Placing.{types_own, types_other, types_count, widths_more, placed_more, placed_last, segment_is, kept_more, kept_short, wired_is}
 use Rattle.wirings.proofs.Receiving.{there_at, place_at, row_is}
 

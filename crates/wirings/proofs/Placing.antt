@@ -1,21 +1,19 @@
 -- Where the values of inputs stand in payloads.
-use Rattle.std.proofs.Common.{◌≡◌, ◌≢◌, ℕ, zero, suc, ◌+◌, ◌^◌, ◌*◌, ◌<◌, ◌≤◌, ◌++◌, Bool, true, false, cond, List, [], ◌∷◌, length, get_or, take, drop, map, refl, ap, sym, ◌∙◌, subst, arith, Option, Some, None, append_assoc, zero-add}
-use Rattle.std.specs.Prelude.{ℤ, pos, ◌==◌, ◌&&◌, nat_le, reverse, sum_by, is_some}
-use Rattle.std.specs.List.{cons_option, filter_map}
+use Rattle.std.proofs.Common.{◌≡◌, ℕ, ◌+◌, ◌≤◌, ◌++◌, true, false, List, [], ◌∷◌, length, get_or, take, drop, map, refl, ap, sym, ◌∙◌, arith, Option, Some, None, append_assoc, zero-add}
+use Rattle.std.specs.Prelude.{ℤ, pos, ◌==◌, nat_le, reverse, sum_by, is_some}
 use Rattle.std.proofs.lemmas.Bool.Decides.{nat_tests}
-use Rattle.std.proofs.lemmas.List.{map-append, reverse-append, length-map, length-reverse, take_at, get_or_at, drop-drop, drop_all, length-append}
+use Rattle.std.proofs.lemmas.List.{map-append, reverse-append, length-map, length-reverse, take_at, get_or_at, drop-drop, drop_all}
 use Rattle.std.proofs.lemmas.List.Sums.{sum_by-append, sum_by-cons}
 use Rattle.dcp_types.specs.declared.data_types.DataType.{DataType}
 use Rattle.dcp_types.specs.declared.data_types.DataType.TheVariants.{U8, U16, U32, U64, I8, I16, I32, I64}
 use Rattle.dcp_types.specs.Values.{width}
 use Rattle.pdu_layout.specs.declared.messages.Cfg.TheVariants as cfg
 use Rattle.pdu_layout.specs.Reading.{value_in}
-use Rattle.slave_desc.specs.declared.ports.Port.{Port}
 use Rattle.slave_desc.specs.declared.descriptions.SlaveDesc.{SlaveDesc}
-use Rattle.slave_wiring.specs.Changes.{Change, Set, Restart, input, entries, newest}
+use Rattle.slave_wiring.specs.Changes.{Change, Set, input, entries}
 use Rattle.slave_wiring.specs.Refusals.{port_with, is_wired}
-use Rattle.slave_wiring.specs.Payloads.{Wires, Kept, Spot, kind_of, input_types, spot, spot_given, cut, value_kept, value_at, kept_under}
-use Rattle.wirings.specs.Receiving.{segment_of, segment_for, segment_value, IsPlaced}
+use Rattle.slave_wiring.specs.Payloads.{Kept, Spot, kind_of, input_types, spot, cut, value_kept}
+use Rattle.wirings.specs.Receiving.{segment_of, segment_value, IsPlaced}
 use Rattle.wirings.specs.declared.tables.Segment.{Segment}
 use Rattle.wirings.proofs.Ascending.{by_test}
 

@@ -1,38 +1,24 @@
 -- The rows of the input ids and the inputs, change by change.
-use Rattle.std.proofs.Common.{◌≡◌, ◌≢◌, ℕ, zero, suc, ◌+◌, ◌/◌, ◌%◌, ◌<◌, ◌≤◌, ◌++◌, Bool, true, false, cond, List, [], ◌∷◌, length, get_or, set, take, drop, map, refl, ap, sym, ◌∙◌, subst, arith, Option, Some, None, add-one}
-use Rattle.std.specs.Prelude.{ℤ, pos, Result, Ok, Err, is_ok, ◌==◌, ◌&&◌, not, nat_lt, nat_le, reverse, sum_by, is_some, is_none, replicate}
-use Rattle.std.specs.List.{insert, cons_option, filter_map}
-use Rattle.std.proofs.Math.Nat.{mod-add-mod}
-use Rattle.std.proofs.Math.Seq.{take-set-lt}
+use Rattle.std.proofs.Common.{◌≡◌, ◌≢◌, ℕ, zero, suc, ◌≤◌, Bool, true, false, List, [], ◌∷◌, length, get_or, set, take, map, refl, ap, sym, ◌∙◌, subst, arith, Some, None}
+use Rattle.std.specs.Prelude.{pos, Result, Ok, Err, is_ok, ◌==◌, ◌&&◌, not, is_some, is_none, replicate}
 use Rattle.std.proofs.lemmas.Bool.Decides.{nat_tests}
-use Rattle.std.proofs.lemmas.List.{get_or-map, get_or-take, same_lists, length-take, length-map, get_or_default, take_all, drop_all, append-nil}
-use Rattle.std.proofs.lemmas.List.Edits.{map_over_more}
 use Rattle.dcp_types.specs.declared.addresses.Address.{Address}
-use Rattle.dcp_types.specs.declared.data_types.DataType.{DataType}
-use Rattle.dcp_types.specs.declared.error_codes.ErrorCode.{ErrorCode}
-use Rattle.dcp_types.specs.declared.error_codes.ErrorCode.TheVariants.{NotSupported, UnknownVr, TypeMismatch, Position}
-use Rattle.dcp_types.specs.Codes.{type_code}
-use Rattle.dcp_types.specs.Values.{width}
-use Rattle.pdu_layout.specs.declared.messages.Cfg.{Cfg}
+use Rattle.dcp_types.specs.declared.error_codes.ErrorCode.TheVariants.{Position}
 use Rattle.pdu_layout.specs.declared.messages.Cfg.TheVariants as cfg
 use Rattle.pdu_layout.specs.declared.messages.NetInfo.{NetInfo}
 use Rattle.slave_desc.specs.declared.ports.Port.{Port}
 use Rattle.slave_desc.specs.declared.descriptions.SlaveDesc.{SlaveDesc}
 use Rattle.slave_desc.specs.Descriptions.{AreApart}
-use Rattle.slave_wiring.specs.Changes.{Change, Set, Restart, input, entries, has_id, ids, source, interval, base, ordinal, in_run, put_ascending, vr_for, newest}
-use Rattle.slave_wiring.specs.Refusals.{refusal, port_with, is_wired, unless, is_transport}
+use Rattle.slave_wiring.specs.Changes.{Change, Set, input, has_id, ids, source}
+use Rattle.slave_wiring.specs.Refusals.{refusal, unless, is_transport}
 use Rattle.slave_wiring.specs.Payloads as payloads
 use Rattle.slave_wiring.specs.Payloads.{Wires, Kept, Spot, bare, brought, is_wanted, kind_of, input_types, spot, spot_given, value_kept, value_at, input_value, inputs, kept_under, is_address, is_here, is_of, restarted, cut}
 use Rattle.wirings.specs.Ids.{IsThere, IsPlaceFor, IsFound}
-use Rattle.wirings.specs.Ports.{IsPort, port_index, place_with}
-use Rattle.wirings.specs.Receiving.{kept_ordinal, input_row, segment_of, segment_for, segment_value, value_after, IsPlaced, IsCoherent, AreInputs, is_kept_for, wants, input_restarted}
-use Rattle.wirings.specs.declared.places.PortPlace.{PortPlace}
+use Rattle.wirings.specs.Receiving.{input_row, AreInputs}
 use Rattle.wirings.specs.declared.tables.InputRow.{InputRow}
-use Rattle.wirings.specs.declared.tables.Segment.{Segment}
 use Rattle.wirings.specs.declared.tables.Inputs.{Inputs}
-use Rattle.wirings.proofs.Ascending.{by_test, put_there, put_new, map_set, map_insert, map_absent, row_at}
-use Rattle.wirings.proofs.Known.{ids_ascend, map_known, known, unknown, has_none, has_fewer, interval_new, base_new}
-use Rattle.wirings.proofs.Placing.{types_own, types_other, types_count, widths_more, placed_more, placed_last, segment_is, kept_more, kept_short, wired_is, value_read}
+use Rattle.wirings.proofs.Ascending.{by_test, map_set, map_absent, row_at}
+use Rattle.wirings.proofs.Known.{ids_ascend, known, unknown}
 
 pub there_at : (d : SlaveDesc) (w : Wires) (s : Inputs) (id i : ℕ) → AreInputs d w s → IsThere s.ids id i → IsThere (ids input w.changes) id i
 there_at d w s id i h t = subst (λ (l : List ℕ). IsThere l id i) h.sorted t

@@ -1,28 +1,27 @@
 -- The rows of the output ids, change by change.
-use Rattle.std.proofs.Common.{◌≡◌, ◌≢◌, ℕ, zero, suc, ◌+◌, ◌<◌, ◌≤◌, ◌%◌, ◌++◌, Bool, true, false, cond, List, [], ◌∷◌, length, get_or, set, map, refl, ap, sym, ◌∙◌, subst, arith, Option, Some, None}
-use Rattle.std.specs.Prelude.{Result, Ok, Err, is_ok, ◌==◌, ◌||◌, ◌&&◌, not, nat_lt, nat_le, if◌then◌else◌, reverse, is_none, is_some, ◌/◌, take, drop}
-use Rattle.std.specs.List.{insert, filter_map, cons_option}
+use Rattle.std.proofs.Common.{◌≡◌, ◌≢◌, ℕ, ◌+◌, ◌<◌, ◌≤◌, ◌%◌, ◌++◌, Bool, true, false, List, [], ◌∷◌, length, get_or, set, map, refl, ap, sym, ◌∙◌, subst, arith, Option, Some, None}
+use Rattle.std.specs.Prelude.{Result, Ok, Err, is_ok, ◌==◌, ◌&&◌, not, nat_lt, nat_le, reverse, is_none, is_some, ◌/◌, take, drop}
+use Rattle.std.specs.List.{insert}
 use Rattle.std.proofs.lemmas.Bool.Decides.{nat_tests}
 use Rattle.std.proofs.lemmas.List.Edits.{map_over_more}
 use Rattle.std.proofs.Math.Nat.{mod-add-mod}
 use Rattle.std.proofs.lemmas.List.{map-append, append-nil, take_all, drop_all, get_or_default, length-map, length-reverse, reverse-append}
 use Rattle.dcp_types.specs.declared.addresses.Address.{Address}
-use Rattle.dcp_types.specs.declared.error_codes.ErrorCode.{ErrorCode}
-use Rattle.dcp_types.specs.declared.error_codes.ErrorCode.TheVariants.{NotSupported, UnknownVr, TypeMismatch, Position}
+use Rattle.dcp_types.specs.declared.error_codes.ErrorCode.TheVariants.{NotSupported, UnknownVr, Position}
 use Rattle.pdu_layout.specs.declared.messages.Cfg.TheVariants as cfg
 use Rattle.slave_desc.specs.declared.ports.Port.{Port}
 use Rattle.slave_desc.specs.declared.descriptions.SlaveDesc.{SlaveDesc}
-use Rattle.slave_wiring.specs.Changes.{Change, Set, Restart, Side, output, entries, has_id, ids, target, interval, base, put_ascending, vr_for}
+use Rattle.slave_wiring.specs.Changes.{Change, Set, Restart, output, entries, has_id, ids, target, interval, base, put_ascending, vr_for}
 use Rattle.pdu_layout.specs.declared.messages.NetInfo.{NetInfo}
-use Rattle.slave_wiring.specs.Refusals.{is_transport, refusal, is_full, output_refusal, port_with, unless}
+use Rattle.slave_wiring.specs.Refusals.{is_transport, refusal, is_full, port_with, unless}
 use Rattle.wirings.specs.Ids.{IsThere, IsPlaceFor, IsFound}
 use Rattle.wirings.specs.Ports.{IsPort, place_with}
 use Rattle.wirings.specs.Sending.{output_row, AreOutputs, row_restarted}
 use Rattle.wirings.specs.declared.places.PortPlace.{PortPlace}
 use Rattle.wirings.specs.declared.tables.OutputRow.{OutputRow}
 use Rattle.wirings.specs.declared.tables.Outputs.{Outputs}
-use Rattle.wirings.proofs.Ascending.{by_test, among_there, not_among, put_there, put_new, map_set, map_insert, map_absent, row_at}
-use Rattle.wirings.proofs.Known.{ids_ascend, has_among, map_known, known, unknown, has_none, has_fewer, interval_new, base_new}
+use Rattle.wirings.proofs.Ascending.{by_test, put_there, put_new, map_set, map_insert, map_absent, row_at}
+use Rattle.wirings.proofs.Known.{ids_ascend, map_known, known, unknown, has_none, has_fewer, interval_new, base_new}
 
 -- refusals of an entry
 pub full : (d : SlaveDesc) (changes : List Change) (id position vr : ℕ) → has_id output id changes ≡ false → 17 ≤ length (ids output changes) → refusal d changes (cfg.Output id position vr) ≡ Some NotSupported

@@ -1,21 +1,20 @@
 -- A payload that is kept, and a restart.
-use Rattle.std.proofs.Common.{◌≡◌, ◌≢◌, ℕ, zero, suc, ◌+◌, ◌/◌, ◌%◌, ◌<◌, ◌≤◌, ◌++◌, Bool, true, false, cond, List, [], ◌∷◌, length, get_or, set, take, drop, map, refl, ap, sym, ◌∙◌, subst, arith, Option, Some, None}
-use Rattle.std.specs.Prelude.{ℤ, pos, ◌==◌, ◌&&◌, not, sum_by, is_some, replicate}
+use Rattle.std.proofs.Common.{◌≡◌, ◌≢◌, ℕ, ◌+◌, ◌/◌, ◌%◌, ◌<◌, ◌≤◌, ◌++◌, Bool, true, false, List, [], ◌∷◌, length, get_or, set, take, drop, map, refl, ap, sym, ◌∙◌, subst, arith, Option, Some, None}
+use Rattle.std.specs.Prelude.{ℤ, pos, ◌==◌, ◌&&◌, not, sum_by, replicate}
 use Rattle.std.proofs.Math.Nat.{mod-add-mod}
 use Rattle.std.proofs.lemmas.Bool.Decides.{nat_tests}
 use Rattle.std.proofs.lemmas.List.{get_or-map, get_or-take, same_lists, length-take, length-map, get_or_default, take_all, drop_all, append-nil}
 use Rattle.std.proofs.lemmas.List.Edits.{map_over_more}
 use Rattle.dcp_types.specs.declared.addresses.Address.{Address}
-use Rattle.dcp_types.specs.declared.data_types.DataType.{DataType}
 use Rattle.dcp_types.specs.Values.{width}
 use Rattle.slave_desc.specs.declared.ports.Port.{Port}
 use Rattle.slave_desc.specs.declared.descriptions.SlaveDesc.{SlaveDesc}
-use Rattle.slave_wiring.specs.Changes.{Change, Set, Restart, input, entries, has_id, ids, source, interval, base, ordinal, in_run}
+use Rattle.slave_wiring.specs.Changes.{Change, Restart, input, has_id, ids, interval, base}
 use Rattle.slave_wiring.specs.Refusals.{port_with}
 use Rattle.slave_wiring.specs.Payloads as payloads
 use Rattle.slave_wiring.specs.Payloads.{Wires, Kept, Spot, brought, is_wanted, kind_of, input_types, spot, value_at, input_value, inputs, kept_under, is_address, is_here, is_of, restarted}
 use Rattle.wirings.specs.Ids.{IsThere, IsPlaceFor}
-use Rattle.wirings.specs.Receiving.{kept_ordinal, input_row, segment_of, segment_for, segment_value, value_after, IsPlaced, IsCoherent, AreInputs, is_kept_for, wants, input_restarted}
+use Rattle.wirings.specs.Receiving.{kept_ordinal, input_row, segment_for, value_after, IsCoherent, AreInputs, is_kept_for, wants, input_restarted}
 use Rattle.wirings.specs.declared.tables.InputRow.{InputRow}
 use Rattle.wirings.specs.declared.tables.Segment.{Segment}
 use Rattle.wirings.specs.declared.tables.Inputs.{Inputs}

@@ -1,5 +1,5 @@
 -- The wiring whole.
-use Rattle.std.proofs.Common.{◌≡◌, ℕ, ◌/◌, Bool, true, false, List, [], ◌∷◌, length, map, refl, ap, sym, ◌∙◌, Option, Some, None, arith}
+use Rattle.std.proofs.Common.{◌≡◌, ℕ, ◌/◌, Bool, true, false, List, [], ◌∷◌, refl, ap, sym, ◌∙◌, Some, arith}
 use Rattle.std.specs.Prelude.{Result, Ok, Err, MatchResult, ◌==◌, ◌&&◌, ◌||◌, nat_le, is_some}
 use Rattle.std.specs.List.{list_all}
 use Rattle.std.proofs.lemmas.Bool.Decides.{nat_tests}
@@ -9,7 +9,7 @@ use Rattle.dcp_types.specs.declared.error_codes.ErrorCode.TheVariants.{NotSuppor
 use Rattle.pdu_layout.specs.declared.messages.Cfg.TheVariants as cfg
 use Rattle.pdu_layout.specs.declared.messages.NetInfo.{NetInfo}
 use Rattle.slave_desc.specs.declared.descriptions.SlaveDesc.{SlaveDesc}
-use Rattle.slave_wiring.specs.Changes.{Change, Set, Restart, input, output, has_id, ids, source, target, complete, in_run}
+use Rattle.slave_wiring.specs.Changes.{Change, Set, input, output, has_id, ids, source, complete, in_run}
 use Rattle.slave_wiring.specs.Refusals.{refusal, unless, is_transport}
 use Rattle.slave_wiring.specs.Payloads as payloads
 use Rattle.slave_wiring.specs.Payloads.{Wires, ready, is_here, kept_under}
@@ -18,10 +18,9 @@ use Rattle.wirings.specs.Receiving.{input_row, AreInputs, is_kept_for}
 use Rattle.wirings.specs.Standing.{WiringFor}
 use Rattle.wirings.specs.declared.tables.InputRow.{InputRow}
 use Rattle.wirings.specs.declared.tables.OutputRow.{OutputRow}
-use Rattle.wirings.specs.declared.tables.Inputs.{Inputs}
 use Rattle.wirings.specs.declared.tables.Outputs.{Outputs}
 use Rattle.wirings.specs.declared.wirings.Wiring.{Wiring}
-use Rattle.wirings.proofs.Receiving.{not_resolution, not_output, not_target}
+use Rattle.wirings.proofs.Receiving.{not_resolution}
 use Rattle.wirings.proofs.Taking.{kept_same}
 
 pub match_both : {T E : Type 0} {P P' : T → Type 0} {Q Q' : E → Type 0} (r : Result T E) → ((v : T) → P v → P' v) → ((e : E) → Q e → Q' e) → MatchResult r P Q → MatchResult r P' Q'

@@ -1,5 +1,5 @@
 -- The port with a value reference.
-use Rattle.std.specs.Prelude.{◌≡◌, ℕ, zero, suc, ◌==◌, ◌<◌, List, [], ◌∷◌, length, Some, if◌then◌else◌}
+use Rattle.std.specs.Prelude.{◌≡◌, ℕ, suc, ◌==◌, ◌<◌, List, [], ◌∷◌, length, Some, if◌then◌else◌}
 use Rattle.slave_desc.specs.declared.ports.Port.{Port}
 use Rattle.slave_wiring.specs.Refusals.{port_with}
 use Rattle.slave_wiring.specs.Payloads.{kind_of}

@@ -1,11 +1,10 @@
 -- What is kept of the input ids and the inputs, by the changes and the payloads so far.
-use Rattle.std.specs.Prelude.{◌≡◌, ℕ, ◌+◌, ◌/◌, ◌%◌, ◌≤◌, ◌<◌, ◌==◌, ◌&&◌, not, nat_le, Bool, true, false, List, [], ◌∷◌, ◌++◌, length, map, take, drop, sum_by, slice_index_or, Option, Some, None, ℤ, pos, if◌then◌else◌}
+use Rattle.std.specs.Prelude.{◌≡◌, ℕ, ◌+◌, ◌/◌, ◌%◌, ◌≤◌, ◌==◌, ◌&&◌, not, nat_le, Bool, false, List, ◌∷◌, ◌++◌, length, map, take, drop, sum_by, slice_index_or, Option, Some, None, ℤ, pos, if◌then◌else◌}
 use Rattle.dcp_types.specs.declared.addresses.Address.{Address}
 use Rattle.dcp_types.specs.declared.data_types.DataType.{DataType}
 use Rattle.dcp_types.specs.declared.data_types.DataType.TheVariants.{I64}
 use Rattle.dcp_types.specs.Values.{width}
 use Rattle.pdu_layout.specs.Reading.{value_in}
-use Rattle.slave_desc.specs.declared.ports.Port.{Port}
 use Rattle.slave_desc.specs.declared.descriptions.SlaveDesc.{SlaveDesc}
 use Rattle.slave_desc.specs.Descriptions.{AreApart}
 use Rattle.slave_wiring.specs.Changes.{Change, input, entries, has_id, ids, source, interval, base}

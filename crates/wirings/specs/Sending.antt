@@ -1,5 +1,5 @@
 -- What is kept of the output ids, by the changes so far.
-use Rattle.std.specs.Prelude.{◌≡◌, ℕ, ◌%◌, ◌+◌, ◌/◌, Bool, true, false, List, [], ◌∷◌, length, map, reverse, slice_index_or, Option, Some, None, ℤ, pos, if◌then◌else◌}
+use Rattle.std.specs.Prelude.{◌≡◌, ℕ, ◌%◌, ◌+◌, ◌/◌, false, List, map, reverse, None}
 use Rattle.slave_desc.specs.declared.ports.Port.{Port}
 use Rattle.slave_desc.specs.declared.descriptions.SlaveDesc.{SlaveDesc}
 use Rattle.slave_wiring.specs.Changes.{Change, output, entries, has_id, ids, target, interval, base}

@@ -1,8 +1,8 @@
 -- What a wiring keeps, by the changes and the payloads so far.
-use Rattle.std.specs.Prelude.{◌≡◌, nat_lt, Bool, List, length}
+use Rattle.std.specs.Prelude.{◌≡◌, nat_lt, length}
 use Rattle.std.specs.List.{filter_map}
 use Rattle.slave_desc.specs.declared.descriptions.SlaveDesc.{SlaveDesc}
-use Rattle.slave_wiring.specs.Changes.{Change, time_given}
+use Rattle.slave_wiring.specs.Changes.{time_given}
 use Rattle.slave_wiring.specs.Payloads.{Wires}
 use Rattle.wirings.specs.Sending.{AreOutputs}
 use Rattle.wirings.specs.Receiving.{AreInputs}

@@ -1,4 +1,3 @@
-use Rattle.std.proofs.Common.{ℕ, ℤ, List, take}
 use Rattle.wirings.proofs.Building.{Written}
 use Rattle.wirings.proofs.payloads.write_payload.Given as goal
 

@@ -1,4 +1,4 @@
-use Rattle.std.proofs.Common.{◌∙◌, ap, sym, ◌≡◌, arith, ◌+◌, ◌-◌, take, drop, rules}
+use Rattle.std.proofs.Common.{◌∙◌, ap, ◌≡◌, arith, ◌+◌, ◌-◌, take, drop, rules}
 use Rattle.std.specs.Int.{w128}
 use Rattle.std.proofs.lemmas.Int.{to_z-of_z}
 use Rattle.dcp_types.specs.Values.{width}

@@ -1,4 +1,4 @@
-use Rattle.std.proofs.Common.{refl, arith, rules, ap, ◌∙◌, get_or, None}
+use Rattle.std.proofs.Common.{arith, rules, ap, ◌∙◌, get_or, None}
 use Rattle.std.specs.Prelude.{ℤ, pos}
 use Rattle.wirings.specs.Receiving.{value_after}
 use Rattle.std.specs.Int.{w128}

@@ -1,4 +1,4 @@
-use Rattle.std.proofs.Common.{◌∙◌, ap, sym, ◌≡◌, arith}
+use Rattle.std.proofs.Common.{◌∙◌, sym}
 use Rattle.wirings.proofs.Finding.{port_of, no_port_of}
 use Rattle.wirings.proofs.Entering.{no_input, bad_type, wired_refused}
 use Rattle.wirings.proofs.tables.Inputs.add.Goals as goal

@@ -1,5 +1,5 @@
 use Rattle.wirings.specs.declared.tables.InputRow.{InputRow}
-use Rattle.std.proofs.Common.{set, ◌+◌, ◌∙◌, ap, sym, ◌≡◌, arith, refl, true, false}
+use Rattle.std.proofs.Common.{set, ◌+◌, ◌∙◌, ap, arith, refl, true, false}
 use Rattle.std.proofs.lemmas.List.{length-set}
 use Rattle.wirings.proofs.Building.{width_few}
 use Rattle.wirings.proofs.Wired.{one_more, sized_set}

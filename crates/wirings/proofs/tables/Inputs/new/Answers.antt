@@ -1,5 +1,4 @@
 use Rattle.std.proofs.Common.{refl, ap, sym, ◌∙◌, arith, length, List}
-use Rattle.std.proofs.lemmas.Grind.{common_steps}
 use Rattle.slave_desc.specs.declared.ports.Port.{Port}
 use Rattle.wirings.proofs.Receiving.{bare_inputs}
 use Rattle.wirings.proofs.tables.Inputs.new.Goals as goal

@@ -1,4 +1,4 @@
-use Rattle.std.proofs.Common.{refl, ◌∙◌, ap, arith, map, ◌≡◌, length, List, None}
+use Rattle.std.proofs.Common.{refl, ◌∙◌, ap, arith, map, length, List, None}
 use Rattle.std.proofs.lemmas.List.{with_items_is, length-map}
 use Rattle.slave_desc.specs.declared.ports.Port.{Port}
 use Rattle.wirings.specs.declared.tables.InputRow.{InputRow}

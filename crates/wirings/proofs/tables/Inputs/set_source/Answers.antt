@@ -1,4 +1,4 @@
-use Rattle.std.proofs.Common.{true, false, refl, ◌∙◌, sym, ap}
+use Rattle.std.proofs.Common.{true, false, refl, ◌∙◌, sym}
 use Rattle.wirings.proofs.Receiving.{no_source_id, source_told, sourced}
 use Rattle.wirings.proofs.tables.Inputs.set_source.Goals as goal
 

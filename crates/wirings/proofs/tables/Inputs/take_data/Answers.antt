@@ -1,4 +1,4 @@
-use Rattle.std.proofs.Common.{refl, sym, arith, ◌∙◌, ap, subst, ◌≡◌, ℕ, Some, set}
+use Rattle.std.proofs.Common.{refl, sym, arith, ◌∙◌, ap, ℕ, Some, set}
 use Rattle.wirings.proofs.Taking.{wanted_is, not_wanted, not_taken, taken}
 use Rattle.wirings.proofs.tables.Inputs.take_data.Goals as goal
 

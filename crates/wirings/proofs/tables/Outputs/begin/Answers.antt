@@ -1,4 +1,4 @@
-use Rattle.std.proofs.Common.{refl, ap, sym, ◌∙◌, arith, List, [], ◌∷◌, ◌++◌, None}
+use Rattle.std.proofs.Common.{refl, ap, ◌∙◌, arith, List, [], ◌∷◌, ◌++◌, None}
 use Rattle.std.proofs.lemmas.Grind.{common_steps}
 use Rattle.dcp_types.specs.declared.error_codes.ErrorCode.TheVariants.{Position}
 use Rattle.slave_wiring.specs.Refusals.{unless}

@@ -1,4 +1,4 @@
-use Rattle.std.proofs.Common.{◌∙◌, ap, sym}
+use Rattle.std.proofs.Common.{◌∙◌, ap}
 use Rattle.std.specs.List.{flat_map}
 use Rattle.wirings.specs.Payloads.{place_bytes}
 use Rattle.wirings.proofs.Building.{no_message, message}

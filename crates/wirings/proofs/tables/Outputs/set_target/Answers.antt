@@ -1,4 +1,4 @@
-use Rattle.std.proofs.Common.{true, false, refl, ◌∙◌, sym, ap}
+use Rattle.std.proofs.Common.{true, false, refl, ◌∙◌, sym}
 use Rattle.wirings.proofs.Sending.{no_target_id, target_told, targeted}
 use Rattle.wirings.proofs.tables.Outputs.set_target.Goals as goal
 

@@ -1,5 +1,4 @@
-use Rattle.wirings.proofs.Receiving.{not_output, not_target}
-use Rattle.wirings.proofs.Whole.{match_both, not_input, not_source}
+use Rattle.wirings.proofs.Whole.{match_both, not_input}
 use Rattle.wirings.proofs.wirings.Wiring.add_input.Goals as goal
 
 pub returns : goal.returns

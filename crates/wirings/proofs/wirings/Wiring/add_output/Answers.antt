@@ -1,5 +1,5 @@
-use Rattle.wirings.proofs.Receiving.{not_output, not_target}
-use Rattle.wirings.proofs.Whole.{match_both, not_input, not_source}
+use Rattle.wirings.proofs.Receiving.{not_output}
+use Rattle.wirings.proofs.Whole.{match_both}
 use Rattle.wirings.proofs.wirings.Wiring.add_output.Goals as goal
 
 pub returns : goal.returns

@@ -1,4 +1,4 @@
-use Rattle.std.proofs.Common.{refl, ap, sym, ◌∙◌}
+use Rattle.std.proofs.Common.{ap, ◌∙◌}
 use Rattle.dcp_types.specs.declared.error_codes.ErrorCode.TheVariants.{NotSupported}
 use Rattle.slave_wiring.specs.Refusals.{unless}
 use Rattle.wirings.proofs.Whole.{interval_judged}

@@ -1,6 +1,6 @@
 use Rattle.std.proofs.Common.{sym, ◌∙◌}
-use Rattle.wirings.proofs.Receiving.{not_output, not_target}
-use Rattle.wirings.proofs.Whole.{match_both, not_input, not_source, no_source_way, no_target_way}
+use Rattle.wirings.proofs.Receiving.{not_target}
+use Rattle.wirings.proofs.Whole.{match_both, no_target_way}
 use Rattle.wirings.proofs.wirings.Wiring.set_target.Goals as goal
 
 pub returns-then-not-is_transport : goal.returns-then-not-is_transport
