@@ -1,13 +1,14 @@
 -- The words that name a command.
 use Rattle.std.specs.Prelude.{◌≡◌, ℕ, List, [], ◌∷◌, codes}
 use Rattle.commands.specs.declared.command_words.Command.{Command}
-use Rattle.commands.specs.declared.command_words.Command.TheVariants.{Decode, Encode, Describe, Reference}
+use Rattle.commands.specs.declared.command_words.Command.TheVariants.{Decode, Encode, Describe, Reference, Talk}
 
 abbrev pub command_word : Command → List ℕ
 command_word Decode = codes "decode"
 command_word Encode = codes "encode"
 command_word Describe = codes "describe"
 command_word Reference = codes "reference"
+command_word Talk = codes "talk"
 
 -- some command has this word
 abbrev pub IsWord : List ℕ → Type 0

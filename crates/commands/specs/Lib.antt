@@ -10,6 +10,7 @@ pub mod SaysDecoded
 pub mod SaysEncoded
 pub mod SaysDescribed
 pub mod SaysReference
+pub mod SaysTalk
 pub mod Says
 pub mod Outcomes
 pub mod Programs

@@ -14,6 +14,8 @@ pub enum Command {
     Describe,
     /// Prints what a correct run of a scenario prints.
     Reference,
+    /// Prints what one slave says to the events of a talk.
+    Talk,
 }
 
 impl Command {
@@ -32,6 +34,9 @@ impl Command {
         }
         if word == "reference" {
             return Some(Command::Reference);
+        }
+        if word == "talk" {
+            return Some(Command::Talk);
         }
         None
     }

@@ -8,6 +8,7 @@ mod decode;
 mod describe;
 mod encode;
 mod reference;
+mod talk;
 
 use crate::command_words::Command;
 use crate::said::Said;
@@ -23,5 +24,6 @@ pub fn say(alloc: Global, command: Command, input: &[u8]) -> Result<Said, OutOfM
         Command::Encode => encode::say_encoded(alloc, input),
         Command::Describe => describe::say_described(alloc, input),
         Command::Reference => reference::say_reference(alloc, input),
+        Command::Talk => talk::say_talk(alloc, input),
     }
 }
