@@ -1,8 +1,7 @@
 -- What the reader takes and refuses is what the judging says.
-use Rattle.std.proofs.Common.{◌≡◌, ℕ, ◌+◌, ◌-◌, Bool, true, false, not, cond, ◌&&◌, ◌||◌, nat_lt, List, [], ◌∷◌, ◌++◌, length, take, Option, Some, None, Result, Ok, Err, refl, sym, ap, ◌∙◌, subst, arith, if◌then◌else◌, append-nil, append_assoc}
-use Rattle.std.specs.Prelude.{All, slice_get, codes}
-use Rattle.std.specs.List.{list_any, cons_option}
-use Rattle.std.specs.Str.{is_utf8, bytes_eq}
+use Rattle.std.proofs.Common.{◌≡◌, ℕ, ◌+◌, ◌-◌, Bool, true, false, not, cond, ◌||◌, nat_lt, List, [], ◌∷◌, ◌++◌, length, Option, Some, None, Result, Ok, Err, refl, sym, ap, ◌∙◌, subst, arith, if◌then◌else◌, append-nil, append_assoc}
+use Rattle.std.specs.Prelude.{codes}
+use Rattle.std.specs.Str.{is_utf8}
 use Rattle.std.specs.Str.Lines.{lines}
 use Rattle.std.proofs.Math.Seq.{take-length}
 use Rattle.std.proofs.Math.Bool.{or-false}
@@ -29,19 +28,19 @@ use Rattle.slave_desc.specs.declared.descriptions.SlaveDesc.{SlaveDesc}
 use Rattle.slave_desc.specs.Descriptions.{IsDesc}
 use Rattle.desc_text.specs.Judging as block
 use Rattle.desc_text.specs.Judging.{why_end}
-use Rattle.desc_text.specs.Said.{items_in, item_in}
+use Rattle.desc_text.specs.Said.{items_in}
 use Rattle.desc_text.specs.Machine as machine
-use Rattle.desc_text.specs.Reads.{is_read, Describes}
+use Rattle.desc_text.specs.Reads.{is_read}
 use Rattle.desc_text.proofs.Held.{Holds, holds_nothing}
 use Rattle.desc_text.proofs.Judged.{HoldsLines, line_ok, line_err, end_ok, end_err, items_push, slice_get-at, unless_ok}
 use Rattle.desc_text.proofs.Apart.{end_none}
 use Rattle.desc_text.proofs.Ranges.{items_desc}
 use Rattle.desc_text.specs.declared.items.Item.{Item}
 use Rattle.desc_text.specs.declared.partials.Partial.{Partial}
-use Rattle.talk_text.specs.Talks.{AreTalk, IsTalk, Says, SayAll, IsBegin}
+use Rattle.talk_text.specs.Talks.{AreTalk, IsTalk, Says, SayAll}
 use Rattle.talk_text.proofs.Messages.{tells}
-use Rattle.talk_text.specs.Judging.{why_of, first_is, is_begin, has_begun, why_more, why_block, why_message, why_event, why_entry, talk_why_at}
-use Rattle.talk_text.specs.Machine.{opened, begun, kept, take_block, message_event, event_said, added, take_event, take_line, finished, start}
+use Rattle.talk_text.specs.Judging.{first_is, is_begin, has_begun, why_more, why_block, why_message, why_event, why_entry, talk_why_at}
+use Rattle.talk_text.specs.Machine.{opened, begun, kept, message_event, event_said, added, take_line, finished, start}
 use Rattle.talk_text.specs.declared.events.Talk.{Talk}
 use Rattle.talk_text.specs.declared.events.TalkEvent.{TalkEvent}
 use Rattle.talk_text.specs.declared.events.TalkEvent.TheVariants as talk
@@ -93,12 +92,12 @@ talk_more done line t es a u s = record {
 
 -- ---- what the judging says after the lines that are done
 
-at_next : (done : List (List ℕ)) (line : List ℕ) (rest : List (List ℕ)) → talk_why_at (done ++ line ∷ rest) (length done + 1) ≡ why_entry (Some line) done
+pub at_next : (done : List (List ℕ)) (line : List ℕ) (rest : List (List ℕ)) → talk_why_at (done ++ line ∷ rest) (length done + 1) ≡ why_entry (Some line) done
 at_next done line rest =
     let before : length done + 1 - 1 ≡ length done = omega arith in
     rw (before, slice_get-at done line rest, take_at done (line ∷ rest) (length done) refl) refl
 
-at_end : (done : List (List ℕ)) → talk_why_at done (length done + 1) ≡ why_entry None done
+pub at_end : (done : List (List ℕ)) → talk_why_at done (length done + 1) ≡ why_entry None done
 at_end done =
     let before : length done + 1 - 1 ≡ length done = omega arith in
     rw (before, slice_get_past done (length done) (omega arith), take-length done) refl
@@ -106,13 +105,13 @@ at_end done =
 began : (done : List (List ℕ)) (line : List ℕ) → has_begun (done ++ line ∷ []) ≡ (has_begun done || is_begin line)
 began done line = list_any-append is_begin done (line ∷ []) ∙ ap (λ (b : Bool). has_begun done || b) (or-false (is_begin line))
 
-in_block : (done : List (List ℕ)) (line : List ℕ) (b : Bool) → has_begun done ≡ false → is_begin line ≡ b
+pub in_block : (done : List (List ℕ)) (line : List ℕ) (b : Bool) → has_begun done ≡ false → is_begin line ≡ b
     → why_entry (Some line) done ≡ (if b then or_else (why_end (items_in done)) (why_more (words line)) else block.why_line (items_in done) line)
 in_block done line b h e =
     ap (λ (x : Bool). cond x (why_event line) (why_block done line)) h
     ∙ ap (λ (x : Bool). cond x (or_else (why_end (items_in done)) (why_more (words line))) (block.why_line (items_in done) line)) e
 
-in_events : (done : List (List ℕ)) (line : List ℕ) → has_begun done ≡ true → why_entry (Some line) done ≡ why_event line
+pub in_events : (done : List (List ℕ)) (line : List ℕ) → has_begun done ≡ true → why_entry (Some line) done ≡ why_event line
 in_events done line h = ap (λ (x : Bool). cond x (why_event line) (why_block done line)) h
 
 -- ---- a line of the block

@@ -10,10 +10,9 @@ use Rattle.pdu_text.proofs.Judged.{reads_said, said_reads, refused_said}
 use Rattle.text_lines.proofs.Results.{given}
 use Rattle.talk_text.specs.Judging.{why_of}
 use Rattle.talk_text.specs.Machine.{message_event}
-use Rattle.talk_text.specs.declared.events.TalkEvent.{TalkEvent}
 use Rattle.talk_text.specs.declared.events.TalkEvent.TheVariants as talk
 
-spelled_is : (m : Message) (b : List ℕ) → Spells m b → b ≡ spelling m
+pub spelled_is : (m : Message) (b : List ℕ) → Spells m b → b ≡ spelling m
 unfolding spelling
 spelled_is m b s = rw s.listed s.bytes
 

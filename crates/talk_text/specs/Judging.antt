@@ -1,5 +1,5 @@
 -- The first line of a talk that is refused, and why.
-use Rattle.std.specs.Prelude.{◌≡◌, ℕ, ◌-◌, ◌&&◌, not, nat_lt, Bool, true, false, List, [], ◌∷◌, length, take, slice_get, if◌then◌else◌, Option, Some, None, Result, Ok, Err, codes}
+use Rattle.std.specs.Prelude.{ℕ, ◌-◌, ◌&&◌, not, nat_lt, Bool, false, List, [], ◌∷◌, length, take, slice_get, if◌then◌else◌, Option, Some, None, Result, Ok, Err, codes}
 use Rattle.std.specs.List.{list_any}
 use Rattle.std.specs.Str.{is_utf8, bytes_eq}
 use Rattle.pdu_layout.specs.Message.{Message}

@@ -14,5 +14,5 @@ mod saying;
 mod stages;
 
 pub use events::{Talk, TalkEvent, TalkEvents};
-pub use reading::read_talk;
+pub use reading::{read_talk, talks_read_or_are_refused};
 pub use saying::put_talk;

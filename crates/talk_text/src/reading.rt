@@ -1,14 +1,15 @@
 //! Reads a talk.
 
-ghost use Rattle.std.specs.Prelude.{IfOk, IfErr};
+ghost use Rattle.std.specs.Prelude.{Ok, IfOk, IfErr};
 ghost use Rattle.std.specs.Str.Lines.{lines};
 ghost use Rattle.text_lines.specs.Outcomes.{GivesText};
 ghost use Rattle.text_lines.specs.Runs.{run_of};
 ghost use Rattle.slave_desc.specs.Descriptions.{IsDesc};
 ghost use Rattle.talk_text.specs.Talks.{IsTalk};
-ghost use Rattle.text_lines.specs.Readings.{IsFirstBad};
+ghost use Rattle.text_lines.specs.Readings.{IsFirstBad, ReadsOrRefused, NeverReadsAndRefused, OneValue, OneFault};
 ghost use Rattle.talk_text.specs.Judging.{talk_why_at};
 ghost use Rattle.talk_text.specs.Machine.{start, take_line, finished};
+ghost use Rattle.talk_text.specs.declared.events.Talk.{Talk};
 
 use crate::events::Talk;
 use crate::stages::{Stage, finished, take_line};
@@ -52,8 +53,19 @@ pub fn read_talk(alloc: Global, text: &[u8]) -> Result<Talk, TextRefused>
     // The description that was read is in range.
     ensures range { IfOk result (λ t. IsDesc t.desc) }
 
+    // What is a talk is read, unless memory runs out.
+    ensures only { (t : Talk) → IsTalk text.now t → GivesText result (Ok t) }
+
     // Else the fault is the first line that is refused.
     ensures fault { IfErr result (λ e. IsFirstBad talk_why_at text.now e) }
 {
     read(alloc, text)
 }
+
+/// The law of the grammar: each text is one talk, or has one first line that is refused.
+pub fn talks_read_or_are_refused()
+    ensures either { ReadsOrRefused IsTalk talk_why_at }
+    ensures never_both { NeverReadsAndRefused IsTalk talk_why_at }
+    ensures one_value { OneValue IsTalk }
+    ensures one_fault { OneFault talk_why_at }
+{}
