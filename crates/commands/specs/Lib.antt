@@ -13,5 +13,3 @@ pub mod SaysTalk
 pub mod Says
 pub mod Outcomes
 pub mod Programs
--- The code's own bookkeeping, which no promise of the program names: a message that was handed over.
-pub mod SpellingTaken

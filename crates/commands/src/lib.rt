@@ -13,7 +13,6 @@ mod refusals;
 mod row_texts;
 mod said;
 mod says;
-mod spellings;
 mod statuses;
 mod top_calls;
 mod word_lists;
