@@ -1,4 +1,3 @@
 pub mod Pieces
-pub mod Spooling
 pub mod Rows
 pub mod Outcomes

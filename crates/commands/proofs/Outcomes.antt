@@ -2,8 +2,8 @@
 use Rattle.std.proofs.Common.{ℕ, List, Option}
 use Rattle.commands.specs.declared.statuses.Judgement.{Judgement}
 use Rattle.commands.specs.declared.statuses.Judgement.TheVariants.{Good, Refused}
-use Rattle.commands.specs.declared.statuses.Delivery.{Delivery}
-use Rattle.commands.specs.declared.statuses.Delivery.TheVariants.{Whole, Cut}
+use Rattle.byte_spool.specs.declared.outputs.Delivery.{Delivery}
+use Rattle.byte_spool.specs.declared.outputs.Delivery.TheVariants.{Whole, Cut}
 use Rattle.commands.specs.Outcomes.{Answered, Outcome}
 use Rattle.commands.specs.Statuses.{status_after}
 

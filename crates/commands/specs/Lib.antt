@@ -2,7 +2,6 @@
 pub mod CommandWords
 pub mod Statuses
 pub mod Inputs
-pub mod Outputs
 pub mod Rows
 pub mod Said
 pub mod Refusals
@@ -14,7 +13,3 @@ pub mod SaysTalk
 pub mod Says
 pub mod Outcomes
 pub mod Programs
--- The code's own bookkeeping, which no promise of the program names: a message that was handed over, and a text that is put piece by piece.
-pub mod SpellingTaken
-pub mod Unwritten
-pub mod Spools

@@ -6,11 +6,11 @@ use Rattle.commands.specs.declared.statuses.Status.{Status}
 use Rattle.commands.specs.declared.statuses.Status.TheVariants.{Done, Usage, BadInput, RunFailed, ReadFault, WriteFault, NetFault, OutOfMemory, Differs}
 use Rattle.commands.specs.declared.statuses.Judgement.{Judgement}
 use Rattle.commands.specs.declared.statuses.Judgement.TheVariants.{Good, Refused}
-use Rattle.commands.specs.declared.statuses.Delivery.{Delivery}
-use Rattle.commands.specs.declared.statuses.Delivery.TheVariants.{Whole, Cut}
+use Rattle.byte_spool.specs.declared.outputs.Delivery.{Delivery}
+use Rattle.byte_spool.specs.declared.outputs.Delivery.TheVariants.{Whole, Cut}
 use Rattle.commands.specs.CommandWords.{Names, IsCommand}
 use Rattle.commands.specs.Inputs.{TakesInput, TakesSome}
-use Rattle.commands.specs.Outputs.{Delivers}
+use Rattle.byte_spool.specs.Outputs.{Delivers}
 use Rattle.commands.specs.Says.{Says}
 
 -- These words were given. The source had `left` and has `rest` left, where it tells its bytes; the sink held `held` and holds `holds`, where it tells its bytes; and these were their counts of faults before and are their counts now.

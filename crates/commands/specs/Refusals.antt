@@ -1,5 +1,8 @@
 -- The lines that say why an input is refused.
 use Rattle.std.specs.Prelude.{◌≡◌, ◌⊎◌, ℕ, ◌<◌, ◌≤◌, List, ◌++◌, length, codes, decimal}
+use Rattle.text_lines.specs.Causes.{cause_word}
+use Rattle.text_lines.specs.declared.reasons.TextRefused.{TextRefused}
+use Rattle.text_lines.specs.declared.reasons.TextRefused.TheVariants as refused
 use Rattle.commands.specs.declared.said.Said.{Said}
 use Rattle.commands.specs.declared.statuses.Judgement.{Judgement}
 use Rattle.commands.specs.declared.statuses.Judgement.TheVariants.{Refused}
@@ -17,6 +20,11 @@ byte_refusal at word = codes "input: byte " ++ (decimal at ++ (codes " " ++ (wor
 -- this line refuses the input
 abbrev pub Refuses : List ℕ → Said → Type 0
 Refuses line said = (said.judgement ≡ Refused) × (text_of said.text ≡ line)
+
+-- the line of a text that is refused, and why; want of memory refuses none
+abbrev pub RefusesText : TextRefused → Said → Type 0
+RefusesText (refused.Fault fault) said = Refuses (line_refusal fault.line (cause_word fault.why)) said
+RefusesText refused.OutOfMemory said = ⊥
 
 -- a text past its limit is refused as a whole, and any other is judged
 abbrev pub OfText : (List ℕ → Judgement → List ℕ → Type 0) → List ℕ → Judgement → List ℕ → Type 0

@@ -4,8 +4,8 @@ use Rattle.commands.specs.declared.statuses.Status.{Status}
 use Rattle.commands.specs.declared.statuses.Status.TheVariants.{Done, Usage, BadInput, RunFailed, ReadFault, WriteFault, NetFault, OutOfMemory, Differs}
 use Rattle.commands.specs.declared.statuses.Judgement.{Judgement}
 use Rattle.commands.specs.declared.statuses.Judgement.TheVariants.{Good, Refused}
-use Rattle.commands.specs.declared.statuses.Delivery.{Delivery}
-use Rattle.commands.specs.declared.statuses.Delivery.TheVariants.{Whole, Cut}
+use Rattle.byte_spool.specs.declared.outputs.Delivery.{Delivery}
+use Rattle.byte_spool.specs.declared.outputs.Delivery.TheVariants.{Whole, Cut}
 
 abbrev pub status_code : Status → ℕ
 status_code Done = 0

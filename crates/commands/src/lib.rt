@@ -8,14 +8,11 @@
 
 mod command_words;
 mod inputs;
-mod outputs;
 mod programs;
 mod refusals;
 mod row_texts;
 mod said;
 mod says;
-mod spellings;
-mod spools;
 mod statuses;
 mod top_calls;
 mod word_lists;

@@ -2,9 +2,9 @@
 
 ghost use Rattle.std.specs.Prelude.{◌≡◌, ◌≤◌, ◌++◌, ℕ, List, Option, length, decimal};
 ghost use Rattle.commands.specs.Rows.{closing_line, row_text, rows_text, run_end, spaced_value};
-ghost use Rattle.commands.specs.Spools.{Spooled};
+ghost use Rattle.byte_spool.specs.Spools.{Spooled};
 
-use crate::spools::Spool;
+use byte_spool::Spool;
 use dcp_io::Sink;
 use itoa::Buffer;
 use lockstep::{RefFault, Rows};

@@ -1,14 +1,13 @@
 //! What a command says, and the writing of it.
 
 ghost use Rattle.std.specs.Prelude.{◌≡◌};
-ghost use Rattle.commands.specs.Outputs.{Delivers};
+ghost use Rattle.byte_spool.specs.Outputs.{Delivers};
 ghost use Rattle.commands.specs.Rows.{run_text};
 ghost use Rattle.commands.specs.Said.{text_of};
 
-use crate::outputs::write_all;
 use crate::row_texts::{put_closing, put_rows};
-use crate::spools::Spool;
-use crate::statuses::{Delivery, Judgement};
+use crate::statuses::Judgement;
+use byte_spool::{Delivery, Spool, write_all};
 use dcp_io::Sink;
 use lockstep::Reference;
 

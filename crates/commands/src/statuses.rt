@@ -4,6 +4,7 @@ ghost use Rattle.std.specs.Prelude.{◌≡◌};
 ghost use Rattle.std.specs.Process.{exit_status};
 ghost use Rattle.commands.specs.Statuses.{status_after, status_code};
 
+use byte_spool::Delivery;
 use std::process::ExitCode;
 
 /// How a call ended. The exit status of the program is the variant's number, from 0.
@@ -64,15 +65,6 @@ pub enum Judgement {
     /// The form of the input is refused, and what is said is the line that names the place and the
     /// reason.
     Refused,
-}
-
-/// How the writing of a text ended.
-#[derive(Clone, Copy, Debug, PartialEq, Eq)]
-pub enum Delivery {
-    /// All of it was written.
-    Whole,
-    /// A write failed, and a front of it was written.
-    Cut,
 }
 
 impl Judgement {

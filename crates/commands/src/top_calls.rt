@@ -6,11 +6,11 @@ ghost use Rattle.commands.specs.Outcomes.{ComesBeforeWriting, IsFree, Outcome};
 ghost use Rattle.commands.specs.CommandWords.{IsCommand};
 
 use crate::inputs::{Gathered, read_input};
-use crate::outputs::write_all;
 use crate::said::write_text;
 use crate::says::say;
 use crate::statuses::Status;
 use crate::word_lists::Words;
+use byte_spool::write_all;
 use dcp_io::{Sink, Source};
 use dcp_types::OutOfMemory;
 use std::alloc::Global;

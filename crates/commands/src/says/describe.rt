@@ -6,13 +6,12 @@ ghost use Rattle.commands.specs.Said.{text_of};
 ghost use Rattle.commands.specs.SaysDescribed.{SaysDescribed};
 
 use crate::inputs::LIMIT;
-use crate::refusals::{refuse_line, refuse_past_limit};
+use crate::refusals::{refuse_past_limit, refuse_text};
 use crate::said::{Said, Text};
 use crate::statuses::Judgement;
 use dcp_types::OutOfMemory;
 use desc_text::{print_desc, read_desc};
 use std::alloc::Global;
-use text_lines::TextRefused;
 
 /// The canonical text of the description, or the first line that is refused.
 pub fn say_described(alloc: Global, input: &[u8]) -> Result<Said, OutOfMemory>
@@ -23,8 +22,7 @@ pub fn say_described(alloc: Global, input: &[u8]) -> Result<Said, OutOfMemory>
     }
     let desc = match read_desc(alloc, input) {
         Ok(desc) => desc,
-        Err(TextRefused::Fault(fault)) => return refuse_line(alloc, fault.line, fault.why.word()),
-        Err(TextRefused::OutOfMemory) => return Err(OutOfMemory),
+        Err(refused) => return refuse_text(alloc, refused),
     };
     let text = print_desc(alloc, &desc)?;
     Ok(Said {

@@ -8,10 +8,9 @@ ghost use Rattle.commands.specs.SaysEncoded.{SaysEncoded};
 use crate::inputs::LIMIT;
 use crate::refusals::{refuse_line, refuse_past_limit};
 use crate::said::{Said, Text};
-use crate::spellings::Spelling;
 use crate::statuses::Judgement;
 use dcp_types::OutOfMemory;
-use pdu_text::{PduTextRefused, with_pdu_text};
+use pdu_text::{PduTextRefused, put_pdu_text};
 use std::alloc::Global;
 
 /// The bytes of the message that the line says, or the first rule that it breaks.
@@ -21,13 +20,13 @@ pub fn say_encoded(alloc: Global, input: &[u8]) -> Result<Said, OutOfMemory>
     if input.len() > LIMIT {
         return Ok(refuse_past_limit());
     }
-    let mut spelling = Spelling::new();
-    match with_pdu_text(alloc, input, &mut spelling) {
-        Ok(()) => {}
+    let mut room = [0; 1024];
+    let length = match put_pdu_text(alloc, input, &mut room) {
+        Ok(length) => length,
         Err(PduTextRefused::Line { why }) => return refuse_line(alloc, 1, why.word()),
         Err(PduTextRefused::OutOfMemory) => return Err(OutOfMemory),
-    }
-    let bytes = spelling.as_slice().to_vec(alloc)?;
+    };
+    let bytes = room[..length].to_vec(alloc)?;
     Ok(Said {
         judgement: Judgement::Good,
         text: Text::Whole(bytes),

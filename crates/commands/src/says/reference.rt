@@ -6,14 +6,13 @@ ghost use Rattle.commands.specs.Said.{text_of};
 ghost use Rattle.commands.specs.SaysReference.{SaysReference};
 
 use crate::inputs::LIMIT;
-use crate::refusals::{refuse_line, refuse_past_limit};
+use crate::refusals::{refuse_past_limit, refuse_text};
 use crate::said::{Said, Text};
 use crate::statuses::Judgement;
 use dcp_types::OutOfMemory;
 use lockstep::reference;
 use scenario_text::read_scenario;
 use std::alloc::Global;
-use text_lines::TextRefused;
 
 /// The rows of the scenario and the line after them, or the first line that is refused.
 pub fn say_reference(alloc: Global, input: &[u8]) -> Result<Said, OutOfMemory>
@@ -24,8 +23,7 @@ pub fn say_reference(alloc: Global, input: &[u8]) -> Result<Said, OutOfMemory>
     }
     let scenario = match read_scenario(alloc, input) {
         Ok(scenario) => scenario,
-        Err(TextRefused::Fault(fault)) => return refuse_line(alloc, fault.line, fault.why.word()),
-        Err(TextRefused::OutOfMemory) => return Err(OutOfMemory),
+        Err(refused) => return refuse_text(alloc, refused),
     };
     let steps = scenario.steps;
     let reference = reference(alloc, &scenario)?;

@@ -7,14 +7,13 @@ ghost use Rattle.commands.specs.Said.{text_of};
 ghost use Rattle.commands.specs.SaysTalk.{SaysTalk, talk_lines};
 
 use crate::inputs::LIMIT;
-use crate::refusals::{refuse_line, refuse_past_limit};
+use crate::refusals::{refuse_past_limit, refuse_text};
 use crate::said::{Said, Text};
 use crate::statuses::Judgement;
 use dcp_slave::new_slave;
 use dcp_types::OutOfMemory;
 use std::alloc::Global;
 use talk_text::{Talk, put_talk, read_talk};
-use text_lines::TextRefused;
 
 /// A step of the slave has so many micro steps.
 const MICRO: u32 = 1;
@@ -40,8 +39,7 @@ pub fn say_talk(alloc: Global, input: &[u8]) -> Result<Said, OutOfMemory>
     }
     let talk = match read_talk(alloc, input) {
         Ok(talk) => talk,
-        Err(TextRefused::Fault(fault)) => return refuse_line(alloc, fault.line, fault.why.word()),
-        Err(TextRefused::OutOfMemory) => return Err(OutOfMemory),
+        Err(refused) => return refuse_text(alloc, refused),
     };
     let text = talk_lines(alloc, talk)?;
     Ok(Said {

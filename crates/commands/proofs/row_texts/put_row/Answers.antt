@@ -1,7 +1,7 @@
 use Rattle.std.proofs.Common.{List, ℕ, subst}
 use Rattle.std.specs.Prelude.{decimal}
 use Rattle.commands.proofs.Rows.{value_more}
-use Rattle.commands.specs.Spools.{Spooled}
+use Rattle.byte_spool.specs.Spools.{Spooled}
 use Rattle.commands.proofs.row_texts.put_row.Goals as goal
 
 pub loop-value-preserved : goal.loop-value-preserved

@@ -3,7 +3,7 @@ use Rattle.std.proofs.Common.{◌++◌, List, ℕ, Option, take}
 use Rattle.std.specs.List.{flat_map}
 use Rattle.std.specs.Prelude.{decimal}
 use Rattle.commands.specs.Rows.{spaced_value}
-use Rattle.commands.specs.Spools.{Spooled}
+use Rattle.byte_spool.specs.Spools.{Spooled}
 use Rattle.commands.proofs.row_texts.put_row.Given as goal
 
 abbrev pub invariant-loop-value : goal.invariant-loop-value

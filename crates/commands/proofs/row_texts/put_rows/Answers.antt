@@ -1,6 +1,6 @@
 use Rattle.std.proofs.Common.{List, ℕ, subst}
 use Rattle.commands.proofs.Rows.{row_more}
-use Rattle.commands.specs.Spools.{Spooled}
+use Rattle.byte_spool.specs.Spools.{Spooled}
 use Rattle.commands.proofs.row_texts.put_rows.Goals as goal
 
 pub loop-number-preserved : goal.loop-number-preserved

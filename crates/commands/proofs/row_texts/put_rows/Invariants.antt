@@ -1,7 +1,7 @@
 -- The rows so far were put.
 use Rattle.std.proofs.Common.{◌++◌, List, ℕ, Option, take}
 use Rattle.commands.specs.Rows.{rows_text}
-use Rattle.commands.specs.Spools.{Spooled}
+use Rattle.byte_spool.specs.Spools.{Spooled}
 use Rattle.commands.proofs.row_texts.put_rows.Given as goal
 
 abbrev pub invariant-loop-number : goal.invariant-loop-number
