@@ -131,6 +131,12 @@ reference|steps 3/master 127.0.0.1 9000/slave count/address 127.0.0.1 9001/model
 const TWO_RUNS: &str =
     "steps 3/runs 2/master 127.0.0.1 9000/slave fall/uuid 00000000-0000-0000-0000-000000000001/address 127.0.0.1 9001/model ramp 3 -1/output 1 int32/slave da/uuid 00000000-0000-0000-0000-000000000002/address 127.0.0.1 9002/model divider 12/input 1 int32/output 2 int32/slave db/uuid 00000000-0000-0000-0000-000000000003/address 127.0.0.1 9003/model divider -7/input 1 int32/output 2 int32/wire fall 0 da 0/wire fall 0 db 0/rerun_set 2 fall 0 1/";
 
+/// Talks with one slave: one that is set up and reads its log, and two that do not begin.
+const TALKS: &str = "\
+talk|slave count/uuid 00000000-0000-0000-0000-000000000001/address 127.0.0.1 9001/model counter 1000/output 1 uint32/begin/STC_register pdu_seq_id=0 receiver=1 state_id=ALIVE slave_uuid=00000000-0000-0000-0000-000000000001 op_mode=2 major_version=1 minor_version=0/CFG_logging pdu_seq_id=1 receiver=1 category=1 level=2 mode=0/CFG_time_res pdu_seq_id=2 receiver=1 numerator=1 denominator=1000/STC_prepare pdu_seq_id=3 receiver=1 state_id=CONFIGURATION/turn/INF_log pdu_seq_id=4 receiver=1 category=1 max_entries=9/INF_log pdu_seq_id=4 receiver=1 category=1 max_entries=9/INF_log pdu_seq_id=5 receiver=1 category=1 max_entries=9/|0|RSP_ack resp_seq_id=0 sender=1/RSP_ack resp_seq_id=1 sender=1/RSP_ack resp_seq_id=2 sender=1/RSP_ack resp_seq_id=3 sender=1/NTF_state_changed sender=1 state_id=PREPARED/RSP_log_ack resp_seq_id=4 sender=1 entries=0000000001020300000000/RSP_log_ack resp_seq_id=4 sender=1 entries=0000000001020300000000/RSP_log_ack resp_seq_id=5 sender=1 entries=/
+talk|slave count/uuid 00000000-0000-0000-0000-000000000001/address 127.0.0.1 9001/model counter 1000/output 1 uint32/begin now/|2|input: line 6 WORDS/
+talk|slave count/uuid 00000000-0000-0000-0000-000000000001/address 127.0.0.1 9001/model counter 1000/output 1 uint32/|2|input: line 6 MISSING/";
+
 /// Reads and writes that fail, and sinks with little room.
 const FAULTS: &str = "\
 describe|slave count/uuid 00000000-0000-0000-0000-000000000001/address 127.0.0.1 9001/model counter 1000/output 1 uint32/|4||2
@@ -179,6 +185,11 @@ fn reference_writes_the_rows_and_the_line_after_them(rt: HostRuntime) -> Result<
             .ends_with(b"fault slave 2 step 2 code 33 run 2\n".as_slice())
     );
     Ok(())
+}
+
+#[test]
+fn talk_writes_what_the_slave_says_or_the_first_refused_line(rt: HostRuntime) -> Result<(), Fail> {
+    run_all(&rt, rt.alloc(), TALKS)
 }
 
 #[test]

@@ -1,4 +1,4 @@
-use Rattle.std.proofs.Common.{◌≡◌, ℕ, List, Option, ap, subst, sym, ◌∙◌}
+use Rattle.std.proofs.Common.{◌≡◌, ℕ, List, Option, ap, subst, sym}
 use Rattle.commands.specs.declared.statuses.Status.{Status}
 use Rattle.commands.specs.Outcomes.{Outcome}
 use Rattle.commands.proofs.programs.run_program.Goals as goal
