@@ -1,0 +1,13 @@
+//! Tests of the plan, of one conversation and of the master: worked rows, and scripts of what comes and
+//! what is sent then, with values from an independent model. They stand here, so that the crates below
+//! are proved once.
+#![tactic(auto)]
+
+#[cfg(test)]
+mod conversations;
+#[cfg(test)]
+mod masters;
+#[cfg(test)]
+mod plans;
+#[cfg(test)]
+mod scenarios;
