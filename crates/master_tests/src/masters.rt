@@ -152,8 +152,8 @@ const NO_ANSWER: &str = "\
 *1
 ";
 
-/// The second slave refuses, and the first one answers late. Datagrams with another identity or number,
-/// of a stranger, and bytes that are no message count nothing.
+/// The second slave refuses, and the first one answers late. An answer with another id or another
+/// number, a stranger's datagram, and bytes that are no message change nothing.
 const SECOND_REFUSED: &str = "\
 *1|9001:010000010000000000000000000000000000000001020100|9002:010000020000000000000000000000000000000002020100
 9002:b0000001
@@ -208,8 +208,8 @@ fn master_of(alloc: Global, cell: &str) -> Result<MasterCore, Fail> {
     Ok(MasterCore::new(alloc, &scenario, &plan)?)
 }
 
-/// Appends all that is sent, and gives it up.
-fn tell(alloc: Global, master: &mut MasterCore, told: &mut String) -> Result<(), Fail> {
+/// Appends all that is sent.
+fn tell(alloc: Global, master: &MasterCore, told: &mut String) -> Result<(), Fail> {
     for i in 0..32 {
         if let Some((to, bytes)) = master.outgoing(i) {
             let port = to.port;
