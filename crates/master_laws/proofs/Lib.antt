@@ -10,3 +10,4 @@ pub mod Stays
 pub mod Sizes
 pub mod Talks
 pub mod Courses
+pub mod Chains

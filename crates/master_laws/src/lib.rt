@@ -5,5 +5,7 @@
 #![tactic(auto)]
 
 mod bounds;
+mod naming;
 
 pub use bounds::{scenario_reports, setup_reports};
+pub use naming::last_target_named;

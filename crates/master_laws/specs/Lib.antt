@@ -1,0 +1,2 @@
+-- Which state a request names.
+pub mod Naming
