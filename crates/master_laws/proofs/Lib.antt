@@ -11,3 +11,4 @@ pub mod Sizes
 pub mod Talks
 pub mod Courses
 pub mod Chains
+pub mod Entries
