@@ -12,3 +12,4 @@ pub mod Talks
 pub mod Courses
 pub mod Chains
 pub mod Entries
+pub mod Lengths

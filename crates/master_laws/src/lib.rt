@@ -10,5 +10,5 @@ mod logs;
 mod naming;
 
 pub use bounds::{scenario_reports, setup_reports};
-pub use logs::{log_reports, turns_are_in_log};
+pub use logs::{log_reports, rounds_are_few, turns_are_in_log};
 pub use naming::last_target_named;
