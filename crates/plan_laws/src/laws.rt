@@ -1,0 +1,56 @@
+//! What holds of the lists of every plan.
+
+ghost use Rattle.std.specs.Prelude.{◌≡◌, ◌+◌, ℕ, List, [], None, true};
+ghost use Rattle.dcp_types.specs.declared.states.State.TheVariants.{Configuration};
+ghost use Rattle.pdu_layout.specs.declared.messages.Cfg.{Cfg};
+ghost use Rattle.scenario.specs.declared.scenarios.Scenario.{Scenario};
+ghost use Rattle.scenario.specs.Settings.{parameters};
+ghost use Rattle.plan_spec.specs.Setup.{setup_list, adjust_list};
+ghost use Rattle.slave_wiring.specs.Changes.{complete};
+ghost use Rattle.slave_spec.specs.declared.words.Asked.TheVariants.{Setting};
+ghost use Rattle.slave_spec.specs.declared.words.Setup.{Setup};
+ghost use Rattle.slave_spec.specs.Transport.{Ack};
+ghost use Rattle.slave_spec.specs.Plants.{Plant, model_with};
+ghost use Rattle.slave_spec.specs.Requests.{refusal, accepted, answers};
+ghost use Rattle.plan_laws.specs.Taking.{IsSlaveOf, TakesAll, after_all};
+ghost use Rattle.plan_laws.specs.Runs.{Happening, begins, ends};
+
+/// In CONFIGURATION, whatever it was told before, a slave takes its setup list whole: none of the settings
+/// is refused. It then stands in CONFIGURATION still, its wiring is complete, and its model is that of the
+/// first run, in its state at first.
+pub fn setup_lists_are_taken()
+    ensures taken { (sc : Scenario) (s : ℕ) (x : Setup) (p : Plant) → IsSlaveOf sc s x.desc → p.state ≡ Configuration → TakesAll x p (setup_list sc s x.desc) }
+    ensures stays { (sc : Scenario) (s : ℕ) (x : Setup) (p : Plant) → IsSlaveOf sc s x.desc → (after_all x p (setup_list sc s x.desc)).state ≡ p.state }
+    ensures complete { (sc : Scenario) (s : ℕ) (x : Setup) (p : Plant) → IsSlaveOf sc s x.desc → complete (after_all x p (setup_list sc s x.desc)).wires.changes ≡ true }
+    ensures model { (sc : Scenario) (s : ℕ) (x : Setup) (p : Plant) → IsSlaveOf sc s x.desc
+        → (after_all x p (setup_list sc s x.desc)).model ≡ model_with x.desc (parameters sc s x.desc 1) }
+{}
+
+/// In CONFIGURATION, with its parameters of run `r`, a slave takes whole what is set after that run, and then
+/// has its parameters of the next. A model in its state at first is then in it again.
+pub fn adjust_lists_are_taken()
+    ensures taken { (sc : Scenario) (s : ℕ) (x : Setup) (p : Plant) (r : ℕ) → IsSlaveOf sc s x.desc → p.state ≡ Configuration
+        → p.model.kind ≡ x.desc.kind → p.model.parameters ≡ parameters sc s x.desc r → TakesAll x p (adjust_list sc r s) }
+    ensures parameters { (sc : Scenario) (s : ℕ) (x : Setup) (p : Plant) (r : ℕ) → IsSlaveOf sc s x.desc
+        → p.model.kind ≡ x.desc.kind → p.model.parameters ≡ parameters sc s x.desc r → (after_all x p (adjust_list sc r s)).model.parameters ≡ parameters sc s x.desc (r + 1) }
+    ensures model { (sc : Scenario) (s : ℕ) (x : Setup) (p : Plant) (r : ℕ) → IsSlaveOf sc s x.desc
+        → p.model ≡ model_with x.desc (parameters sc s x.desc r) → (after_all x p (adjust_list sc r s)).model ≡ model_with x.desc (parameters sc s x.desc (r + 1)) }
+{}
+
+/// Run by run: a slave in CONFIGURATION takes its setup list, and then after each run, whatever happened in
+/// it, once it stands in CONFIGURATION again, the list for the next run. In each run it has the parameters of
+/// that run.
+pub fn lists_are_taken_run_by_run()
+    ensures setup { (sc : Scenario) (s : ℕ) (x : Setup) (p : Plant) → IsSlaveOf sc s x.desc → p.state ≡ Configuration → TakesAll x p (setup_list sc s x.desc) }
+    ensures adjust { (sc : Scenario) (s : ℕ) (x : Setup) (p : Plant) (happened : ℕ → List Happening) (r : ℕ) → IsSlaveOf sc s x.desc
+        → (ends sc s x p happened r).state ≡ Configuration → TakesAll x (ends sc s x p happened r) (adjust_list sc (r + 1) s) }
+    ensures parameters { (sc : Scenario) (s : ℕ) (x : Setup) (p : Plant) (happened : ℕ → List Happening) (r : ℕ) → IsSlaveOf sc s x.desc
+        → (begins sc s x p happened r).model.parameters ≡ parameters sc s x.desc (r + 1) }
+{}
+
+/// A setting that is not refused is acknowledged, nothing is told of it, and it leads where an accepted one
+/// does.
+pub fn settings_are_acknowledged()
+    ensures { (x : Setup) (p : Plant) (body : Cfg) → refusal x p (Setting body) ≡ None
+        → answers x (Setting body) p ≡ record { answer = Ack; notices = []; after = accepted x p (Setting body) } }
+{}
