@@ -11,3 +11,4 @@ pub mod Machines
 pub mod Settings
 pub mod Taken
 pub mod Running
+pub mod Plans

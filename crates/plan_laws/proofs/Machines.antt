@@ -22,7 +22,7 @@ use Rattle.slave_spec.specs.declared.words.Asked.TheVariants as heard
 use Rattle.slave_spec.specs.declared.words.Setup.{Setup}
 use Rattle.slave_spec.specs.Plants.{Plant}
 use Rattle.slave_spec.specs.Requests.{refusal, accepted, body_refusal, is_left_out}
-use Rattle.plan_laws.specs.Taking.{TakesAll, after_all}
+use Rattle.plan_laws.specs.Taking.{IsTakenByPart, TakesAll, after_all}
 use Rattle.plan_laws.proofs.Lists.{by_test}
 use Rattle.plan_laws.proofs.Told.{AreTold, onto, is_told}
 
@@ -30,7 +30,7 @@ use Rattle.plan_laws.proofs.Told.{AreTold, onto, is_told}
 
 pub takes_append : (x : Setup) (p : Plant) (xs ys : List Cfg) → TakesAll x p xs → TakesAll x (after_all x p xs) ys → TakesAll x p (xs ++ ys)
 takes_append x p [] ys h k = k
-takes_append x p (b ∷ xs) ys h k = (h.0, takes_append x (accepted x p (heard.Setting b)) xs ys h.1 k)
+takes_append x p (b ∷ xs) ys h k = (h.0, h.1, takes_append x (accepted x p (heard.Setting b)) xs ys h.2 k)
 
 pub after_append : (x : Setup) (p : Plant) (xs ys : List Cfg) → after_all x p (xs ++ ys) ≡ after_all x (after_all x p xs) ys
 after_append x p [] ys = refl
@@ -56,6 +56,15 @@ told_fine x p (cfg.Source net) here told fine = judged x p (cfg.Source net) here
 told_fine x p (cfg.Target net) here told fine = judged x p (cfg.Target net) here refl fine
 told_fine x p _ here told fine = absurd cc
 
+pub told_by_part : (x : Setup) (p : Plant) (body : Cfg) → is_told body ≡ true → wiring.refusal x.desc p.wires.changes body ≡ None → IsTakenByPart x p body
+told_by_part x p (cfg.TimeRes a b) told fine = fine
+told_by_part x p (cfg.Steps id q) told fine = fine
+told_by_part x p (cfg.Input id i vr kind) told fine = fine
+told_by_part x p (cfg.Output id i vr) told fine = fine
+told_by_part x p (cfg.Source net) told fine = fine
+told_by_part x p (cfg.Target net) told fine = fine
+told_by_part x p _ told fine = absurd cc
+
 pub told_leads : (x : Setup) (p : Plant) (body : Cfg) → is_told body ≡ true → accepted x p (heard.Setting body) ≡ with_change p body
 unfolding accepted
 told_leads x p (cfg.TimeRes a b) told = refl
@@ -71,6 +80,7 @@ pub takes_told : (x : Setup) (p : Plant) (bodies : List Cfg) → p.state ≡ Con
 takes_told x p [] here told = tt
 takes_told x p (b ∷ bodies) here told = (
   told_fine x p b here told.0 told.1,
+  told_by_part x p b told.0 told.1,
   subst (λ (q : Plant). TakesAll x q bodies) (sym (told_leads x p b told.0)) (takes_told x (with_change p b) bodies here told.2),
 )
 
@@ -122,8 +132,10 @@ takes_settings x p s (y ∷ ys) here fine =
     (λ e. let own = fine.0 e in
     let is : changed_by p.model.parameters s y ≡ slice_set p.model.parameters y.index y.value = changed_here p.model.parameters s y e own.0 in
     let rest : AreFine p.model.kind (slice_set p.model.parameters y.index y.value) s ys = subst (λ (ps : List ℤ). AreFine p.model.kind ps s ys) is fine.2 in
+    let taken : takes p.model.kind (slice_set p.model.parameters y.index y.value) ≡ true = subst (λ (ps : List ℤ). takes p.model.kind ps ≡ true) is fine.1 in
     rw e (
-      parameter_fine x p y here own.0 own.1 (subst (λ (ps : List ℤ). takes p.model.kind ps ≡ true) is fine.1),
+      parameter_fine x p y here own.0 own.1 taken,
+      (own.0, own.1, taken),
       subst (λ (q : Plant). TakesAll x q (settings_of s ys)) (sym (parameter_leads x p y)) (takes_settings x (with_parameters p (slice_set p.model.parameters y.index y.value)) s ys here rest),
     ))
     (λ e. let rest : AreFine p.model.kind p.model.parameters s ys = subst (λ (ps : List ℤ). AreFine p.model.kind ps s ys) (changed_elsewhere p.model.parameters s y e) fine.2 in

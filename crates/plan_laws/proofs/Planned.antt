@@ -30,13 +30,17 @@ got_within [] i x e = absurd cc
 got_within (y ∷ ys) zero x e = omega arith
 got_within (y ∷ ys) (suc i) x e = omega (arith, got_within ys i x e)
 
-pub slave_there : (slaves : List SlaveDesc) (s : ℕ) (d : SlaveDesc) → All (λ d. IsDesc d) slaves → slave_at slaves s ≡ Some d → IsThere slaves s d
-slave_there slaves s d all e =
+-- a slave by its number stands one place before it
+pub slave_got : (slaves : List SlaveDesc) (s : ℕ) (d : SlaveDesc) → slave_at slaves s ≡ Some d → (1 ≤ s) × (slice_get slaves (s - 1) ≡ Some d)
+slave_got slaves s d e =
     by_test (s == 0)
     (λ t. absurd (let none : Some d ≡ None = sym (rw t at e) in cc))
-    (λ t. let got : slice_get slaves (s - 1) ≡ Some d = rw t at e in
-    let some : 1 ≤ s = grind (arith, nat_tests, t) in
-    record { desc = each_got (λ d. IsDesc d) slaves (s - 1) d (each_from_all (λ d. IsDesc d) slaves all) got; first = some; last = omega (arith, got_within slaves (s - 1) d got, some) })
+    (λ t. (grind (arith, nat_tests, t), rw t at e))
+
+pub slave_there : (slaves : List SlaveDesc) (s : ℕ) (d : SlaveDesc) → All (λ d. IsDesc d) slaves → slave_at slaves s ≡ Some d → IsThere slaves s d
+slave_there slaves s d all e =
+    let got = slave_got slaves s d e in
+    record { desc = each_got (λ d. IsDesc d) slaves (s - 1) d (each_from_all (λ d. IsDesc d) slaves all) got.1; first = got.0; last = omega (arith, got_within slaves (s - 1) d got.1, got.0) }
 
 few_in : (o : Option SlaveDesc) → ((d : SlaveDesc) → o ≡ Some d → IsDesc d) → (length (inputs_in o) ≤ 8) × (length (outputs_in o) ≤ 8)
 few_in None h = (omega arith, omega arith)

@@ -58,8 +58,9 @@ head_leads x p = ap (λ (q : Plant). accepted x q (asked.Setting (cfg.TimeRes x.
 takes_head : (x : Setup) (p : Plant) → p.state ≡ Configuration → TakesAll x p (cfg.Clear ∷ cfg.TimeRes x.desc.numerator x.desc.denominator ∷ [])
 takes_head x p here = (
   clear_fine x p here,
+  clear_unrefused x.desc p.wires.changes,
   subst (λ (q : Plant). TakesAll x q (cfg.TimeRes x.desc.numerator x.desc.denominator ∷ [])) (sym (clear_leads x p))
-      (told_fine x (cleared x p) (cfg.TimeRes x.desc.numerator x.desc.denominator) here refl (time_fine x.desc []), tt),
+      (told_fine x (cleared x p) (cfg.TimeRes x.desc.numerator x.desc.denominator) here refl (time_fine x.desc []), time_fine x.desc [], tt),
 )
 
 -- the machine with its settings for the first run

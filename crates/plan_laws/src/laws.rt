@@ -1,10 +1,12 @@
 //! What holds of the lists of every plan.
 
-ghost use Rattle.std.specs.Prelude.{◌≡◌, ◌+◌, ℕ, List, [], None, true};
+ghost use Rattle.std.specs.Prelude.{◌≡◌, ◌≤◌, ◌<◌, ◌+◌, ◌-◌, ℕ, List, [], None, true, slice_index_or};
 ghost use Rattle.dcp_types.specs.declared.states.State.TheVariants.{Configuration};
 ghost use Rattle.pdu_layout.specs.declared.messages.Cfg.{Cfg};
+ghost use Rattle.slave_desc.specs.declared.descriptions.SlaveDesc.{SlaveDesc};
 ghost use Rattle.scenario.specs.declared.scenarios.Scenario.{Scenario};
 ghost use Rattle.scenario.specs.Settings.{parameters};
+ghost use Rattle.plan_spec.specs.Plans.{plan_of};
 ghost use Rattle.plan_spec.specs.Setup.{setup_list, adjust_list};
 ghost use Rattle.slave_wiring.specs.Changes.{complete};
 ghost use Rattle.slave_spec.specs.declared.words.Asked.TheVariants.{Setting};
@@ -27,10 +29,14 @@ pub fn setup_lists_are_taken()
 {}
 
 /// In CONFIGURATION, with its parameters of run `r`, a slave takes whole what is set after that run, and then
-/// has its parameters of the next. A model in its state at first is then in it again.
+/// has its parameters of the next; its state and its wiring stay. A model in its state at first is then in it
+/// again.
 pub fn adjust_lists_are_taken()
     ensures taken { (sc : Scenario) (s : ℕ) (x : Setup) (p : Plant) (r : ℕ) → IsSlaveOf sc s x.desc → p.state ≡ Configuration
         → p.model.kind ≡ x.desc.kind → p.model.parameters ≡ parameters sc s x.desc r → TakesAll x p (adjust_list sc r s) }
+    ensures stays { (sc : Scenario) (s : ℕ) (x : Setup) (p : Plant) (r : ℕ) → IsSlaveOf sc s x.desc
+        → p.model.kind ≡ x.desc.kind → p.model.parameters ≡ parameters sc s x.desc r
+        → ((after_all x p (adjust_list sc r s)).state ≡ p.state) × ((after_all x p (adjust_list sc r s)).wires ≡ p.wires) }
     ensures parameters { (sc : Scenario) (s : ℕ) (x : Setup) (p : Plant) (r : ℕ) → IsSlaveOf sc s x.desc
         → p.model.kind ≡ x.desc.kind → p.model.parameters ≡ parameters sc s x.desc r → (after_all x p (adjust_list sc r s)).model.parameters ≡ parameters sc s x.desc (r + 1) }
     ensures model { (sc : Scenario) (s : ℕ) (x : Setup) (p : Plant) (r : ℕ) → IsSlaveOf sc s x.desc
@@ -38,14 +44,16 @@ pub fn adjust_lists_are_taken()
 {}
 
 /// Run by run: a slave in CONFIGURATION takes its setup list, and then after each run, whatever happened in
-/// it, once it stands in CONFIGURATION again, the list for the next run. In each run it has the parameters of
-/// that run.
+/// it, once a reset has led it to CONFIGURATION again, the list for the next run. With these lists taken it
+/// has the parameters of the run, and its wiring is complete.
 pub fn lists_are_taken_run_by_run()
     ensures setup { (sc : Scenario) (s : ℕ) (x : Setup) (p : Plant) → IsSlaveOf sc s x.desc → p.state ≡ Configuration → TakesAll x p (setup_list sc s x.desc) }
     ensures adjust { (sc : Scenario) (s : ℕ) (x : Setup) (p : Plant) (happened : ℕ → List Happening) (r : ℕ) → IsSlaveOf sc s x.desc
         → (ends sc s x p happened r).state ≡ Configuration → TakesAll x (ends sc s x p happened r) (adjust_list sc (r + 1) s) }
     ensures parameters { (sc : Scenario) (s : ℕ) (x : Setup) (p : Plant) (happened : ℕ → List Happening) (r : ℕ) → IsSlaveOf sc s x.desc
         → (begins sc s x p happened r).model.parameters ≡ parameters sc s x.desc (r + 1) }
+    ensures complete { (sc : Scenario) (s : ℕ) (x : Setup) (p : Plant) (happened : ℕ → List Happening) (r : ℕ) → IsSlaveOf sc s x.desc
+        → complete (begins sc s x p happened r).wires.changes ≡ true }
 {}
 
 /// A setting that is not refused is acknowledged, nothing is told of it, and it leads where an accepted one
@@ -53,4 +61,12 @@ pub fn lists_are_taken_run_by_run()
 pub fn settings_are_acknowledged()
     ensures { (x : Setup) (p : Plant) (body : Cfg) → refusal x p (Setting body) ≡ None
         → answers x (Setting body) p ≡ record { answer = Ack; notices = []; after = accepted x p (Setting body) } }
+{}
+
+/// A plan has these lists: at the place of each slave its setup list, and at the place of each run but the
+/// last, there at the place of each slave, what is set after that run.
+pub fn plans_have_these_lists()
+    ensures setup { (sc : Scenario) (s : ℕ) (d : SlaveDesc) → IsSlaveOf sc s d → slice_index_or (plan_of sc).setups (s - 1) [] ≡ setup_list sc s d }
+    ensures adjust { (sc : Scenario) (s : ℕ) (d : SlaveDesc) (r : ℕ) → IsSlaveOf sc s d → 1 ≤ r → r < sc.runs
+        → slice_index_or (slice_index_or (plan_of sc).adjusts (r - 1) []) (s - 1) [] ≡ adjust_list sc r s }
 {}

@@ -7,6 +7,6 @@
 mod laws;
 
 pub use laws::{
-    adjust_lists_are_taken, lists_are_taken_run_by_run, settings_are_acknowledged,
-    setup_lists_are_taken,
+    adjust_lists_are_taken, lists_are_taken_run_by_run, plans_have_these_lists,
+    settings_are_acknowledged, setup_lists_are_taken,
 };

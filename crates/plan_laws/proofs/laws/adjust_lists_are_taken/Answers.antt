@@ -1,4 +1,4 @@
-use Rattle.plan_laws.proofs.Running.{adjust_taken, adjust_sets, adjust_begins}
+use Rattle.plan_laws.proofs.Running.{adjust_taken, adjust_stays, adjust_sets, adjust_begins}
 use Rattle.plan_laws.proofs.laws.adjust_lists_are_taken.Goals as goal
 
 pub returns-clause-taken : goal.returns-clause-taken
@@ -9,3 +9,6 @@ returns-clause-parameters c = λ sc s x p r h kind same. (adjust_sets sc s x p r
 
 pub returns-clause-model : goal.returns-clause-model
 returns-clause-model c = λ sc s x p r h is. adjust_begins sc s x p r h is
+
+pub returns-clause-stays : goal.returns-clause-stays
+returns-clause-stays c = λ sc s x p r h kind same. adjust_stays sc s x p r h kind same
