@@ -10,5 +10,6 @@ pub mod Setups
 pub mod Machines
 pub mod Settings
 pub mod Taken
+pub mod Alike
 pub mod Running
 pub mod Plans

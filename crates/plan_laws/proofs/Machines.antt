@@ -135,7 +135,7 @@ takes_settings x p s (y ∷ ys) here fine =
     let taken : takes p.model.kind (slice_set p.model.parameters y.index y.value) ≡ true = subst (λ (ps : List ℤ). takes p.model.kind ps ≡ true) is fine.1 in
     rw e (
       parameter_fine x p y here own.0 own.1 taken,
-      (own.0, own.1, taken),
+      (own.0, refl, own.1, taken),
       subst (λ (q : Plant). TakesAll x q (settings_of s ys)) (sym (parameter_leads x p y)) (takes_settings x (with_parameters p (slice_set p.model.parameters y.index y.value)) s ys here rest),
     ))
     (λ e. let rest : AreFine p.model.kind p.model.parameters s ys = subst (λ (ps : List ℤ). AreFine p.model.kind ps s ys) (changed_elsewhere p.model.parameters s y e) fine.2 in

@@ -20,10 +20,10 @@ pub record IsSlaveOf (sc : Scenario) (s : ℕ) (d : SlaveDesc) : Type 0 where
   pub sound : IsScenario sc
   pub slave : slave_at sc.slaves s ≡ Some d
 
--- The model takes a parameter that it has and whose new value its kind takes; every other setting is the wiring's, which finds nothing wrong with it.
+-- The model takes a parameter that it has, a number of 64 bits that its kind takes there; every other setting is the wiring's, which finds nothing wrong with it.
 abbrev pub IsTakenByPart : Setup → Plant → Cfg → Type 0
 IsTakenByPart x p (cfg.Parameter vr kind value) =
-    ((vr < length p.model.parameters) × (fits I64 value ≡ true) × (takes p.model.kind (slice_set p.model.parameters vr value) ≡ true))
+    ((vr < length p.model.parameters) × (kind ≡ I64) × (fits I64 value ≡ true) × (takes p.model.kind (slice_set p.model.parameters vr value) ≡ true))
 IsTakenByPart x p body = wiring.refusal x.desc p.wires.changes body ≡ None
 
 -- none of these settings is refused, by the slave and by its part, each where those before it led

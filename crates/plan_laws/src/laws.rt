@@ -15,7 +15,7 @@ ghost use Rattle.slave_spec.specs.Transport.{Ack};
 ghost use Rattle.slave_spec.specs.Plants.{Plant, model_with};
 ghost use Rattle.slave_spec.specs.Requests.{refusal, accepted, answers};
 ghost use Rattle.plan_laws.specs.Taking.{IsSlaveOf, TakesAll, after_all};
-ghost use Rattle.plan_laws.specs.Runs.{Happening, begins, ends};
+ghost use Rattle.plan_laws.specs.Runs.{Happening, TakesAmid, after_amid, lists_until};
 
 /// In CONFIGURATION, whatever it was told before, a slave takes its setup list whole: none of the settings
 /// is refused. It then stands in CONFIGURATION still, its wiring is complete, and its model is that of the
@@ -43,17 +43,17 @@ pub fn adjust_lists_are_taken()
         → p.model ≡ model_with x.desc (parameters sc s x.desc r) → (after_all x p (adjust_list sc r s)).model ≡ model_with x.desc (parameters sc s x.desc (r + 1)) }
 {}
 
-/// Run by run: a slave in CONFIGURATION takes its setup list, and then after each run, whatever happened in
-/// it, once a reset has led it to CONFIGURATION again, the list for the next run. With these lists taken it
-/// has the parameters of the run, and its wiring is complete.
+/// Run by run: let a slave get its setup list and then, in the order of the runs, what is set after each, and
+/// before each of these settings whatever else: turns, data, questions, changes of state, a reset among them.
+/// Each setting that comes in CONFIGURATION, where those before it did, is taken. Where the lists before a run
+/// lead, the slave has the parameters of that run, and its wiring is complete.
 pub fn lists_are_taken_run_by_run()
-    ensures setup { (sc : Scenario) (s : ℕ) (x : Setup) (p : Plant) → IsSlaveOf sc s x.desc → p.state ≡ Configuration → TakesAll x p (setup_list sc s x.desc) }
-    ensures adjust { (sc : Scenario) (s : ℕ) (x : Setup) (p : Plant) (happened : ℕ → List Happening) (r : ℕ) → IsSlaveOf sc s x.desc
-        → (ends sc s x p happened r).state ≡ Configuration → TakesAll x (ends sc s x p happened r) (adjust_list sc (r + 1) s) }
+    ensures taken { (sc : Scenario) (s : ℕ) (x : Setup) (p : Plant) (happened : ℕ → List Happening) (r : ℕ) → IsSlaveOf sc s x.desc
+        → TakesAmid x p happened 0 (lists_until sc s x.desc r) }
     ensures parameters { (sc : Scenario) (s : ℕ) (x : Setup) (p : Plant) (happened : ℕ → List Happening) (r : ℕ) → IsSlaveOf sc s x.desc
-        → (begins sc s x p happened r).model.parameters ≡ parameters sc s x.desc (r + 1) }
+        → (after_amid x p happened 0 (lists_until sc s x.desc r)).model.parameters ≡ parameters sc s x.desc (r + 1) }
     ensures complete { (sc : Scenario) (s : ℕ) (x : Setup) (p : Plant) (happened : ℕ → List Happening) (r : ℕ) → IsSlaveOf sc s x.desc
-        → complete (begins sc s x p happened r).wires.changes ≡ true }
+        → complete (after_amid x p happened 0 (lists_until sc s x.desc r)).wires.changes ≡ true }
 {}
 
 /// A setting that is not refused is acknowledged, nothing is told of it, and it leads where an accepted one
