@@ -1,0 +1,15 @@
+pub mod Lists
+pub mod Told
+pub mod Entries
+pub mod Parts
+pub mod Pairs
+pub mod Ports
+pub mod Planned
+pub mod Links
+pub mod Setups
+pub mod Machines
+pub mod Settings
+pub mod Taken
+pub mod Alike
+pub mod Running
+pub mod Plans
