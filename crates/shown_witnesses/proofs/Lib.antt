@@ -1,2 +1,4 @@
 pub mod Readings
+pub mod Askings
 pub mod Silences
+pub mod FirstPhases

@@ -1,21 +1,26 @@
 -- What is shown of a slave is shown of its last request, where the log is read.
-use Rattle.std.proofs.Common.{◌≡◌, ℕ, zero, suc, true, false, ◌-◌, ◌<◌, ◌≤◌, IfSome, arith, Option, Some, None, List, [], ◌∷◌, slice_get, refl, sym, ap, ◌∙◌, subst}
+use Rattle.std.proofs.Common.{◌≡◌, ℕ, zero, suc, true, false, ◌-◌, ◌<◌, ◌≤◌, ◌&&◌, IsFalse, IfSome, reverse, arith, Option, Some, None, List, [], ◌∷◌, slice_get, refl, sym, ap, ◌∙◌, subst}
 use Rattle.pdu_layout.specs.declared.messages.Cfg.{Cfg}
 use Rattle.dcp_ends.specs.declared.entries.LogEntry.{LogEntry}
 use Rattle.master_spec.specs.declared.tasks.Task.{Task}
 use Rattle.master_spec.specs.declared.causes.Cause.{Cause}
 use Rattle.master_spec.specs.declared.causes.Cause.TheVariants as causes
 use Rattle.master_spec.specs.declared.requests.Answer.{Answer}
-use Rattle.master_spec.specs.declared.requests.Answer.TheVariants.{Nack}
+use Rattle.master_spec.specs.declared.requests.Answer.TheVariants.{Nack, ErrorAck}
 use Rattle.master_spec.specs.declared.setups.Slave.{Slave}
 use Rattle.master_spec.specs.declared.setups.Setup.{Setup}
 use Rattle.master_spec.specs.Jobs.{Job}
+use Rattle.master_spec.specs.News.{type_of, state_of}
+use Rattle.master_spec.specs.Marks.{is_missing}
+use Rattle.master_spec.specs.declared.reports.Report.TheVariants as reports
+use Rattle.shown_witnesses.specs.Ends.{single, slave}
+use Rattle.shown_witnesses.specs.Logs.{IsRun, Tells}
 use Rattle.master_spec.specs.Tasks.{row_of, passing_of}
 use Rattle.master_spec.specs.Conversation.{is_state}
 use Rattle.master_spec.specs.Setup.{jobs_of}
 use Rattle.master_spec.specs.Requests.{Asking, Decision, asks, of_phase, is_step, is_error_question, turns_between}
 use Rattle.master_spec.specs.Exchanged.{IsDecided}
-use Rattle.master_spec.specs.Shown.{Shown, ShownBy, Last, IsUnanswered, IsUnexpected, last_sending, fits_answer}
+use Rattle.master_spec.specs.Shown.{Shown, ShownBy, Last, IsUnanswered, MissesInputs, MissesOutputs, IsStuck, IsFaulted, last_sending, fits_answer}
 
 task_in : Task → Option Job → Task
 task_in t None = t
@@ -53,11 +58,11 @@ pub undecided : {p : ℕ} {x : Answer} (a : Asking) → a.decision ≡ None → 
 undecided a none d = let e = sym none ∙ d in cc
 
 -- the only slave
-pub only_one : (s t : Slave) (i : ℕ) → slice_get (s ∷ []) i ≡ Some t → s ≡ t
+only_one : (s t : Slave) (i : ℕ) → slice_get (s ∷ []) i ≡ Some t → s ≡ t
 only_one s t zero e = cc
 only_one s t (suc i) e = absurd cc
 
-pub none_below : (s t : Slave) (i : ℕ) → slice_get (s ∷ []) i ≡ Some t → t.id < s.id → ⊥
+none_below : (s t : Slave) (i : ℕ) → slice_get (s ∷ []) i ≡ Some t → t.id < s.id → ⊥
 none_below s t i e b = let same : s.id ≡ t.id = ap (λ (x : Slave). x.id) (only_one s t i e) in omega arith
 
 -- ---- the seven rows of a request without an answer, and of one whose answer fits, where no values and no passing state are awaited
@@ -88,31 +93,67 @@ soon_answered setup log r place x told soon h =
     let late = subst (λ o. IfSome o (λ d. setup.limits.turn_limit ≤ turns_between setup.address log (last_sending r.first r.repeats) d.place)) told h.late in
     omega arith
 
-fitting : (task : Task) (r : Asking) (earlier : List Asking) (y t p : ℕ) (x : Answer)
-    → IsDecided r p x → fits_answer task r earlier x ≡ true → IsUnexpected task r earlier y t → ⊥
-fitting task r earlier y t p x told fits h =
-    let same = ap (fits_answer task r earlier) (one_answer r told h.told) in
-    let unfit = h.unfit in cc
-
-rows_passed : (setup : Setup) (log : List LogEntry) (slave : Slave) (task : Task) (r : Asking) (earlier : List Asking) (place : ℕ) (x : Answer) (cause : Cause)
+-- what holds of the cause of each row that a request with such an answer leaves holds of the cause that is shown
+rows : (P : Cause → Type 0) (setup : Setup) (log : List LogEntry) (slave : Slave) (task : Task) (r : Asking) (earlier : List Asking) (place : ℕ) (x : Answer) (cause : Cause)
     → IsDecided r place x → turns_between setup.address log (last_sending r.first r.repeats) place < setup.limits.turn_limit
-    → fits_answer task r earlier x ≡ true → ((c : ℕ) → x ≡ Nack c → ⊥) → is_step r ≡ false → is_error_question r ≡ false
-    → row_of task ≡ None → passing_of task ≡ None
-    → ShownBy setup log slave task r earlier cause → ⊥
-rows_passed setup log slave task r earlier place x (causes.NoAnswer q) told soon fits taken step error row through h = soon_answered setup log r place x told soon h.1
-rows_passed setup log slave task r earlier place x (causes.Refused q c) told soon fits taken step error row through h = taken c (one_answer r told h.1.told)
-rows_passed setup log slave task r earlier place x (causes.InputsMissing q k) told soon fits taken step error row through h = let e = h.1.asks_step in cc
-rows_passed setup log slave task r earlier place x (causes.DataMissing k) told soon fits taken step error row through h = let e = h.row_is in cc
-rows_passed setup log slave task r earlier place x (causes.Stuck q t) told soon fits taken step error row through h =
-    let e = h.1.passing in let f = ap (λ o. is_state o t) through in cc
-rows_passed setup log slave task r earlier place x (causes.Faulted q c) told soon fits taken step error row through h = let e = h.1.asks_error in cc
-rows_passed setup log slave task r earlier place x (causes.Unexpected q y t) told soon fits taken step error row through h = fitting task r earlier y t place x told fits h.1
+    → ((c : ℕ) → x ≡ Nack c → IsFalse (is_step r && is_missing c) → P (causes.Refused r.number c))
+    → ((k : ℕ) → MissesInputs setup log task r earlier k → P (causes.InputsMissing r.number k))
+    → ((k : ℕ) → MissesOutputs setup log slave task r earlier k → P (causes.DataMissing k))
+    → ((t : ℕ) → IsStuck setup log task r earlier t → P (causes.Stuck r.number t))
+    → ((c : ℕ) → x ≡ ErrorAck c → IsFaulted r earlier c → P (causes.Faulted r.number c))
+    → (fits_answer task r earlier x ≡ false → P (causes.Unexpected r.number (type_of x) (state_of x)))
+    → ShownBy setup log slave task r earlier cause → P cause
+rows P setup log slave task r earlier place x (causes.NoAnswer q) told soon refused inputs values stuck faulted unfit h = absurd (soon_answered setup log r place x told soon h.1)
+rows P setup log slave task r earlier place x (causes.Refused q c) told soon refused inputs values stuck faulted unfit h =
+    subst (λ n. P (causes.Refused n c)) h.0 (refused c (one_answer r told h.1.told) h.1.other)
+rows P setup log slave task r earlier place x (causes.InputsMissing q k) told soon refused inputs values stuck faulted unfit h =
+    subst (λ n. P (causes.InputsMissing n k)) h.0 (inputs k h.1)
+rows P setup log slave task r earlier place x (causes.DataMissing k) told soon refused inputs values stuck faulted unfit h = values k h
+rows P setup log slave task r earlier place x (causes.Stuck q t) told soon refused inputs values stuck faulted unfit h =
+    subst (λ n. P (causes.Stuck n t)) h.0 (stuck t h.1)
+rows P setup log slave task r earlier place x (causes.Faulted q c) told soon refused inputs values stuck faulted unfit h =
+    subst (λ n. P (causes.Faulted n c)) h.0 (faulted c (one_answer r told h.1.told) h.1)
+rows P setup log slave task r earlier place x (causes.Unexpected q y t) told soon refused inputs values stuck faulted unfit h =
+    let same = one_answer r h.1.told told in
+    let type_is : type_of x ≡ y = ap type_of (sym same) ∙ h.1.type_is in
+    let state_is : state_of x ≡ t = ap state_of (sym same) ∙ h.1.state_is in
+    let here = unfit (ap (fits_answer task r earlier) (sym same) ∙ h.1.unfit) in
+    subst (λ n. P (causes.Unexpected n y t)) h.0
+    (subst (λ n. P (causes.Unexpected r.number n t)) type_is (subst (λ n. P (causes.Unexpected r.number (type_of x) n)) state_is here))
 
-pub passed : {setup : Setup} {log : List LogEntry} {slave : Slave} {n : ℕ} {task : Task} {r : Asking} {earlier : List Asking}
-    → Last setup log slave n task r earlier → (place : ℕ) (x : Answer)
+pub by_rows : {setup : Setup} {log : List LogEntry} {slave : Slave} {n : ℕ} {task : Task} {r : Asking} {earlier : List Asking}
+    → (P : Cause → Type 0) → Last setup log slave n task r earlier → (place : ℕ) (x : Answer)
     → IsDecided r place x → turns_between setup.address log (last_sending r.first r.repeats) place < setup.limits.turn_limit
-    → fits_answer task r earlier x ≡ true → ((c : ℕ) → x ≡ Nack c → ⊥) → is_step r ≡ false → is_error_question r ≡ false
-    → row_of task ≡ None → passing_of task ≡ None
-    → (p : ℕ) (cause : Cause) → Shown setup log slave p cause → ⊥
-passed {setup} {log} {slave} {n} {task} {r} {earlier} l place x told soon fits taken step error row through p cause s =
-    rows_passed setup log slave task r earlier place x cause told soon fits taken step error row through (shown_by l s).1
+    → ((c : ℕ) → x ≡ Nack c → IsFalse (is_step r && is_missing c) → P (causes.Refused r.number c))
+    → ((k : ℕ) → MissesInputs setup log task r earlier k → P (causes.InputsMissing r.number k))
+    → ((k : ℕ) → MissesOutputs setup log slave task r earlier k → P (causes.DataMissing k))
+    → ((t : ℕ) → IsStuck setup log task r earlier t → P (causes.Stuck r.number t))
+    → ((c : ℕ) → x ≡ ErrorAck c → IsFaulted r earlier c → P (causes.Faulted r.number c))
+    → (fits_answer task r earlier x ≡ false → P (causes.Unexpected r.number (type_of x) (state_of x)))
+    → (p : ℕ) (cause : Cause) → Shown setup log slave p cause → (p ≡ n) × P cause
+by_rows {setup} {log} {slave} {n} {task} {r} {earlier} P l place x told soon refused inputs values stuck faulted unfit p cause s =
+    let h = shown_by l s in
+    (h.0, rows P setup log slave task r earlier place x cause told soon refused inputs values stuck faulted unfit h.1)
+
+-- in a phase without values and without a passing state
+pub plain : {setup : Setup} {log : List LogEntry} {slave : Slave} {n : ℕ} {task : Task} {r : Asking} {earlier : List Asking}
+    → (P : Cause → Type 0) → Last setup log slave n task r earlier → (place : ℕ) (x : Answer)
+    → IsDecided r place x → turns_between setup.address log (last_sending r.first r.repeats) place < setup.limits.turn_limit
+    → is_step r ≡ false → row_of task ≡ None → passing_of task ≡ None
+    → ((c : ℕ) → x ≡ Nack c → P (causes.Refused r.number c))
+    → ((c : ℕ) → x ≡ ErrorAck c → IsFaulted r earlier c → P (causes.Faulted r.number c))
+    → (fits_answer task r earlier x ≡ false → P (causes.Unexpected r.number (type_of x) (state_of x)))
+    → (p : ℕ) (cause : Cause) → Shown setup log slave p cause → (p ≡ n) × P cause
+plain P l place x told soon step row through refused faulted unfit =
+    by_rows P l place x told soon
+    (λ c e _. refused c e)
+    (λ k h. absurd (let e = h.asks_step in cc))
+    (λ k h. absurd (let e = h.row_is in cc))
+    (λ t h. absurd (let e = h.passing in let f = ap (λ o. is_state o t) through in cc))
+    faulted unfit
+
+-- ---- one slave
+
+pub tells_of : {steps n : ℕ} {log : List LogEntry} {cause : Cause}
+    → IsRun (single steps) log (reports.Failed 1 n cause) → Shown (single steps) (reverse log) (slave 1) n cause → Tells (single steps) log (slave 1) n cause
+tells_of run shown = record { run = run; first = record { is_in = (0, refl); shown = shown; none_before = λ t i b other _. none_below (slave 1) t i.0 i.1 b } }

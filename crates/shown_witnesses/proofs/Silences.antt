@@ -19,7 +19,7 @@ use Rattle.master_spec.specs.declared.reports.Report.TheVariants as reports
 use Rattle.shown_witnesses.specs.Ends.{single, slave}
 use Rattle.shown_witnesses.specs.Logs.{IsRun, Tells, ShowsOnly, ShowsNothing}
 use Rattle.shown_witnesses.specs.Silence.{silent, one_turn_less, sent_once, late_repeat, answered_at_last, refused_too_late}
-use Rattle.shown_witnesses.proofs.Readings.{shown_by, undecided, none_below, still_open, passed}
+use Rattle.shown_witnesses.proofs.Readings.{shown_by, undecided, still_open, plain, tells_of}
 
 -- the request, with its repeats and its answer
 abbrev register : List ℕ → Option Decision → Asking
@@ -59,7 +59,7 @@ pub only : ShowsOnly (single 0) silent (slave 1) 1 (NoAnswer 0)
 only p other s = let h = shown_by last s in (h.0, only_by other h.1)
 
 pub tells : Tells (single 0) silent (slave 1) 1 (NoAnswer 0)
-tells = record { run = is_run; first = record { is_in = (0, refl); shown = shown; none_before = λ t i b other _. none_below (slave 1) t i.0 i.1 b } }
+tells = tells_of is_run shown
 
 -- ---- with one thing less
 
@@ -94,7 +94,7 @@ unfolding message_in news_of
 in_time = record { phase = refl; job = ([], refl); last = refl }
 
 pub none_answered : ShowsNothing (single 0) answered_at_last (slave 1)
-none_answered = passed in_time 4 Ack refl (omega arith) refl (λ c e. cc) refl refl refl refl
+none_answered p cause s = (plain (λ _. ⊥) in_time 4 Ack refl (omega arith) refl refl refl (λ c e. cc) (λ c e _. cc) (λ e. cc) p cause s).1
 
 abbrev too_late : Asking
 too_late = register (3 ∷ []) (Some (record { place = 5; answer = Nack 10 }))
@@ -117,7 +117,7 @@ shown_late = record {
 }
 
 pub tells_late : Tells (single 0) refused_too_late (slave 1) 1 (NoAnswer 0)
-tells_late = record { run = run_late; first = record { is_in = (0, refl); shown = shown_late; none_before = λ t i b other _. none_below (slave 1) t i.0 i.1 b } }
+tells_late = tells_of run_late shown_late
 
 pub shown_too : Shown (single 0) (reverse refused_too_late) (slave 1) 1 (Refused 0 10)
 shown_too = record { task = task; request = too_late; earlier = []; last = last_late; shown = (refl, record { place = 5; told = refl; other = refl }) }
