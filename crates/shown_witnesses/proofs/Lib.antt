@@ -1,4 +1,6 @@
 pub mod Readings
 pub mod Askings
+pub mod Places
 pub mod Silences
 pub mod FirstPhases
+pub mod LaterPhases

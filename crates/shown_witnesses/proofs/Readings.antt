@@ -1,12 +1,12 @@
 -- What is shown of a slave is shown of its last request, where the log is read.
-use Rattle.std.proofs.Common.{◌≡◌, ℕ, zero, suc, true, false, ◌-◌, ◌<◌, ◌≤◌, ◌&&◌, IsFalse, IfSome, reverse, arith, Option, Some, None, List, [], ◌∷◌, slice_get, refl, sym, ap, ◌∙◌, subst}
+use Rattle.std.proofs.Common.{◌≡◌, ℕ, zero, suc, true, false, ◌-◌, ◌<◌, ◌≤◌, ◌&&◌, ◌%◌, find, IsFalse, IfSome, reverse, arith, Option, Some, None, List, [], ◌∷◌, slice_get, refl, sym, ap, ◌∙◌, subst}
 use Rattle.pdu_layout.specs.declared.messages.Cfg.{Cfg}
 use Rattle.dcp_ends.specs.declared.entries.LogEntry.{LogEntry}
 use Rattle.master_spec.specs.declared.tasks.Task.{Task}
 use Rattle.master_spec.specs.declared.causes.Cause.{Cause}
 use Rattle.master_spec.specs.declared.causes.Cause.TheVariants as causes
 use Rattle.master_spec.specs.declared.requests.Answer.{Answer}
-use Rattle.master_spec.specs.declared.requests.Answer.TheVariants.{Nack, ErrorAck}
+use Rattle.master_spec.specs.declared.requests.Answer.TheVariants.{Ack, Nack, StateAck, ErrorAck}
 use Rattle.master_spec.specs.declared.setups.Slave.{Slave}
 use Rattle.master_spec.specs.declared.setups.Setup.{Setup}
 use Rattle.master_spec.specs.Jobs.{Job}
@@ -18,8 +18,8 @@ use Rattle.shown_witnesses.specs.Logs.{IsRun, Tells}
 use Rattle.master_spec.specs.Tasks.{row_of, passing_of}
 use Rattle.master_spec.specs.Conversation.{is_state}
 use Rattle.master_spec.specs.Setup.{jobs_of}
-use Rattle.master_spec.specs.Requests.{Asking, Decision, asks, of_phase, is_step, is_error_question, turns_between}
-use Rattle.master_spec.specs.Exchanged.{IsDecided}
+use Rattle.master_spec.specs.Requests.{Asking, Decision, asks, of_phase, is_step, is_outputs, is_error_question, is_state_request, is_acked, turns_between, turns_after}
+use Rattle.master_spec.specs.Exchanged.{IsDecided, Brings}
 use Rattle.master_spec.specs.Shown.{Shown, ShownBy, Last, IsUnanswered, MissesInputs, MissesOutputs, IsStuck, IsFaulted, last_sending, fits_answer}
 
 task_in : Task → Option Job → Task
@@ -53,6 +53,14 @@ answer_in a (Some d) = d.answer
 pub one_answer : {p q : ℕ} {x y : Answer} (a : Asking) → IsDecided a p x → IsDecided a q y → x ≡ y
 unfolding answer_in
 one_answer {p} {q} {x} {y} a d e = ap (answer_in x) (sym d ∙ e)
+
+place_in : ℕ → Option Decision → ℕ
+place_in p None = p
+place_in p (Some d) = d.place
+
+one_place : {p q : ℕ} {x y : Answer} (a : Asking) → IsDecided a p x → IsDecided a q y → p ≡ q
+unfolding place_in
+one_place {p} {q} {x} {y} a d e = ap (place_in p) (sym d ∙ e)
 
 pub undecided : {p : ℕ} {x : Answer} (a : Asking) → a.decision ≡ None → IsDecided a p x → ⊥
 undecided a none d = let e = sym none ∙ d in cc
@@ -99,7 +107,7 @@ rows : (P : Cause → Type 0) (setup : Setup) (log : List LogEntry) (slave : Sla
     → ((c : ℕ) → x ≡ Nack c → IsFalse (is_step r && is_missing c) → P (causes.Refused r.number c))
     → ((k : ℕ) → MissesInputs setup log task r earlier k → P (causes.InputsMissing r.number k))
     → ((k : ℕ) → MissesOutputs setup log slave task r earlier k → P (causes.DataMissing k))
-    → ((t : ℕ) → IsStuck setup log task r earlier t → P (causes.Stuck r.number t))
+    → ((t : ℕ) → x ≡ StateAck t → IsStuck setup log task r earlier t → P (causes.Stuck r.number t))
     → ((c : ℕ) → x ≡ ErrorAck c → IsFaulted r earlier c → P (causes.Faulted r.number c))
     → (fits_answer task r earlier x ≡ false → P (causes.Unexpected r.number (type_of x) (state_of x)))
     → ShownBy setup log slave task r earlier cause → P cause
@@ -110,7 +118,7 @@ rows P setup log slave task r earlier place x (causes.InputsMissing q k) told so
     subst (λ n. P (causes.InputsMissing n k)) h.0 (inputs k h.1)
 rows P setup log slave task r earlier place x (causes.DataMissing k) told soon refused inputs values stuck faulted unfit h = values k h
 rows P setup log slave task r earlier place x (causes.Stuck q t) told soon refused inputs values stuck faulted unfit h =
-    subst (λ n. P (causes.Stuck n t)) h.0 (stuck t h.1)
+    subst (λ n. P (causes.Stuck n t)) h.0 (stuck t (one_answer r told h.1.told) h.1)
 rows P setup log slave task r earlier place x (causes.Faulted q c) told soon refused inputs values stuck faulted unfit h =
     subst (λ n. P (causes.Faulted n c)) h.0 (faulted c (one_answer r told h.1.told) h.1)
 rows P setup log slave task r earlier place x (causes.Unexpected q y t) told soon refused inputs values stuck faulted unfit h =
@@ -127,7 +135,7 @@ pub by_rows : {setup : Setup} {log : List LogEntry} {slave : Slave} {n : ℕ} {t
     → ((c : ℕ) → x ≡ Nack c → IsFalse (is_step r && is_missing c) → P (causes.Refused r.number c))
     → ((k : ℕ) → MissesInputs setup log task r earlier k → P (causes.InputsMissing r.number k))
     → ((k : ℕ) → MissesOutputs setup log slave task r earlier k → P (causes.DataMissing k))
-    → ((t : ℕ) → IsStuck setup log task r earlier t → P (causes.Stuck r.number t))
+    → ((t : ℕ) → x ≡ StateAck t → IsStuck setup log task r earlier t → P (causes.Stuck r.number t))
     → ((c : ℕ) → x ≡ ErrorAck c → IsFaulted r earlier c → P (causes.Faulted r.number c))
     → (fits_answer task r earlier x ≡ false → P (causes.Unexpected r.number (type_of x) (state_of x)))
     → (p : ℕ) (cause : Cause) → Shown setup log slave p cause → (p ≡ n) × P cause
@@ -149,8 +157,36 @@ plain P l place x told soon step row through refused faulted unfit =
     (λ c e _. refused c e)
     (λ k h. absurd (let e = h.asks_step in cc))
     (λ k h. absurd (let e = h.row_is in cc))
-    (λ t h. absurd (let e = h.passing in let f = ap (λ o. is_state o t) through in cc))
+    (λ t _ h. absurd (let e = h.passing in let f = ap (λ o. is_state o t) through in cc))
     faulted unfit
+
+-- ---- what a row says of the requests that the log has
+
+pub late_by : (setup : Setup) (log : List LogEntry) (task : Task) (r : Asking) (earlier : List Asking) (t : ℕ) (a : Asking) (place : ℕ)
+    → IsStuck setup log task r earlier t → find (λ a. is_state_request a && is_acked a) earlier ≡ Some a → IsDecided a place Ack
+    → setup.limits.state_limit ≤ turns_between setup.address log place r.first
+late_by setup log task r earlier t a place h found told =
+    let both : Some h.request ≡ Some a = sym h.request_is ∙ found in
+    let same : h.request ≡ a = cc in
+    let at : h.acked ≡ place = one_place a (subst (λ a. IsDecided a h.acked Ack) same h.request_done) told in
+    subst (λ i. setup.limits.state_limit ≤ turns_between setup.address log i r.first) at h.late
+
+pub awaited : (setup : Setup) (log : List LogEntry) (slave : Slave) (task : Task) (r : Asking) (earlier : List Asking) (k place : ℕ) (x : Answer)
+    → MissesOutputs setup log slave task r earlier k → IsDecided r place x → setup.limits.data_turns ≤ turns_after setup.address log place
+awaited setup log slave task r earlier k place x h told =
+    subst (λ i. setup.limits.data_turns ≤ turns_after setup.address log i) (one_place r h.told told) h.turns
+
+pub came_late : (setup : Setup) (log : List LogEntry) (slave : Slave) (task : Task) (r : Asking) (earlier : List Asking) (k row place : ℕ) (x : Answer) (a : Asking) (i : ℕ)
+    → MissesOutputs setup log slave task r earlier k → row_of task ≡ Some row → IsDecided r place x
+    → find is_outputs earlier ≡ Some a → a.first < i → Brings setup log slave (row % 65536) i
+    → setup.limits.data_turns ≤ turns_between setup.address log place i
+came_late setup log slave task r earlier k row place x a i h row_is told found behind brings =
+    let both : Some h.request ≡ Some a = sym h.request_is ∙ found in
+    let same : a ≡ h.request = cc in
+    let rows_are : Some row ≡ Some h.row = sym row_is ∙ h.row_is in
+    let row_same : row ≡ h.row = cc in
+    let late = h.missing i (subst (λ a. a.first < i) same behind) (subst (λ n. Brings setup log slave (n % 65536) i) row_same brings) in
+    subst (λ j. setup.limits.data_turns ≤ turns_between setup.address log j i) (one_place r h.told told) late
 
 -- ---- one slave
 

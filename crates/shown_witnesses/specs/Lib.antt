@@ -2,3 +2,4 @@ pub mod Ends
 pub mod Logs
 pub mod Silence
 pub mod FirstPhase
+pub mod Phases

@@ -4,12 +4,18 @@
 //! has by its rules the cause that it reports is shown, and it is not shown on a log that lacks one thing.
 #![tactic(auto)]
 
+mod data_missing;
 mod faulted;
+mod inputs_missing;
 mod no_answer;
 mod refused;
+mod stuck;
 mod unexpected;
 
+pub use data_missing::{missing_outputs_are_shown, missing_outputs_had_their_time};
 pub use faulted::{fault_needs_its_question, faults_are_shown};
+pub use inputs_missing::{missing_inputs_are_shown, missing_inputs_need_each_try};
 pub use no_answer::{late_answers_show_both, silence_is_shown, silence_needs_each_sending};
 pub use refused::{refusals_are_shown, refusals_need_their_request};
+pub use stuck::{stuck_slaves_are_shown, stuck_slaves_had_their_time};
 pub use unexpected::{other_answers_are_shown, other_states_are_shown, targets_are_expected};

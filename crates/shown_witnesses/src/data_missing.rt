@@ -1,0 +1,20 @@
+//! A slave whose outputs do not come.
+
+ghost use Rattle.master_spec.specs.declared.causes.Cause.TheVariants.{DataMissing};
+ghost use Rattle.shown_witnesses.specs.Ends.{single, slave};
+ghost use Rattle.shown_witnesses.specs.Logs.{Tells, ShowsOnly, ShowsNothing};
+ghost use Rattle.shown_witnesses.specs.Phases.{missing_outputs, other_outputs, outputs_awaited, outputs_at_last};
+
+/// First outputs that do not come within a turn after the state that they belong to are shown to be missing.
+/// Those of the next row, of another size, or from before the phase do not count.
+pub fn missing_outputs_are_shown()
+    ensures first { Tells (single 0) missing_outputs (slave 1) 6 (DataMissing 0) }
+    ensures only { ShowsOnly (single 0) missing_outputs (slave 1) 6 (DataMissing 0) }
+    ensures other { Tells (single 0) other_outputs (slave 1) 6 (DataMissing 0) }
+{}
+
+/// Nothing is shown before that turn, nor where they come before it.
+pub fn missing_outputs_had_their_time()
+    ensures awaited { ShowsNothing (single 0) outputs_awaited (slave 1) }
+    ensures came { ShowsNothing (single 0) outputs_at_last (slave 1) }
+{}
