@@ -1,6 +1,9 @@
 pub mod Readings
 pub mod Askings
 pub mod Places
+pub mod Lists
 pub mod Silences
 pub mod FirstPhases
 pub mod LaterPhases
+pub mod Exchanges
+pub mod Unexchanged

@@ -58,7 +58,7 @@ place_in : ℕ → Option Decision → ℕ
 place_in p None = p
 place_in p (Some d) = d.place
 
-one_place : {p q : ℕ} {x y : Answer} (a : Asking) → IsDecided a p x → IsDecided a q y → p ≡ q
+pub one_place : {p q : ℕ} {x y : Answer} (a : Asking) → IsDecided a p x → IsDecided a q y → p ≡ q
 unfolding place_in
 one_place {p} {q} {x} {y} a d e = ap (place_in p) (sym d ∙ e)
 
@@ -66,7 +66,7 @@ pub undecided : {p : ℕ} {x : Answer} (a : Asking) → a.decision ≡ None → 
 undecided a none d = let e = sym none ∙ d in cc
 
 -- the only slave
-only_one : (s t : Slave) (i : ℕ) → slice_get (s ∷ []) i ≡ Some t → s ≡ t
+pub only_one : (s t : Slave) (i : ℕ) → slice_get (s ∷ []) i ≡ Some t → s ≡ t
 only_one s t zero e = cc
 only_one s t (suc i) e = absurd cc
 

@@ -3,3 +3,4 @@ pub mod Logs
 pub mod Silence
 pub mod FirstPhase
 pub mod Phases
+pub mod Whole

@@ -6,6 +6,7 @@
 
 mod data_missing;
 mod faulted;
+mod finished;
 mod inputs_missing;
 mod no_answer;
 mod refused;
@@ -14,6 +15,9 @@ mod unexpected;
 
 pub use data_missing::{missing_outputs_are_shown, missing_outputs_had_their_time};
 pub use faulted::{fault_needs_its_question, faults_are_shown};
+pub use finished::{
+    exchanges_need_their_answers, exchanges_need_their_values, finished_runs_are_exchanged,
+};
 pub use inputs_missing::{missing_inputs_are_shown, missing_inputs_need_each_try};
 pub use no_answer::{late_answers_show_both, silence_is_shown, silence_needs_each_sending};
 pub use refused::{refusals_are_shown, refusals_need_their_request};

@@ -1,0 +1,30 @@
+//! A run that finishes.
+
+ghost use Rattle.master_spec.specs.Exchanged.{AllExchanged};
+ghost use Rattle.master_spec.specs.declared.reports.Report.TheVariants.{Finished};
+ghost use Rattle.shown_witnesses.specs.Ends.{single};
+ghost use Rattle.shown_witnesses.specs.Logs.{IsRun};
+ghost use Rattle.shown_witnesses.specs.Whole.{NotExchanged, whole, only_noticed, asked_too_early, early_values, late_values, not_running, outputs_refused, two_at_once};
+ghost use Rattle.std.specs.Prelude.{reverse};
+
+/// The log of a run of one step that finishes shows that its step is exchanged.
+pub fn finished_runs_are_exchanged()
+    ensures run { IsRun (single 1) whole (Finished 1) }
+    ensures exchanged { AllExchanged (single 1) (reverse whole) }
+{}
+
+/// The step is not exchanged where no answer tells that the slave has computed before its outputs are asked
+/// for, where none tells that it runs again, where its outputs are refused, or where two steps are asked for.
+pub fn exchanges_need_their_answers()
+    ensures noticed { NotExchanged only_noticed }
+    ensures early { NotExchanged asked_too_early }
+    ensures running { NotExchanged not_running }
+    ensures refused { NotExchanged outputs_refused }
+    ensures two { NotExchanged two_at_once }
+{}
+
+/// Nor is it where the values come before that answer, or after the slave was asked to stop.
+pub fn exchanges_need_their_values()
+    ensures early { NotExchanged early_values }
+    ensures late { NotExchanged late_values }
+{}
