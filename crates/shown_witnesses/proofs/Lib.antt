@@ -7,3 +7,4 @@ pub mod FirstPhases
 pub mod LaterPhases
 pub mod Exchanges
 pub mod Unexchanged
+pub mod PairProofs

@@ -4,3 +4,4 @@ pub mod Silence
 pub mod FirstPhase
 pub mod Phases
 pub mod Whole
+pub mod Pairs

@@ -8,6 +8,7 @@ mod data_missing;
 mod faulted;
 mod finished;
 mod inputs_missing;
+mod least;
 mod no_answer;
 mod refused;
 mod stuck;
@@ -19,7 +20,13 @@ pub use finished::{
     exchanges_need_their_answers, exchanges_need_their_values, finished_runs_are_exchanged,
 };
 pub use inputs_missing::{missing_inputs_are_shown, missing_inputs_need_each_try};
+pub use least::{
+    later_ends_of_lesser_slaves_are_named, passed_slaves_are_not_named, signs_of_life_show_nothing,
+    the_least_is_named,
+};
 pub use no_answer::{late_answers_show_both, silence_is_shown, silence_needs_each_sending};
 pub use refused::{refusals_are_shown, refusals_need_their_request};
 pub use stuck::{stuck_slaves_are_shown, stuck_slaves_had_their_time};
-pub use unexpected::{other_answers_are_shown, other_states_are_shown, targets_are_expected};
+pub use unexpected::{
+    falling_back_is_shown, other_answers_are_shown, other_states_are_shown, targets_are_expected,
+};

@@ -1,0 +1,244 @@
+-- Two slaves, of which one or both fail.
+use Rattle.std.proofs.Common.{◌≡◌, ℕ, zero, suc, ◌<◌, ◌≤◌, Option, Some, None, List, [], ◌∷◌, slice_get, refl, arith, reverse, sym, ap, subst, true}
+use Rattle.dcp_types.specs.Values.{digits}
+use Rattle.dcp_ends.specs.declared.entries.LogEntry.{LogEntry}
+use Rattle.pdu_layout.specs.Reading.{message_in, spelling}
+use Rattle.pdu_layout.specs.Fields.{FieldValue}
+use Rattle.pdu_layout.specs.Fields.FieldValue.{Number}
+use Rattle.master_spec.specs.News.{news_of, bytes_of}
+use Rattle.master_spec.specs.Conversation.{reaction}
+use Rattle.master_spec.specs.Course.{step}
+use Rattle.master_spec.specs.Exchanged.{IsIn}
+use Rattle.master_spec.specs.Shown.{Shown, Last, First}
+use Rattle.master_spec.specs.Requests.{Asking}
+use Rattle.master_spec.specs.declared.setups.Slave.{Slave}
+use Rattle.master_spec.specs.declared.setups.Setup.{Setup}
+use Rattle.master_spec.specs.declared.causes.Cause.{Cause}
+use Rattle.master_spec.specs.declared.causes.Cause.TheVariants.{NoAnswer, Stuck, Faulted, Unexpected}
+use Rattle.master_spec.specs.declared.requests.Answer.{Answer}
+use Rattle.master_spec.specs.declared.requests.Answer.TheVariants.{Ack, StateAck, ErrorAck}
+use Rattle.master_spec.specs.declared.tasks.Task.TheVariants as tasks
+use Rattle.master_spec.specs.declared.reports.Report.TheVariants as reports
+use Rattle.shown_witnesses.specs.Ends.{pair, slave}
+use Rattle.shown_witnesses.specs.Logs.{IsRun, Tells, ShowsOnly, ShowsNothing}
+use Rattle.shown_witnesses.specs.Pairs.{both_silent, second_silent, first_faulted, silent_in_setup, fallen_back}
+use Rattle.shown_witnesses.proofs.Askings.{opened, decided, question, change}
+use Rattle.shown_witnesses.proofs.Readings.{by_rows, plain}
+
+-- ---- the slaves of lesser numbers
+
+-- none is before the first
+none_first : (t : Slave) (i : ℕ) → slice_get (slave 1 ∷ slave 2 ∷ []) i ≡ Some t → t.id < 1 → ⊥
+none_first t zero e b = let same : slave 1 ≡ t = cc in let id : 1 ≡ t.id = ap (λ (x : Slave). x.id) same in omega arith
+none_first t (suc zero) e b = let same : slave 2 ≡ t = cc in let id : 2 ≡ t.id = ap (λ (x : Slave). x.id) same in omega arith
+none_first t (suc (suc i)) e b = cc
+
+-- only the first is before the second
+only_first : (t : Slave) (i : ℕ) → slice_get (slave 1 ∷ slave 2 ∷ []) i ≡ Some t → t.id < 2 → slave 1 ≡ t
+only_first t zero e b = cc
+only_first t (suc zero) e b = let same : slave 2 ≡ t = cc in let id : 2 ≡ t.id = ap (λ (x : Slave). x.id) same in absurd (omega arith)
+only_first t (suc (suc i)) e b = absurd cc
+
+tells_first : {turn_limit watch_turns n : ℕ} {log : List LogEntry} {cause : Cause}
+    → IsRun (pair turn_limit watch_turns) log (reports.Failed 1 n cause) → Shown (pair turn_limit watch_turns) (reverse log) (slave 1) n cause
+    → Tells (pair turn_limit watch_turns) log (slave 1) n cause
+tells_first run shown = record { run = run; first = record { is_in = (0, refl); shown = shown; none_before = λ t i b other _. none_first t i.0 i.1 b } }
+
+tells_second : {turn_limit watch_turns n : ℕ} {log : List LogEntry} {cause : Cause}
+    → IsRun (pair turn_limit watch_turns) log (reports.Failed 2 n cause) → Shown (pair turn_limit watch_turns) (reverse log) (slave 2) n cause
+    → ShowsNothing (pair turn_limit watch_turns) log (slave 1) → Tells (pair turn_limit watch_turns) log (slave 2) n cause
+tells_second {turn_limit} {watch_turns} {n} {log} {cause} run shown none = record {
+  run = run;
+  first = record {
+    is_in = (1, refl);
+    shown = shown;
+    none_before = λ t i b other s. none n other (subst (λ t. Shown (pair turn_limit watch_turns) (reverse log) t n other) (sym (only_first t i.0 i.1 b)) s);
+  };
+}
+
+-- ---- neither answers
+
+-- what the first request to a slave holds
+abbrev identity : ℕ → List FieldValue
+identity s = Number 0 ∷ Number s ∷ Number 2 ∷ Number 1 ∷ Number 0 ∷ []
+
+run_both : IsRun (pair 1 2) both_silent (reports.Failed 1 1 (NoAnswer 0))
+unfolding message_in spelling digits news_of bytes_of reaction step
+run_both = record { by_rules = refl; reported = refl; in_time = omega arith }
+
+last_one : Last (pair 1 2) (reverse both_silent) (slave 1) 1 (tasks.Register 1) (opened 1 0 (identity 1) 1) []
+unfolding message_in news_of
+last_one = record { phase = refl; job = ([], refl); last = refl }
+
+last_two : Last (pair 1 2) (reverse both_silent) (slave 2) 1 (tasks.Register 2) (opened 1 0 (identity 2) 2) []
+unfolding message_in news_of
+last_two = record { phase = refl; job = ([], refl); last = refl }
+
+shown_one : Shown (pair 1 2) (reverse both_silent) (slave 1) 1 (NoAnswer 0)
+shown_one = record {
+  task = tasks.Register 1;
+  request = opened 1 0 (identity 1) 1;
+  earlier = [];
+  last = last_one;
+  shown = (refl, record { often = refl; spaced = tt; turns = omega arith; late = tt });
+}
+
+pub shown_two : Shown (pair 1 2) (reverse both_silent) (slave 2) 1 (NoAnswer 0)
+shown_two = record {
+  task = tasks.Register 2;
+  request = opened 1 0 (identity 2) 2;
+  earlier = [];
+  last = last_two;
+  shown = (refl, record { often = refl; spaced = tt; turns = omega arith; late = tt });
+}
+
+pub tells_both : Tells (pair 1 2) both_silent (slave 1) 1 (NoAnswer 0)
+tells_both = tells_first run_both shown_one
+
+pub not_second : First (pair 1 2) (reverse both_silent) (slave 2) 1 (NoAnswer 0) → ⊥
+not_second f = f.none_before (slave 1) (0, refl) (omega arith) (NoAnswer 0) shown_one
+
+-- ---- the second does not answer
+
+run_second : IsRun (pair 1 2) second_silent (reports.Failed 2 1 (NoAnswer 0))
+unfolding message_in spelling digits news_of bytes_of reaction step
+run_second = record { by_rules = refl; reported = refl; in_time = omega arith }
+
+last_passed : Last (pair 1 2) (reverse second_silent) (slave 1) 1 (tasks.Register 1) (question 1 4 5 (StateAck 1)) (decided 1 0 (identity 1) 1 3 Ack ∷ [])
+unfolding message_in news_of
+last_passed = record { phase = refl; job = ([], refl); last = refl }
+
+pub none_passed : ShowsNothing (pair 1 2) second_silent (slave 1)
+none_passed p cause s = (plain (λ _. ⊥) last_passed 5 (StateAck 1) refl (omega arith) refl refl refl (λ c e. cc) (λ c e _. cc) (λ e. cc) p cause s).1
+
+last_silent : Last (pair 1 2) (reverse second_silent) (slave 2) 1 (tasks.Register 2) (opened 1 0 (identity 2) 2) []
+unfolding message_in news_of
+last_silent = record { phase = refl; job = ([], refl); last = refl }
+
+pub tells_silent : Tells (pair 1 2) second_silent (slave 2) 1 (NoAnswer 0)
+tells_silent = tells_second run_second (record {
+  task = tasks.Register 2;
+  request = opened 1 0 (identity 2) 2;
+  earlier = [];
+  last = last_silent;
+  shown = (refl, record { often = refl; spaced = tt; turns = omega arith; late = tt });
+}) none_passed
+
+-- ---- the first tells a fault
+
+run_faulted : IsRun (pair 1 1) first_faulted (reports.Failed 1 1 (Faulted 3 35))
+unfolding message_in spelling digits news_of bytes_of reaction step
+run_faulted = record { by_rules = refl; reported = refl; in_time = omega arith }
+
+abbrev asked : List Asking
+asked = question 2 7 8 (StateAck 18) ∷ question 1 4 5 (StateAck 1) ∷ decided 1 0 (identity 1) 1 3 Ack ∷ []
+
+last_faulted : Last (pair 1 1) (reverse first_faulted) (slave 1) 1 (tasks.Register 1) (decided 129 3 [] 9 10 (ErrorAck 35)) asked
+unfolding message_in news_of
+last_faulted = record { phase = refl; job = ([], refl); last = refl }
+
+pub tells_faulted : Tells (pair 1 1) first_faulted (slave 1) 1 (Faulted 3 35)
+tells_faulted = tells_first run_faulted (record {
+  task = tasks.Register 1;
+  request = decided 129 3 [] 9 10 (ErrorAck 35);
+  earlier = asked;
+  last = last_faulted;
+  shown = (
+    refl,
+    record {
+      asks_error = refl;
+      place = 10;
+      told = refl;
+      question = question 2 7 8 (StateAck 18);
+      before = (question 1 4 5 (StateAck 1) ∷ decided 1 0 (identity 1) 1 3 Ack ∷ [], refl);
+      asked_state = refl;
+      state = 18;
+      at = 8;
+      named = refl;
+      error = refl;
+    },
+  );
+})
+
+last_other : Last (pair 1 1) (reverse first_faulted) (slave 2) 1 (tasks.Register 2) (opened 1 0 (identity 2) 2) []
+unfolding message_in news_of
+last_other = record { phase = refl; job = ([], refl); last = refl }
+
+pub shown_other : Shown (pair 1 1) (reverse first_faulted) (slave 2) 1 (NoAnswer 0)
+shown_other = record {
+  task = tasks.Register 2;
+  request = opened 1 0 (identity 2) 2;
+  earlier = [];
+  last = last_other;
+  shown = (refl, record { often = refl; spaced = tt; turns = omega arith; late = tt });
+}
+
+-- ---- the second is silent while it is configured
+
+run_setup : IsRun (pair 3 1) silent_in_setup (reports.Failed 2 2 (NoAnswer 2))
+unfolding message_in spelling digits news_of bytes_of reaction step
+run_setup = record { by_rules = refl; reported = refl; in_time = omega arith }
+
+last_setup : (e : List Asking) × Last (pair 3 1) (reverse silent_in_setup) (slave 1) 2 tasks.Setup (question 5 20 21 (StateAck 1)) e
+unfolding message_in news_of
+last_setup = (question 4 17 18 (StateAck 1) ∷ question 3 14 15 (StateAck 1) ∷ decided 36 2 [] 10 12 Ack ∷ question 1 4 5 (StateAck 1) ∷ [], record { phase = refl; job = (_, refl); last = refl })
+
+pub none_setup : ShowsNothing (pair 3 1) silent_in_setup (slave 1)
+none_setup p cause s = (plain (λ _. ⊥) last_setup.1 21 (StateAck 1) refl (omega arith) refl refl refl (λ c e. cc) (λ c e _. cc) (λ e. cc) p cause s).1
+
+last_cleared : Last (pair 3 1) (reverse silent_in_setup) (slave 2) 2 tasks.Setup (opened 36 2 [] 11) (question 1 7 8 (StateAck 1) ∷ [])
+unfolding message_in news_of
+last_cleared = record { phase = refl; job = (_, refl); last = refl }
+
+pub tells_setup : Tells (pair 3 1) silent_in_setup (slave 2) 2 (NoAnswer 2)
+tells_setup = tells_second run_setup (record {
+  task = tasks.Setup;
+  request = opened 36 2 [] 11;
+  earlier = question 1 7 8 (StateAck 1) ∷ [];
+  last = last_cleared;
+  shown = (refl, record { often = refl; spaced = tt; turns = omega arith; late = tt });
+}) none_setup
+
+-- ---- the first falls back
+
+run_back : IsRun (pair 3 1) fallen_back (reports.Failed 1 3 (Unexpected 5 178 2))
+unfolding message_in spelling digits news_of bytes_of reaction step
+run_back = record { by_rules = refl; reported = refl; in_time = omega arith }
+
+abbrev went : List Asking
+went = question 4 19 20 (StateAck 3) ∷ change 3 3 1 15 17 Ack ∷ []
+
+last_back : Last (pair 3 1) (reverse fallen_back) (slave 1) 3 tasks.Prepare (question 5 22 23 (StateAck 2)) went
+unfolding message_in news_of
+last_back = record { phase = refl; job = ([], refl); last = refl }
+
+pub tells_back : Tells (pair 3 1) fallen_back (slave 1) 3 (Unexpected 5 178 2)
+tells_back = tells_first run_back (record {
+  task = tasks.Prepare;
+  request = question 5 22 23 (StateAck 2);
+  earlier = went;
+  last = last_back;
+  shown = (refl, record { place = 23; answer = StateAck 2; told = refl; type_is = refl; state_is = refl; unfit = refl });
+})
+
+pub stuck_too : Shown (pair 3 1) (reverse fallen_back) (slave 1) 3 (Stuck 5 2)
+stuck_too = record {
+  task = tasks.Prepare;
+  request = question 5 22 23 (StateAck 2);
+  earlier = went;
+  last = last_back;
+  shown = (
+    refl,
+    record {
+      asks_state = refl;
+      place = 23;
+      told = refl;
+      passing = refl;
+      request = change 3 3 1 15 17 Ack;
+      request_is = refl;
+      acked = 17;
+      request_done = refl;
+      late = omega arith;
+    },
+  );
+}
