@@ -8,3 +8,4 @@ pub mod LaterPhases
 pub mod Exchanges
 pub mod Unexchanged
 pub mod PairProofs
+pub mod RunProofs

@@ -1,5 +1,5 @@
 -- The ends of the small runs, and what stands in their logs.
-use Rattle.std.specs.Prelude.{ℕ, ◌+◌, List, [], ◌∷◌}
+use Rattle.std.specs.Prelude.{ℕ, pos, ◌+◌, List, [], ◌∷◌}
 use Rattle.dcp_types.specs.declared.addresses.Address.{Address}
 use Rattle.dcp_types.specs.declared.limits.Limits.{Limits}
 use Rattle.dcp_types.specs.declared.data_types.DataType.TheVariants as types
@@ -33,6 +33,16 @@ single steps = record { address = master; limits = limits 1 2 1; steps = steps; 
 abbrev pub pair : (turn_limit watch_turns : ℕ) → Setup
 pair turn_limit watch_turns = record { address = master; limits = limits turn_limit 1 watch_turns; steps = 0; runs = 1; slaves = slave 1 ∷ slave 2 ∷ [] }
 
+-- two runs of one step with one slave, of which a parameter is set between them
+abbrev pub twice : Setup
+twice = record {
+  address = master;
+  limits = limits 1 2 1;
+  steps = 1;
+  runs = 2;
+  slaves = record (slave 1) { script = record { uuid = 1; setup = cfg.Clear ∷ []; adjusts = (cfg.Parameter 0 types.I64 (pos 5) ∷ []) ∷ [] } } ∷ [];
+}
+
 -- ---- entries: what the master sent to slave s and got from it
 
 abbrev pub turn : LogEntry
@@ -53,9 +63,13 @@ registered s = sent s (1 ∷ 0 ∷ 0 ∷ s ∷ 0 ∷ 0 ∷ 0 ∷ 0 ∷ 0 ∷ 0 �
 abbrev pub cleared : (s number : ℕ) → LogEntry
 cleared s number = sent s (36 ∷ number ∷ 0 ∷ s ∷ [])
 
--- a state request by its code: 3 prepare, 4 configure, 5 initialize, 8 send outputs, 9 stop, 2 deregister; state is the code of the state that it names
+-- a state request by its code: 3 prepare, 4 configure, 5 initialize, 8 send outputs, 9 stop, 10 reset, 2 deregister; state is the code of the state that it names
 abbrev pub changed : (s code number state : ℕ) → LogEntry
 changed s code number state = sent s (code ∷ number ∷ 0 ∷ s ∷ state ∷ [])
+
+-- parameter 0 is set to a number
+abbrev pub adjusted : (s number value : ℕ) → LogEntry
+adjusted s number value = sent s (39 ∷ number ∷ 0 ∷ s ∷ 0 ∷ 0 ∷ 0 ∷ 0 ∷ 0 ∷ 0 ∷ 0 ∷ 0 ∷ 7 ∷ value ∷ 0 ∷ 0 ∷ 0 ∷ 0 ∷ 0 ∷ 0 ∷ 0 ∷ [])
 
 -- the start, at time 0, in CONFIGURED
 abbrev pub started : (s number : ℕ) → LogEntry

@@ -4,4 +4,6 @@ pub mod Silence
 pub mod FirstPhase
 pub mod Phases
 pub mod Whole
+pub mod Runs
 pub mod Pairs
+pub mod Long

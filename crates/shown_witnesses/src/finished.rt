@@ -2,8 +2,9 @@
 
 ghost use Rattle.master_spec.specs.Exchanged.{AllExchanged};
 ghost use Rattle.master_spec.specs.declared.reports.Report.TheVariants.{Finished};
-ghost use Rattle.shown_witnesses.specs.Ends.{single};
+ghost use Rattle.shown_witnesses.specs.Ends.{single, twice};
 ghost use Rattle.shown_witnesses.specs.Logs.{IsRun};
+ghost use Rattle.shown_witnesses.specs.Runs.{NotAllExchanged, two_runs, not_reset, reset_refused, prepared_too_early};
 ghost use Rattle.shown_witnesses.specs.Whole.{NotExchanged, whole, only_noticed, asked_too_early, early_values, late_values, not_running, outputs_refused, two_at_once};
 ghost use Rattle.std.specs.Prelude.{reverse};
 
@@ -27,4 +28,18 @@ pub fn exchanges_need_their_answers()
 pub fn exchanges_need_their_values()
     ensures early { NotExchanged early_values }
     ensures late { NotExchanged late_values }
+{}
+
+/// The log of two runs that finish shows that the step of each is exchanged, and that the slave is reset
+/// between them.
+pub fn finished_runs_are_separate()
+    ensures run { IsRun twice two_runs (Finished 1) }
+    ensures exchanged { AllExchanged twice (reverse two_runs) }
+{}
+
+/// It does not where the slave is not reset, where its reset is refused, or where it is prepared before.
+pub fn runs_need_their_reset()
+    ensures missing { NotAllExchanged not_reset }
+    ensures refused { NotAllExchanged reset_refused }
+    ensures early { NotAllExchanged prepared_too_early }
 {}

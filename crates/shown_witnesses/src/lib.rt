@@ -4,6 +4,7 @@
 //! has by its rules the cause that it reports is shown, and it is not shown on a log that lacks one thing.
 #![tactic(auto)]
 
+mod bounds;
 mod data_missing;
 mod faulted;
 mod finished;
@@ -14,6 +15,7 @@ mod refused;
 mod stuck;
 mod unexpected;
 
+pub use bounds::{small_bound, usual_bound};
 pub use data_missing::{missing_outputs_are_shown, missing_outputs_had_their_time};
 pub use faulted::{fault_needs_its_question, faults_are_shown};
 pub use finished::{

@@ -1,0 +1,278 @@
+-- Two runs of one registration.
+use Rattle.std.proofs.Common.{◌≡◌, ℕ, zero, suc, cond, ◌+◌, ◌<◌, ◌≤◌, ◌==◌, ◌&&◌, ◌||◌, not, nat_lt, Bool, true, false, IsTrue, Option, Some, None, pos, List, [], ◌∷◌, refl, arith, reverse, sym, ap, ◌∙◌, subst, slice_get}
+use Rattle.std.specs.List.{list_all, list_any}
+use Rattle.std.proofs.lemmas.Bool.Decides.{nat_tests}
+use Rattle.dcp_types.specs.Values.{digits}
+use Rattle.dcp_ends.specs.declared.entries.LogEntry.{LogEntry}
+use Rattle.pdu_layout.specs.Reading.{message_in, spelling}
+use Rattle.pdu_layout.specs.Fields.FieldValue.{Number, Signed}
+use Rattle.pdu_layout.specs.declared.messages.Cfg.TheVariants as cfg
+use Rattle.dcp_types.specs.declared.data_types.DataType.TheVariants as types
+use Rattle.master_spec.specs.News.{news_of, bytes_of}
+use Rattle.master_spec.specs.Conversation.{reaction}
+use Rattle.master_spec.specs.Course.{step}
+use Rattle.master_spec.specs.Exchanged.{IsIn, IsDecided, Brings, Exchange, Exchanged, AllExchanged, IsBetween, in_order, in_run, nth_of}
+use Rattle.master_spec.specs.Requests.{Asking, is_prepare, is_step, is_stop, is_reset, is_outputs, is_acked, is_state_question}
+use Rattle.master_spec.specs.declared.requests.Answer.TheVariants.{Ack, Nack, StateAck}
+use Rattle.master_spec.specs.declared.reports.Report.TheVariants as reports
+use Rattle.master_spec.specs.declared.setups.Slave.{Slave}
+use Rattle.shown_witnesses.specs.Ends.{slave, twice, brought}
+use Rattle.shown_witnesses.specs.Logs.{IsRun}
+use Rattle.shown_witnesses.specs.Runs.{NotAllExchanged, two_runs, not_reset, reset_refused, prepared_too_early}
+use Rattle.shown_witnesses.proofs.Askings.{decided, question, change}
+use Rattle.shown_witnesses.proofs.Readings.{only_one, one_answer, one_place}
+use Rattle.shown_witnesses.proofs.Lists.{each_passes, none_passes}
+
+pub run_twice : IsRun twice two_runs (reports.Finished 1)
+unfolding message_in spelling digits news_of bytes_of reaction step
+run_twice = record { by_rules = refl; reported = refl; in_time = omega arith }
+
+abbrev the_slave : Slave
+the_slave = record { id = 1; address = (slave 1).address; types = (slave 1).types; script = record { uuid = 1; setup = cfg.Clear ∷ []; adjusts = (cfg.Parameter 0 types.I64 (pos 5) ∷ []) ∷ [] } }
+
+-- ---- the first run
+
+abbrev stepped_1 : Asking
+stepped_1 = decided 7 13 (Number 11 ∷ Number 1 ∷ []) 40 41 Ack
+
+abbrev computed_1 : Asking
+computed_1 = question 14 43 44 (StateAck 13)
+
+abbrev asked_1 : Asking
+asked_1 = change 8 15 13 46 47 Ack
+
+abbrev running_1 : Asking
+running_1 = question 16 50 51 (StateAck 11)
+
+abbrev Facts_1 : Slave → Type 0
+Facts_1 s =
+    (nth_of (λ a. is_step a && is_acked a) 1 (in_run twice (reverse two_runs) s 1) ≡ Some stepped_1)
+    × (slice_get (in_run twice (reverse two_runs) s 1) 2 ≡ Some computed_1)
+    × (nth_of is_outputs 1 (in_run twice (reverse two_runs) s 1) ≡ Some asked_1)
+    × (slice_get (in_run twice (reverse two_runs) s 1) 4 ≡ Some running_1)
+    × Brings twice (reverse two_runs) s 1 48
+
+facts_1 : Facts_1 the_slave
+unfolding message_in news_of
+facts_1 = (refl, refl, refl, refl, (brought 1 1 8, refl, refl))
+
+abbrev exchange_1 : (s : Slave) → IsIn twice s → Exchange twice (reverse two_runs) s 1 1
+exchange_1 s i =
+    let f = subst Facts_1 (only_one the_slave s i.0 i.1) facts_1 in
+    record {
+      step = stepped_1;
+      stepped = 41;
+      computed = computed_1;
+      told_computed = 44;
+      outputs = asked_1;
+      sent = 47;
+      running = running_1;
+      told_running = 51;
+      came = 48;
+      step_is = f.0;
+      single = refl;
+      step_done = refl;
+      computed_is = (2, f.1, refl);
+      computed_done = refl;
+      outputs_is = f.2;
+      outputs_done = refl;
+      running_is = (4, f.3, refl);
+      running_done = refl;
+      brought = f.4;
+      first = omega arith;
+      second = omega arith;
+      third = omega arith;
+      fourth = omega arith;
+    }
+
+-- a step or a stop after the outputs comes after the end of the exchange
+abbrev is_behind_1 : Asking → Bool
+is_behind_1 a = not ((is_step a || is_stop a) && nat_lt 46 a.first) || (nat_lt 51 a.first && nat_lt 48 a.first)
+
+all_behind_1 : list_all is_behind_1 (in_order twice (reverse two_runs) the_slave) ≡ true
+unfolding message_in news_of
+all_behind_1 = refl
+
+behind_1 : (a : Asking) → is_behind_1 a ≡ true → IsTrue (is_step a || is_stop a) → 46 < a.first → (51 < a.first) × (48 < a.first)
+behind_1 a h k b = (grind (arith, nat_tests), grind (arith, nat_tests))
+
+later_1 : (t : Slave) → IsIn twice t → (a : Asking) (n : ℕ) → slice_get (in_order twice (reverse two_runs) t) n ≡ Some a
+    → IsTrue (is_step a || is_stop a) → 46 < a.first → (51 < a.first) × (48 < a.first)
+later_1 t i a n e k b =
+    let here = subst (λ s. list_all is_behind_1 (in_order twice (reverse two_runs) s) ≡ true) (only_one the_slave t i.0 i.1) all_behind_1 in
+    behind_1 a (each_passes is_behind_1 (in_order twice (reverse two_runs) t) n a here e) k b
+
+abbrev exchanged_1 : Exchanged twice (reverse two_runs) 1 1
+exchanged_1 = record { each = exchange_1; computed = λ s t i j. omega arith; sent = λ s t i j a n e k b. later_1 t j a n e k b }
+
+-- ---- the second run
+
+abbrev stepped_2 : Asking
+stepped_2 = decided 7 32 (Number 11 ∷ Number 1 ∷ []) 98 99 Ack
+
+abbrev computed_2 : Asking
+computed_2 = question 33 101 102 (StateAck 13)
+
+abbrev asked_2 : Asking
+asked_2 = change 8 34 13 104 105 Ack
+
+abbrev running_2 : Asking
+running_2 = question 35 108 109 (StateAck 11)
+
+abbrev Facts_2 : Slave → Type 0
+Facts_2 s =
+    (nth_of (λ a. is_step a && is_acked a) 1 (in_run twice (reverse two_runs) s 2) ≡ Some stepped_2)
+    × (slice_get (in_run twice (reverse two_runs) s 2) 2 ≡ Some computed_2)
+    × (nth_of is_outputs 1 (in_run twice (reverse two_runs) s 2) ≡ Some asked_2)
+    × (slice_get (in_run twice (reverse two_runs) s 2) 4 ≡ Some running_2)
+    × Brings twice (reverse two_runs) s 3 106
+
+facts_2 : Facts_2 the_slave
+unfolding message_in news_of
+facts_2 = (refl, refl, refl, refl, (brought 1 3 8, refl, refl))
+
+abbrev exchange_2 : (s : Slave) → IsIn twice s → Exchange twice (reverse two_runs) s 2 1
+exchange_2 s i =
+    let f = subst Facts_2 (only_one the_slave s i.0 i.1) facts_2 in
+    record {
+      step = stepped_2;
+      stepped = 99;
+      computed = computed_2;
+      told_computed = 102;
+      outputs = asked_2;
+      sent = 105;
+      running = running_2;
+      told_running = 109;
+      came = 106;
+      step_is = f.0;
+      single = refl;
+      step_done = refl;
+      computed_is = (2, f.1, refl);
+      computed_done = refl;
+      outputs_is = f.2;
+      outputs_done = refl;
+      running_is = (4, f.3, refl);
+      running_done = refl;
+      brought = f.4;
+      first = omega arith;
+      second = omega arith;
+      third = omega arith;
+      fourth = omega arith;
+    }
+
+-- a step or a stop after the outputs comes after the end of the exchange
+abbrev is_behind_2 : Asking → Bool
+is_behind_2 a = not ((is_step a || is_stop a) && nat_lt 104 a.first) || (nat_lt 109 a.first && nat_lt 106 a.first)
+
+all_behind_2 : list_all is_behind_2 (in_order twice (reverse two_runs) the_slave) ≡ true
+unfolding message_in news_of
+all_behind_2 = refl
+
+behind_2 : (a : Asking) → is_behind_2 a ≡ true → IsTrue (is_step a || is_stop a) → 104 < a.first → (109 < a.first) × (106 < a.first)
+behind_2 a h k b = (grind (arith, nat_tests), grind (arith, nat_tests))
+
+later_2 : (t : Slave) → IsIn twice t → (a : Asking) (n : ℕ) → slice_get (in_order twice (reverse two_runs) t) n ≡ Some a
+    → IsTrue (is_step a || is_stop a) → 104 < a.first → (109 < a.first) × (106 < a.first)
+later_2 t i a n e k b =
+    let here = subst (λ s. list_all is_behind_2 (in_order twice (reverse two_runs) s) ≡ true) (only_one the_slave t i.0 i.1) all_behind_2 in
+    behind_2 a (each_passes is_behind_2 (in_order twice (reverse two_runs) t) n a here e) k b
+
+abbrev exchanged_2 : Exchanged twice (reverse two_runs) 2 1
+exchanged_2 = record { each = exchange_2; computed = λ s t i j. omega arith; sent = λ s t i j a n e k b. later_2 t j a n e k b }
+
+-- ---- between the runs
+
+abbrev stop : Asking
+stop = change 9 17 11 53 54 Ack
+
+abbrev reset : Asking
+reset = change 10 19 16 59 60 Ack
+
+stops : nth_of is_stop 1 (in_order twice (reverse two_runs) the_slave) ≡ Some stop
+unfolding message_in news_of
+stops = refl
+
+resets : nth_of is_reset 1 (in_order twice (reverse two_runs) the_slave) ≡ Some reset
+unfolding message_in news_of
+resets = refl
+
+prepares : nth_of is_prepare 2 (in_order twice (reverse two_runs) the_slave) ≡ Some (change 3 22 1 67 68 Ack)
+unfolding message_in news_of
+prepares = refl
+
+prepared_behind : (t : Slave) → IsIn twice t → (a : Asking) → nth_of is_prepare 2 (in_order twice (reverse two_runs) t) ≡ Some a → 60 < a.first
+prepared_behind t i a e =
+    let here = subst (λ s. nth_of is_prepare 2 (in_order twice (reverse two_runs) s) ≡ Some (change 3 22 1 67 68 Ack)) (only_one the_slave t i.0 i.1) prepares in
+    let both : Some (change 3 22 1 67 68 Ack) ≡ Some a = sym here ∙ e in
+    let same : change 3 22 1 67 68 Ack ≡ a = cc in
+    subst (λ a. 60 < a.first) same (omega arith)
+
+between_runs : IsBetween twice (reverse two_runs) 1
+between_runs = record {
+  stop = λ s. stop;
+  reset = λ s. reset;
+  stopped = λ s. 54;
+  done = λ s. 60;
+  stop_is = λ s i. subst (λ s. nth_of is_stop 1 (in_order twice (reverse two_runs) s) ≡ Some stop) (only_one the_slave s i.0 i.1) stops;
+  stop_done = λ s i. refl;
+  reset_is = λ s i. subst (λ s. nth_of is_reset 1 (in_order twice (reverse two_runs) s) ≡ Some reset) (only_one the_slave s i.0 i.1) resets;
+  reset_done = λ s i. refl;
+  after = λ s i. omega arith;
+  before = λ s t i j a e. prepared_behind t j a e;
+}
+
+exchanged_in : (r k : ℕ) → 1 ≤ r → r ≤ 2 → 1 ≤ k → k ≤ 1 → Exchanged twice (reverse two_runs) r k
+exchanged_in (suc zero) (suc zero) a b c d = exchanged_1
+exchanged_in (suc (suc zero)) (suc zero) a b c d = exchanged_2
+exchanged_in zero k a b c d = absurd (omega arith)
+exchanged_in (suc (suc (suc r))) k a b c d = absurd (omega arith)
+exchanged_in (suc r) zero a b c d = absurd (omega arith)
+exchanged_in (suc r) (suc (suc k)) a b c d = absurd (omega arith)
+
+between_in : (r : ℕ) → 1 ≤ r → r < 2 → IsBetween twice (reverse two_runs) r
+between_in r a b = let one : 1 ≡ r = omega arith in subst (IsBetween twice (reverse two_runs)) one between_runs
+
+pub all_twice : AllExchanged twice (reverse two_runs)
+all_twice = record { steps = exchanged_in; in_turn = λ r k a b c d e f. absurd (omega arith); between = between_in }
+
+-- ---- runs that lack a reset
+
+the_between : (log : List LogEntry) → AllExchanged twice (reverse log) → IsBetween twice (reverse log) 1
+the_between log x = x.between 1 (omega arith) (omega arith)
+
+none_reset : nth_of is_reset 1 (in_order twice (reverse not_reset) the_slave) ≡ None
+unfolding message_in news_of
+none_reset = refl
+
+pub not_reset_not : NotAllExchanged not_reset
+not_reset_not x =
+    let b = the_between not_reset x in
+    let e : None ≡ Some (b.reset the_slave) = sym none_reset ∙ b.reset_is the_slave (0, refl) in cc
+
+reset_and_refused : nth_of is_reset 1 (in_order twice (reverse reset_refused) the_slave) ≡ Some (change 10 19 16 59 60 (Nack 2))
+unfolding message_in news_of
+reset_and_refused = refl
+
+pub refused_not : NotAllExchanged reset_refused
+refused_not x =
+    let b = the_between reset_refused x in
+    let e : Some (change 10 19 16 59 60 (Nack 2)) ≡ Some (b.reset the_slave) = sym reset_and_refused ∙ b.reset_is the_slave (0, refl) in
+    let same : change 10 19 16 59 60 (Nack 2) ≡ b.reset the_slave = cc in
+    let told : Nack 2 ≡ Ack = one_answer (b.reset the_slave) (subst (λ a. IsDecided a 60 (Nack 2)) same refl) (b.reset_done the_slave (0, refl)) in cc
+
+reset_at_last : nth_of is_reset 1 (in_order twice (reverse prepared_too_early) the_slave) ≡ Some (change 10 35 16 109 110 Ack)
+unfolding message_in news_of
+reset_at_last = refl
+
+prepared_before : nth_of is_prepare 2 (in_order twice (reverse prepared_too_early) the_slave) ≡ Some (change 3 19 1 59 60 Ack)
+unfolding message_in news_of
+prepared_before = refl
+
+pub too_early_not : NotAllExchanged prepared_too_early
+too_early_not x =
+    let b = the_between prepared_too_early x in
+    let e : Some (change 10 35 16 109 110 Ack) ≡ Some (b.reset the_slave) = sym reset_at_last ∙ b.reset_is the_slave (0, refl) in
+    let same : change 10 35 16 109 110 Ack ≡ b.reset the_slave = cc in
+    let place : 110 ≡ b.done the_slave = one_place (b.reset the_slave) (subst (λ a. IsDecided a 110 Ack) same refl) (b.reset_done the_slave (0, refl)) in
+    let order = b.before the_slave the_slave (0, refl) (0, refl) (change 3 19 1 59 60 Ack) prepared_before in
+    omega arith
