@@ -11,7 +11,7 @@ use Rattle.master_spec.specs.Marks.{is_missing}
 use Rattle.master_spec.specs.Course.{step}
 use Rattle.master_spec.specs.Shown.{Shown, Last, IsStuck, MissesInputs, MissesOutputs, IsMissing}
 use Rattle.master_spec.specs.Exchanged.{IsDecided, Brings}
-use Rattle.master_spec.specs.Requests.{Asking, brings_outputs}
+use Rattle.master_spec.specs.Requests.{Asking, brings_outputs, turns_between}
 use Rattle.master_spec.specs.declared.causes.Cause.{Cause}
 use Rattle.master_spec.specs.declared.causes.Cause.TheVariants.{NoAnswer, Refused, InputsMissing, DataMissing, Stuck, Faulted, Unexpected}
 use Rattle.master_spec.specs.declared.requests.Answer.{Answer}
@@ -21,7 +21,7 @@ use Rattle.master_spec.specs.declared.tasks.Task.TheVariants as tasks
 use Rattle.master_spec.specs.declared.reports.Report.TheVariants as reports
 use Rattle.shown_witnesses.specs.Ends.{single, slave, master, brought}
 use Rattle.shown_witnesses.specs.Logs.{IsRun, Tells, ShowsOnly, ShowsNothing}
-use Rattle.shown_witnesses.specs.Phases.{stuck, asked_at_once, prepared_at_last, missing_outputs, other_outputs, outputs_awaited, outputs_at_last, missing_inputs, refused_once, refused_otherwise}
+use Rattle.shown_witnesses.specs.Phases.{stuck, asked_at_once, prepared_at_last, missing_outputs, other_outputs, late_outputs, outputs_awaited, outputs_at_last, missing_inputs, refused_once, refused_otherwise}
 use Rattle.shown_witnesses.proofs.Askings.{opened, decided, question, change}
 use Rattle.shown_witnesses.proofs.Readings.{one_answer, by_rows, tells_of, late_by, awaited, came_late}
 use Rattle.shown_witnesses.proofs.Places.{places, IsAmong, brought_at}
@@ -210,6 +210,49 @@ tells_other = tells_of run_other (record {
     request = change 8 9 7 28 30 Ack;
     request_is = refl;
     missing = λ i b h. absurd (other_here i b h);
+  };
+})
+
+run_late : IsRun (single 0) late_outputs (reports.Failed 1 6 (DataMissing 0))
+unfolding message_in spelling digits news_of bytes_of reaction step
+run_late = record { by_rules = refl; reported = refl; in_time = omega arith }
+
+last_late : Last (single 0) (reverse late_outputs) (slave 1) 6 outputs home sending
+unfolding message_in news_of
+last_late = record { phase = refl; job = ([], refl); last = refl }
+
+late_came : places (brings_outputs master (slave 1) 0 1) 0 late_outputs ≡ 33 ∷ []
+unfolding message_in news_of
+late_came = refl
+
+after_turn : (i : ℕ) → IsAmong (33 ∷ []) i → 33 ≡ i
+after_turn i (inl e) = e
+after_turn i (inr h) = absurd h
+
+late_here : (i : ℕ) → Brings (single 0) (reverse late_outputs) (slave 1) 0 i → 1 ≤ turns_between master (reverse late_outputs) 31 i
+late_here i h =
+    let at : 33 ≡ i = after_turn i (subst (λ ps. IsAmong ps i) late_came (brought_at (single 0) (reverse late_outputs) (slave 1) 0 i h)) in
+    subst (λ i. 1 ≤ turns_between master (reverse late_outputs) 31 i) at (omega arith)
+
+pub tells_late : Tells (single 0) late_outputs (slave 1) 6 (DataMissing 0)
+tells_late = tells_of run_late (record {
+  task = outputs;
+  request = home;
+  earlier = sending;
+  last = last_late;
+  shown = record {
+    row = 0;
+    row_is = refl;
+    step = refl;
+    asks_state = refl;
+    place = 31;
+    state = 5;
+    told = refl;
+    target = refl;
+    turns = omega arith;
+    request = change 8 9 7 27 28 Ack;
+    request_is = refl;
+    missing = λ i b h. late_here i h;
   };
 })
 

@@ -9,3 +9,4 @@ pub mod Exchanges
 pub mod Unexchanged
 pub mod PairProofs
 pub mod RunProofs
+pub mod TogetherProofs

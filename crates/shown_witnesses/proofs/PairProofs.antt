@@ -40,19 +40,19 @@ only_first t (suc zero) e b = let same : slave 2 ≡ t = cc in let id : 2 ≡ t.
 only_first t (suc (suc i)) e b = absurd cc
 
 tells_first : {turn_limit watch_turns n : ℕ} {log : List LogEntry} {cause : Cause}
-    → IsRun (pair turn_limit watch_turns) log (reports.Failed 1 n cause) → Shown (pair turn_limit watch_turns) (reverse log) (slave 1) n cause
-    → Tells (pair turn_limit watch_turns) log (slave 1) n cause
+    → IsRun (pair turn_limit watch_turns 0) log (reports.Failed 1 n cause) → Shown (pair turn_limit watch_turns 0) (reverse log) (slave 1) n cause
+    → Tells (pair turn_limit watch_turns 0) log (slave 1) n cause
 tells_first run shown = record { run = run; first = record { is_in = (0, refl); shown = shown; none_before = λ t i b other _. none_first t i.0 i.1 b } }
 
 tells_second : {turn_limit watch_turns n : ℕ} {log : List LogEntry} {cause : Cause}
-    → IsRun (pair turn_limit watch_turns) log (reports.Failed 2 n cause) → Shown (pair turn_limit watch_turns) (reverse log) (slave 2) n cause
-    → ShowsNothing (pair turn_limit watch_turns) log (slave 1) → Tells (pair turn_limit watch_turns) log (slave 2) n cause
+    → IsRun (pair turn_limit watch_turns 0) log (reports.Failed 2 n cause) → Shown (pair turn_limit watch_turns 0) (reverse log) (slave 2) n cause
+    → ShowsNothing (pair turn_limit watch_turns 0) log (slave 1) → Tells (pair turn_limit watch_turns 0) log (slave 2) n cause
 tells_second {turn_limit} {watch_turns} {n} {log} {cause} run shown none = record {
   run = run;
   first = record {
     is_in = (1, refl);
     shown = shown;
-    none_before = λ t i b other s. none n other (subst (λ t. Shown (pair turn_limit watch_turns) (reverse log) t n other) (sym (only_first t i.0 i.1 b)) s);
+    none_before = λ t i b other s. none n other (subst (λ t. Shown (pair turn_limit watch_turns 0) (reverse log) t n other) (sym (only_first t i.0 i.1 b)) s);
   };
 }
 
@@ -62,19 +62,19 @@ tells_second {turn_limit} {watch_turns} {n} {log} {cause} run shown none = recor
 abbrev identity : ℕ → List FieldValue
 identity s = Number 0 ∷ Number s ∷ Number 2 ∷ Number 1 ∷ Number 0 ∷ []
 
-run_both : IsRun (pair 1 2) both_silent (reports.Failed 1 1 (NoAnswer 0))
+run_both : IsRun (pair 1 2 0) both_silent (reports.Failed 1 1 (NoAnswer 0))
 unfolding message_in spelling digits news_of bytes_of reaction step
 run_both = record { by_rules = refl; reported = refl; in_time = omega arith }
 
-last_one : Last (pair 1 2) (reverse both_silent) (slave 1) 1 (tasks.Register 1) (opened 1 0 (identity 1) 1) []
+last_one : Last (pair 1 2 0) (reverse both_silent) (slave 1) 1 (tasks.Register 1) (opened 1 0 (identity 1) 1) []
 unfolding message_in news_of
 last_one = record { phase = refl; job = ([], refl); last = refl }
 
-last_two : Last (pair 1 2) (reverse both_silent) (slave 2) 1 (tasks.Register 2) (opened 1 0 (identity 2) 2) []
+last_two : Last (pair 1 2 0) (reverse both_silent) (slave 2) 1 (tasks.Register 2) (opened 1 0 (identity 2) 2) []
 unfolding message_in news_of
 last_two = record { phase = refl; job = ([], refl); last = refl }
 
-shown_one : Shown (pair 1 2) (reverse both_silent) (slave 1) 1 (NoAnswer 0)
+shown_one : Shown (pair 1 2 0) (reverse both_silent) (slave 1) 1 (NoAnswer 0)
 shown_one = record {
   task = tasks.Register 1;
   request = opened 1 0 (identity 1) 1;
@@ -83,7 +83,7 @@ shown_one = record {
   shown = (refl, record { often = refl; spaced = tt; turns = omega arith; late = tt });
 }
 
-pub shown_two : Shown (pair 1 2) (reverse both_silent) (slave 2) 1 (NoAnswer 0)
+pub shown_two : Shown (pair 1 2 0) (reverse both_silent) (slave 2) 1 (NoAnswer 0)
 shown_two = record {
   task = tasks.Register 2;
   request = opened 1 0 (identity 2) 2;
@@ -92,30 +92,30 @@ shown_two = record {
   shown = (refl, record { often = refl; spaced = tt; turns = omega arith; late = tt });
 }
 
-pub tells_both : Tells (pair 1 2) both_silent (slave 1) 1 (NoAnswer 0)
+pub tells_both : Tells (pair 1 2 0) both_silent (slave 1) 1 (NoAnswer 0)
 tells_both = tells_first run_both shown_one
 
-pub not_second : First (pair 1 2) (reverse both_silent) (slave 2) 1 (NoAnswer 0) → ⊥
+pub not_second : First (pair 1 2 0) (reverse both_silent) (slave 2) 1 (NoAnswer 0) → ⊥
 not_second f = f.none_before (slave 1) (0, refl) (omega arith) (NoAnswer 0) shown_one
 
 -- ---- the second does not answer
 
-run_second : IsRun (pair 1 2) second_silent (reports.Failed 2 1 (NoAnswer 0))
+run_second : IsRun (pair 1 2 0) second_silent (reports.Failed 2 1 (NoAnswer 0))
 unfolding message_in spelling digits news_of bytes_of reaction step
 run_second = record { by_rules = refl; reported = refl; in_time = omega arith }
 
-last_passed : Last (pair 1 2) (reverse second_silent) (slave 1) 1 (tasks.Register 1) (question 1 4 5 (StateAck 1)) (decided 1 0 (identity 1) 1 3 Ack ∷ [])
+last_passed : Last (pair 1 2 0) (reverse second_silent) (slave 1) 1 (tasks.Register 1) (question 1 4 5 (StateAck 1)) (decided 1 0 (identity 1) 1 3 Ack ∷ [])
 unfolding message_in news_of
 last_passed = record { phase = refl; job = ([], refl); last = refl }
 
-pub none_passed : ShowsNothing (pair 1 2) second_silent (slave 1)
+pub none_passed : ShowsNothing (pair 1 2 0) second_silent (slave 1)
 none_passed p cause s = (plain (λ _. ⊥) last_passed 5 (StateAck 1) refl (omega arith) refl refl refl (λ c e. cc) (λ c e _. cc) (λ e. cc) p cause s).1
 
-last_silent : Last (pair 1 2) (reverse second_silent) (slave 2) 1 (tasks.Register 2) (opened 1 0 (identity 2) 2) []
+last_silent : Last (pair 1 2 0) (reverse second_silent) (slave 2) 1 (tasks.Register 2) (opened 1 0 (identity 2) 2) []
 unfolding message_in news_of
 last_silent = record { phase = refl; job = ([], refl); last = refl }
 
-pub tells_silent : Tells (pair 1 2) second_silent (slave 2) 1 (NoAnswer 0)
+pub tells_silent : Tells (pair 1 2 0) second_silent (slave 2) 1 (NoAnswer 0)
 tells_silent = tells_second run_second (record {
   task = tasks.Register 2;
   request = opened 1 0 (identity 2) 2;
@@ -126,18 +126,18 @@ tells_silent = tells_second run_second (record {
 
 -- ---- the first tells a fault
 
-run_faulted : IsRun (pair 1 1) first_faulted (reports.Failed 1 1 (Faulted 3 35))
+run_faulted : IsRun (pair 1 1 0) first_faulted (reports.Failed 1 1 (Faulted 3 35))
 unfolding message_in spelling digits news_of bytes_of reaction step
 run_faulted = record { by_rules = refl; reported = refl; in_time = omega arith }
 
 abbrev asked : List Asking
 asked = question 2 7 8 (StateAck 18) ∷ question 1 4 5 (StateAck 1) ∷ decided 1 0 (identity 1) 1 3 Ack ∷ []
 
-last_faulted : Last (pair 1 1) (reverse first_faulted) (slave 1) 1 (tasks.Register 1) (decided 129 3 [] 9 10 (ErrorAck 35)) asked
+last_faulted : Last (pair 1 1 0) (reverse first_faulted) (slave 1) 1 (tasks.Register 1) (decided 129 3 [] 9 10 (ErrorAck 35)) asked
 unfolding message_in news_of
 last_faulted = record { phase = refl; job = ([], refl); last = refl }
 
-pub tells_faulted : Tells (pair 1 1) first_faulted (slave 1) 1 (Faulted 3 35)
+pub tells_faulted : Tells (pair 1 1 0) first_faulted (slave 1) 1 (Faulted 3 35)
 tells_faulted = tells_first run_faulted (record {
   task = tasks.Register 1;
   request = decided 129 3 [] 9 10 (ErrorAck 35);
@@ -160,11 +160,11 @@ tells_faulted = tells_first run_faulted (record {
   );
 })
 
-last_other : Last (pair 1 1) (reverse first_faulted) (slave 2) 1 (tasks.Register 2) (opened 1 0 (identity 2) 2) []
+last_other : Last (pair 1 1 0) (reverse first_faulted) (slave 2) 1 (tasks.Register 2) (opened 1 0 (identity 2) 2) []
 unfolding message_in news_of
 last_other = record { phase = refl; job = ([], refl); last = refl }
 
-pub shown_other : Shown (pair 1 1) (reverse first_faulted) (slave 2) 1 (NoAnswer 0)
+pub shown_other : Shown (pair 1 1 0) (reverse first_faulted) (slave 2) 1 (NoAnswer 0)
 shown_other = record {
   task = tasks.Register 2;
   request = opened 1 0 (identity 2) 2;
@@ -175,22 +175,22 @@ shown_other = record {
 
 -- ---- the second is silent while it is configured
 
-run_setup : IsRun (pair 3 1) silent_in_setup (reports.Failed 2 2 (NoAnswer 2))
+run_setup : IsRun (pair 3 1 0) silent_in_setup (reports.Failed 2 2 (NoAnswer 2))
 unfolding message_in spelling digits news_of bytes_of reaction step
 run_setup = record { by_rules = refl; reported = refl; in_time = omega arith }
 
-last_setup : (e : List Asking) × Last (pair 3 1) (reverse silent_in_setup) (slave 1) 2 tasks.Setup (question 5 20 21 (StateAck 1)) e
+last_setup : (e : List Asking) × Last (pair 3 1 0) (reverse silent_in_setup) (slave 1) 2 tasks.Setup (question 5 20 21 (StateAck 1)) e
 unfolding message_in news_of
 last_setup = (question 4 17 18 (StateAck 1) ∷ question 3 14 15 (StateAck 1) ∷ decided 36 2 [] 10 12 Ack ∷ question 1 4 5 (StateAck 1) ∷ [], record { phase = refl; job = (_, refl); last = refl })
 
-pub none_setup : ShowsNothing (pair 3 1) silent_in_setup (slave 1)
+pub none_setup : ShowsNothing (pair 3 1 0) silent_in_setup (slave 1)
 none_setup p cause s = (plain (λ _. ⊥) last_setup.1 21 (StateAck 1) refl (omega arith) refl refl refl (λ c e. cc) (λ c e _. cc) (λ e. cc) p cause s).1
 
-last_cleared : Last (pair 3 1) (reverse silent_in_setup) (slave 2) 2 tasks.Setup (opened 36 2 [] 11) (question 1 7 8 (StateAck 1) ∷ [])
+last_cleared : Last (pair 3 1 0) (reverse silent_in_setup) (slave 2) 2 tasks.Setup (opened 36 2 [] 11) (question 1 7 8 (StateAck 1) ∷ [])
 unfolding message_in news_of
 last_cleared = record { phase = refl; job = (_, refl); last = refl }
 
-pub tells_setup : Tells (pair 3 1) silent_in_setup (slave 2) 2 (NoAnswer 2)
+pub tells_setup : Tells (pair 3 1 0) silent_in_setup (slave 2) 2 (NoAnswer 2)
 tells_setup = tells_second run_setup (record {
   task = tasks.Setup;
   request = opened 36 2 [] 11;
@@ -201,18 +201,18 @@ tells_setup = tells_second run_setup (record {
 
 -- ---- the first falls back
 
-run_back : IsRun (pair 3 1) fallen_back (reports.Failed 1 3 (Unexpected 5 178 2))
+run_back : IsRun (pair 3 1 0) fallen_back (reports.Failed 1 3 (Unexpected 5 178 2))
 unfolding message_in spelling digits news_of bytes_of reaction step
 run_back = record { by_rules = refl; reported = refl; in_time = omega arith }
 
 abbrev went : List Asking
 went = question 4 19 20 (StateAck 3) ∷ change 3 3 1 15 17 Ack ∷ []
 
-last_back : Last (pair 3 1) (reverse fallen_back) (slave 1) 3 tasks.Prepare (question 5 22 23 (StateAck 2)) went
+last_back : Last (pair 3 1 0) (reverse fallen_back) (slave 1) 3 tasks.Prepare (question 5 22 23 (StateAck 2)) went
 unfolding message_in news_of
 last_back = record { phase = refl; job = ([], refl); last = refl }
 
-pub tells_back : Tells (pair 3 1) fallen_back (slave 1) 3 (Unexpected 5 178 2)
+pub tells_back : Tells (pair 3 1 0) fallen_back (slave 1) 3 (Unexpected 5 178 2)
 tells_back = tells_first run_back (record {
   task = tasks.Prepare;
   request = question 5 22 23 (StateAck 2);
@@ -221,7 +221,7 @@ tells_back = tells_first run_back (record {
   shown = (refl, record { place = 23; answer = StateAck 2; told = refl; type_is = refl; state_is = refl; unfit = refl });
 })
 
-pub stuck_too : Shown (pair 3 1) (reverse fallen_back) (slave 1) 3 (Stuck 5 2)
+pub stuck_too : Shown (pair 3 1 0) (reverse fallen_back) (slave 1) 3 (Stuck 5 2)
 stuck_too = record {
   task = tasks.Prepare;
   request = question 5 22 23 (StateAck 2);

@@ -25,18 +25,18 @@ abbrev the_exchange : (log : List LogEntry) → Exchanged (single 1) (reverse lo
 the_exchange log x = x.each (slave 1) (0, refl)
 
 -- a question for the state, first sent behind a place, that named this state before another
-abbrev answer_names : ℕ → Answer → Bool
+abbrev pub answer_names : ℕ → Answer → Bool
 answer_names state (StateAck s) = s == state
 answer_names state _ = false
 
-abbrev told_by : (state limit : ℕ) → Option Decision → Bool
+abbrev pub told_by : (state limit : ℕ) → Option Decision → Bool
 told_by state limit None = false
 told_by state limit (Some d) = answer_names state d.answer && nat_lt d.place limit
 
-abbrev tells : (state behind limit : ℕ) → Asking → Bool
+abbrev pub tells : (state behind limit : ℕ) → Asking → Bool
 tells state behind limit a = is_state_question a && (told_by state limit a.decision && nat_lt behind (a.first + 1))
 
-it_tells : (state behind limit place : ℕ) (a : Asking) → IsTrue (is_state_question a) → IsDecided a place (StateAck state)
+pub it_tells : (state behind limit place : ℕ) (a : Asking) → IsTrue (is_state_question a) → IsDecided a place (StateAck state)
     → place < limit → behind ≤ a.first → tells state behind limit a ≡ true
 it_tells state behind limit place a asks d soon late =
     let here : told_by state limit (Some (record { place = place; answer = StateAck state })) ≡ true = grind (arith, nat_tests) in

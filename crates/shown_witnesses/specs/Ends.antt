@@ -29,9 +29,9 @@ limits turn_limit tries watch_turns =
 abbrev pub single : (steps : ℕ) → Setup
 single steps = record { address = master; limits = limits 1 2 1; steps = steps; runs = 1; slaves = slave 1 ∷ [] }
 
--- one run without steps with two slaves, each request sent once
-abbrev pub pair : (turn_limit watch_turns : ℕ) → Setup
-pair turn_limit watch_turns = record { address = master; limits = limits turn_limit 1 watch_turns; steps = 0; runs = 1; slaves = slave 1 ∷ slave 2 ∷ [] }
+-- one run of so many steps with two slaves, each request sent once
+abbrev pub pair : (turn_limit watch_turns steps : ℕ) → Setup
+pair turn_limit watch_turns steps = record { address = master; limits = limits turn_limit 1 watch_turns; steps = steps; runs = 1; slaves = slave 1 ∷ slave 2 ∷ [] }
 
 -- two runs of one step with one slave, of which a parameter is set between them
 abbrev pub twice : Setup

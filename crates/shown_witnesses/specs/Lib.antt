@@ -7,3 +7,4 @@ pub mod Whole
 pub mod Runs
 pub mod Pairs
 pub mod Long
+pub mod Together

@@ -48,6 +48,10 @@ missing_outputs = without_outputs (turn ∷ [])
 abbrev pub other_outputs : List LogEntry
 other_outputs = initialized (brought 1 0 7 ∷ turn ∷ changed 1 8 9 7 ∷ brought 1 1 7 ∷ acked 1 9 ∷ turn ∷ asked_state 1 10 ∷ told_state 1 10 5 ∷ got 1 (240 ∷ 0 ∷ 0 ∷ 1 ∷ 0 ∷ 7 ∷ 7 ∷ []) ∷ turn ∷ [])
 
+-- those that come after that turn do not count either
+abbrev pub late_outputs : List LogEntry
+late_outputs = without_outputs (turn ∷ brought 1 0 7 ∷ [])
+
 -- one turn less, and outputs in the last moment
 abbrev pub outputs_awaited : List LogEntry
 outputs_awaited = without_outputs []

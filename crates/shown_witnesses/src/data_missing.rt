@@ -3,14 +3,15 @@
 ghost use Rattle.master_spec.specs.declared.causes.Cause.TheVariants.{DataMissing};
 ghost use Rattle.shown_witnesses.specs.Ends.{single, slave};
 ghost use Rattle.shown_witnesses.specs.Logs.{Tells, ShowsOnly, ShowsNothing};
-ghost use Rattle.shown_witnesses.specs.Phases.{missing_outputs, other_outputs, outputs_awaited, outputs_at_last};
+ghost use Rattle.shown_witnesses.specs.Phases.{late_outputs, missing_outputs, other_outputs, outputs_awaited, outputs_at_last};
 
 /// First outputs that do not come within a turn after the state that they belong to are shown to be missing.
-/// Those of the next row, of another size, or from before the phase do not count.
+/// Those of the next row, of another size, from before the phase, or from after that turn do not count.
 pub fn missing_outputs_are_shown()
     ensures first { Tells (single 0) missing_outputs (slave 1) 6 (DataMissing 0) }
     ensures only { ShowsOnly (single 0) missing_outputs (slave 1) 6 (DataMissing 0) }
     ensures other { Tells (single 0) other_outputs (slave 1) 6 (DataMissing 0) }
+    ensures late { Tells (single 0) late_outputs (slave 1) 6 (DataMissing 0) }
 {}
 
 /// Nothing is shown before that turn, nor where they come before it.

@@ -2,9 +2,10 @@
 
 ghost use Rattle.master_spec.specs.Exchanged.{AllExchanged};
 ghost use Rattle.master_spec.specs.declared.reports.Report.TheVariants.{Finished};
-ghost use Rattle.shown_witnesses.specs.Ends.{single, twice};
+ghost use Rattle.shown_witnesses.specs.Ends.{pair, single, twice};
 ghost use Rattle.shown_witnesses.specs.Logs.{IsRun};
 ghost use Rattle.shown_witnesses.specs.Runs.{NotAllExchanged, two_runs, not_reset, reset_refused, prepared_too_early};
+ghost use Rattle.shown_witnesses.specs.Together.{NotTogether, together, one_ahead, one_behind};
 ghost use Rattle.shown_witnesses.specs.Whole.{NotExchanged, whole, only_noticed, asked_too_early, early_values, late_values, not_running, outputs_refused, two_at_once};
 ghost use Rattle.std.specs.Prelude.{reverse};
 
@@ -42,4 +43,17 @@ pub fn runs_need_their_reset()
     ensures missing { NotAllExchanged not_reset }
     ensures refused { NotAllExchanged reset_refused }
     ensures early { NotAllExchanged prepared_too_early }
+{}
+
+/// The log of two slaves that finish shows that they exchange the step together.
+pub fn finished_slaves_are_together()
+    ensures run { IsRun (pair 3 1 1) together (Finished 1) }
+    ensures exchanged { AllExchanged (pair 3 1 1) (reverse together) }
+{}
+
+/// They do not where one is asked for its outputs before the other has computed, nor where one is asked to
+/// stop before the outputs of the other have come.
+pub fn slaves_wait_for_each_other()
+    ensures ahead { NotTogether one_ahead }
+    ensures behind { NotTogether one_behind }
 {}

@@ -9,26 +9,26 @@ ghost use Rattle.std.specs.Prelude.{reverse};
 
 /// Where neither slave answers, both are shown to be silent, and the first is named.
 pub fn the_least_is_named()
-    ensures first { Tells (pair 1 2) both_silent (slave 1) 1 (NoAnswer 0) }
-    ensures second { Shown (pair 1 2) (reverse both_silent) (slave 2) 1 (NoAnswer 0) }
-    ensures not_first { First (pair 1 2) (reverse both_silent) (slave 2) 1 (NoAnswer 0) → ⊥ }
+    ensures first { Tells (pair 1 2 0) both_silent (slave 1) 1 (NoAnswer 0) }
+    ensures second { Shown (pair 1 2 0) (reverse both_silent) (slave 2) 1 (NoAnswer 0) }
+    ensures not_first { First (pair 1 2 0) (reverse both_silent) (slave 2) 1 (NoAnswer 0) → ⊥ }
 {}
 
 /// Where the first has passed, nothing is shown of it, and the second is named.
 pub fn passed_slaves_are_not_named()
-    ensures second { Tells (pair 1 2) second_silent (slave 2) 1 (NoAnswer 0) }
-    ensures first { ShowsNothing (pair 1 2) second_silent (slave 1) }
+    ensures second { Tells (pair 1 2 0) second_silent (slave 2) 1 (NoAnswer 0) }
+    ensures first { ShowsNothing (pair 1 2 0) second_silent (slave 1) }
 {}
 
 /// A slave that has passed tells its state as a sign of life: the state in which it is configured shows
 /// nothing.
 pub fn signs_of_life_show_nothing()
-    ensures second { Tells (pair 3 1) silent_in_setup (slave 2) 2 (NoAnswer 2) }
-    ensures first { ShowsNothing (pair 3 1) silent_in_setup (slave 1) }
+    ensures second { Tells (pair 3 1 0) silent_in_setup (slave 2) 2 (NoAnswer 2) }
+    ensures first { ShowsNothing (pair 3 1 0) silent_in_setup (slave 1) }
 {}
 
 /// Where it tells an error state then, it is named, though the other slave ended before.
 pub fn later_ends_of_lesser_slaves_are_named()
-    ensures first { Tells (pair 1 1) first_faulted (slave 1) 1 (Faulted 3 35) }
-    ensures second { Shown (pair 1 1) (reverse first_faulted) (slave 2) 1 (NoAnswer 0) }
+    ensures first { Tells (pair 1 1 0) first_faulted (slave 1) 1 (Faulted 3 35) }
+    ensures second { Shown (pair 1 1 0) (reverse first_faulted) (slave 2) 1 (NoAnswer 0) }
 {}

@@ -35,6 +35,6 @@ pub fn targets_are_expected()
 /// The state that a slave passes through is not expected of it once it has named the one that it leads to.
 /// A log that shows this may show as well that it is stuck.
 pub fn falling_back_is_shown()
-    ensures first { Tells (pair 3 1) fallen_back (slave 1) 3 (Unexpected 5 178 2) }
-    ensures stuck { Shown (pair 3 1) (reverse fallen_back) (slave 1) 3 (Stuck 5 2) }
+    ensures first { Tells (pair 3 1 0) fallen_back (slave 1) 3 (Unexpected 5 178 2) }
+    ensures stuck { Shown (pair 3 1 0) (reverse fallen_back) (slave 1) 3 (Stuck 5 2) }
 {}

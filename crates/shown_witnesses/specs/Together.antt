@@ -1,0 +1,51 @@
+-- Two slaves that exchange one step.
+use Rattle.std.specs.Prelude.{ℕ, ◌+◌, List, [], ◌∷◌, reverse}
+use Rattle.dcp_ends.specs.declared.entries.LogEntry.{LogEntry}
+use Rattle.master_spec.specs.Exchanged.{Exchanged}
+use Rattle.shown_witnesses.specs.Ends.{pair, turn, changed, started, stepped, asked_state, acked, told_state, brought}
+use Rattle.shown_witnesses.specs.Pairs.{both_registered}
+
+-- both go from one state to another: code is that of the request, n its number, and state the state that it names
+abbrev pub both : (code n state target : ℕ) → List LogEntry → List LogEntry
+both code n state target rest =
+    turn ∷ changed 1 code n state ∷ changed 2 code n state ∷ acked 1 n ∷ acked 2 n
+    ∷ turn ∷ asked_state 1 (n + 1) ∷ asked_state 2 (n + 1) ∷ told_state 1 (n + 1) target ∷ told_state 2 (n + 1) target ∷ rest
+
+-- both send their outputs of a row
+abbrev pub both_send : (n row state target : ℕ) → List LogEntry → List LogEntry
+both_send n row state target rest =
+    turn ∷ changed 1 8 n state ∷ changed 2 8 n state ∷ acked 1 n ∷ acked 2 n ∷ brought 1 row 7 ∷ brought 2 row 7
+    ∷ turn ∷ asked_state 1 (n + 1) ∷ asked_state 2 (n + 1) ∷ told_state 1 (n + 1) target ∷ told_state 2 (n + 1) target ∷ rest
+
+abbrev pub both_running : List LogEntry → List LogEntry
+both_running rest = both_registered (acked 2 2 ∷ both 3 3 1 3 (both 4 5 3 5 (both 5 7 5 7 (both_send 9 0 7 5 (
+    turn ∷ started 1 11 ∷ started 2 11 ∷ acked 1 11 ∷ acked 2 11
+    ∷ turn ∷ asked_state 1 12 ∷ asked_state 2 12 ∷ told_state 1 12 11 ∷ told_state 2 12 11 ∷ rest)))))
+
+abbrev pub together : List LogEntry
+together = both_running (
+    turn ∷ stepped 1 13 ∷ stepped 2 13 ∷ acked 1 13 ∷ acked 2 13
+    ∷ turn ∷ asked_state 1 14 ∷ asked_state 2 14 ∷ told_state 1 14 13 ∷ told_state 2 14 13
+    ∷ both_send 15 1 13 11 (both 9 17 11 16 (turn ∷ changed 1 2 19 16 ∷ changed 2 2 19 16 ∷ acked 1 19 ∷ acked 2 19 ∷ turn ∷ [])))
+
+-- the first is asked for its outputs before the second has computed
+abbrev pub one_ahead : List LogEntry
+one_ahead = both_running (
+    turn ∷ stepped 1 13 ∷ stepped 2 13 ∷ acked 1 13 ∷ acked 2 13
+    ∷ turn ∷ asked_state 1 14 ∷ asked_state 2 14 ∷ told_state 1 14 13 ∷ changed 1 8 15 13 ∷ told_state 2 14 13 ∷ changed 2 8 15 13
+    ∷ acked 1 15 ∷ acked 2 15 ∷ brought 1 1 7 ∷ brought 2 1 7
+    ∷ turn ∷ asked_state 1 16 ∷ asked_state 2 16 ∷ told_state 1 16 11 ∷ told_state 2 16 11
+    ∷ turn ∷ changed 1 9 17 11 ∷ changed 2 9 17 11 ∷ [])
+
+-- the first is asked to stop before the outputs of the second have come
+abbrev pub one_behind : List LogEntry
+one_behind = both_running (
+    turn ∷ stepped 1 13 ∷ stepped 2 13 ∷ acked 1 13 ∷ acked 2 13
+    ∷ turn ∷ asked_state 1 14 ∷ asked_state 2 14 ∷ told_state 1 14 13 ∷ told_state 2 14 13
+    ∷ turn ∷ changed 1 8 15 13 ∷ changed 2 8 15 13 ∷ acked 1 15 ∷ acked 2 15 ∷ brought 1 1 7
+    ∷ turn ∷ asked_state 1 16 ∷ asked_state 2 16 ∷ told_state 1 16 11 ∷ told_state 2 16 11
+    ∷ turn ∷ changed 1 9 17 11 ∷ brought 2 1 7 ∷ changed 2 9 17 11 ∷ [])
+
+-- the step is not exchanged by both in this log
+abbrev pub NotTogether : List LogEntry → Type 0
+NotTogether log = Exchanged (pair 3 1 1) (reverse log) 1 1 → ⊥
