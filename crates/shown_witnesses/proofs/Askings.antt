@@ -1,9 +1,9 @@
 -- Requests as the logs show them.
-use Rattle.std.proofs.Common.{ℕ, Option, Some, None, List, [], ◌∷◌}
+use Rattle.std.proofs.Common.{ℕ, Some, None, List, [], ◌∷◌}
 use Rattle.pdu_layout.specs.Fields.{FieldValue}
 use Rattle.pdu_layout.specs.Fields.FieldValue.{Number}
 use Rattle.master_spec.specs.declared.requests.Answer.{Answer}
-use Rattle.master_spec.specs.Requests.{Asking, Decision}
+use Rattle.master_spec.specs.Requests.{Asking}
 
 -- never answered, and answered at a place
 abbrev pub opened : (code number : ℕ) → List FieldValue → (first : ℕ) → Asking

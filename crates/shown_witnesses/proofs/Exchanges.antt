@@ -1,17 +1,16 @@
 -- Steps that are exchanged.
-use Rattle.std.proofs.Common.{◌≡◌, ℕ, zero, suc, cond, ◌+◌, ◌<◌, ◌≤◌, ◌==◌, ◌&&◌, ◌||◌, not, nat_lt, Bool, true, false, IsTrue, Option, Some, None, List, [], ◌∷◌, refl, arith, reverse, sym, ap, ◌∙◌, subst, slice_get}
-use Rattle.std.specs.List.{list_all, list_any}
+use Rattle.std.proofs.Common.{◌≡◌, ℕ, ◌<◌, ◌≤◌, ◌&&◌, ◌||◌, not, nat_lt, Bool, true, IsTrue, Some, [], ◌∷◌, refl, arith, reverse, subst, slice_get}
+use Rattle.std.specs.List.{list_all}
 use Rattle.std.proofs.lemmas.Bool.Decides.{nat_tests}
 use Rattle.dcp_types.specs.Values.{digits}
-use Rattle.dcp_ends.specs.declared.entries.LogEntry.{LogEntry}
 use Rattle.pdu_layout.specs.Reading.{message_in, spelling}
-use Rattle.pdu_layout.specs.Fields.FieldValue.{Number, Signed}
+use Rattle.pdu_layout.specs.Fields.FieldValue.{Number}
 use Rattle.master_spec.specs.News.{news_of, bytes_of}
 use Rattle.master_spec.specs.Conversation.{reaction}
 use Rattle.master_spec.specs.Course.{step}
-use Rattle.master_spec.specs.Exchanged.{IsIn, IsDecided, Brings, Exchange, Exchanged, AllExchanged, in_order, in_run, nth_of}
-use Rattle.master_spec.specs.Requests.{Asking, is_step, is_stop, is_outputs, is_acked, is_state_question}
-use Rattle.master_spec.specs.declared.requests.Answer.TheVariants.{Ack, Nack, StateAck}
+use Rattle.master_spec.specs.Exchanged.{IsIn, Brings, Exchange, Exchanged, AllExchanged, in_order, in_run, nth_of}
+use Rattle.master_spec.specs.Requests.{Asking, is_step, is_stop, is_outputs, is_acked}
+use Rattle.master_spec.specs.declared.requests.Answer.TheVariants.{Ack, StateAck}
 use Rattle.master_spec.specs.declared.reports.Report.TheVariants as reports
 use Rattle.master_spec.specs.declared.setups.Slave.{Slave}
 use Rattle.shown_witnesses.specs.Ends.{single, slave, brought}
@@ -19,7 +18,7 @@ use Rattle.shown_witnesses.specs.Logs.{IsRun}
 use Rattle.shown_witnesses.specs.Whole.{whole}
 use Rattle.shown_witnesses.proofs.Askings.{decided, question, change}
 use Rattle.shown_witnesses.proofs.Readings.{only_one}
-use Rattle.shown_witnesses.proofs.Lists.{each_passes, none_passes}
+use Rattle.shown_witnesses.proofs.Lists.{each_passes}
 
 pub run_whole : IsRun (single 1) whole (reports.Finished 1)
 unfolding message_in spelling digits news_of bytes_of reaction step

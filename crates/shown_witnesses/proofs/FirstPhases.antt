@@ -1,16 +1,15 @@
 -- The first request and the questions after it.
-use Rattle.std.proofs.Common.{◌≡◌, ℕ, ◌<◌, Option, Some, None, List, [], ◌∷◌, refl, arith, reverse, sym, subst, true}
+use Rattle.std.proofs.Common.{◌≡◌, ℕ, List, [], ◌∷◌, refl, arith, reverse, sym, subst, true}
 use Rattle.dcp_types.specs.Values.{digits}
 use Rattle.dcp_ends.specs.declared.entries.LogEntry.{LogEntry}
 use Rattle.pdu_layout.specs.Reading.{message_in, spelling}
 use Rattle.master_spec.specs.News.{news_of, bytes_of}
 use Rattle.master_spec.specs.Conversation.{reaction, is_error}
 use Rattle.master_spec.specs.Course.{step}
-use Rattle.master_spec.specs.Shown.{Shown, Last, IsFaulted}
+use Rattle.master_spec.specs.Shown.{Last, IsFaulted}
 use Rattle.master_spec.specs.Exchanged.{IsDecided}
 use Rattle.master_spec.specs.Requests.{Asking}
-use Rattle.master_spec.specs.declared.causes.Cause.{Cause}
-use Rattle.master_spec.specs.declared.causes.Cause.TheVariants.{NoAnswer, Refused, InputsMissing, DataMissing, Stuck, Faulted, Unexpected}
+use Rattle.master_spec.specs.declared.causes.Cause.TheVariants.{Refused, Faulted, Unexpected}
 use Rattle.master_spec.specs.declared.requests.Answer.{Answer}
 use Rattle.master_spec.specs.declared.requests.Answer.TheVariants.{Ack, Nack, StateAck, ErrorAck, LogAck}
 use Rattle.master_spec.specs.declared.tasks.Task.{Task}

@@ -1,7 +1,6 @@
 -- The phases after the first.
-use Rattle.std.proofs.Common.{◌≡◌, ℕ, ◌<◌, ◌≤◌, Option, Some, None, List, [], ◌∷◌, refl, arith, reverse, sym, ap, subst, true, false, zero, suc, inl, inr, slice_get}
+use Rattle.std.proofs.Common.{◌≡◌, ℕ, ◌<◌, ◌≤◌, Some, List, [], ◌∷◌, refl, arith, reverse, sym, ap, subst, true, false, zero, suc, inl, inr, slice_get}
 use Rattle.dcp_types.specs.Values.{digits}
-use Rattle.dcp_ends.specs.declared.entries.LogEntry.{LogEntry}
 use Rattle.pdu_layout.specs.Reading.{message_in, spelling}
 use Rattle.pdu_layout.specs.Fields.FieldValue.{Number}
 use Rattle.master_spec.specs.News.{news_of, bytes_of}
@@ -9,20 +8,18 @@ use Rattle.master_spec.specs.Conversation.{reaction, is_state}
 use Rattle.master_spec.specs.Tasks.{passing_of, step_of}
 use Rattle.master_spec.specs.Marks.{is_missing}
 use Rattle.master_spec.specs.Course.{step}
-use Rattle.master_spec.specs.Shown.{Shown, Last, IsStuck, MissesInputs, MissesOutputs, IsMissing}
-use Rattle.master_spec.specs.Exchanged.{IsDecided, Brings}
+use Rattle.master_spec.specs.Shown.{Last, IsStuck, MissesInputs, MissesOutputs, IsMissing}
+use Rattle.master_spec.specs.Exchanged.{Brings}
 use Rattle.master_spec.specs.Requests.{Asking, brings_outputs, turns_between}
-use Rattle.master_spec.specs.declared.causes.Cause.{Cause}
-use Rattle.master_spec.specs.declared.causes.Cause.TheVariants.{NoAnswer, Refused, InputsMissing, DataMissing, Stuck, Faulted, Unexpected}
-use Rattle.master_spec.specs.declared.requests.Answer.{Answer}
-use Rattle.master_spec.specs.declared.requests.Answer.TheVariants.{Ack, Nack, StateAck, ErrorAck, LogAck}
+use Rattle.master_spec.specs.declared.causes.Cause.TheVariants.{Refused, InputsMissing, DataMissing, Stuck}
+use Rattle.master_spec.specs.declared.requests.Answer.TheVariants.{Ack, Nack, StateAck}
 use Rattle.master_spec.specs.declared.tasks.Task.{Task}
 use Rattle.master_spec.specs.declared.tasks.Task.TheVariants as tasks
 use Rattle.master_spec.specs.declared.reports.Report.TheVariants as reports
 use Rattle.shown_witnesses.specs.Ends.{single, slave, master, brought}
 use Rattle.shown_witnesses.specs.Logs.{IsRun, Tells, ShowsOnly, ShowsNothing}
 use Rattle.shown_witnesses.specs.Phases.{stuck, asked_at_once, prepared_at_last, missing_outputs, other_outputs, late_outputs, outputs_awaited, outputs_at_last, missing_inputs, refused_once, refused_otherwise}
-use Rattle.shown_witnesses.proofs.Askings.{opened, decided, question, change}
+use Rattle.shown_witnesses.proofs.Askings.{decided, question, change}
 use Rattle.shown_witnesses.proofs.Readings.{one_answer, by_rows, tells_of, late_by, awaited, came_late}
 use Rattle.shown_witnesses.proofs.Places.{places, IsAmong, brought_at}
 

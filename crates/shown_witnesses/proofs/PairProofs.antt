@@ -1,5 +1,5 @@
 -- Two slaves, of which one or both fail.
-use Rattle.std.proofs.Common.{◌≡◌, ℕ, zero, suc, ◌<◌, ◌≤◌, Option, Some, None, List, [], ◌∷◌, slice_get, refl, arith, reverse, sym, ap, subst, true}
+use Rattle.std.proofs.Common.{◌≡◌, ℕ, zero, suc, ◌<◌, Some, List, [], ◌∷◌, slice_get, refl, arith, reverse, sym, ap, subst}
 use Rattle.dcp_types.specs.Values.{digits}
 use Rattle.dcp_ends.specs.declared.entries.LogEntry.{LogEntry}
 use Rattle.pdu_layout.specs.Reading.{message_in, spelling}
@@ -8,22 +8,19 @@ use Rattle.pdu_layout.specs.Fields.FieldValue.{Number}
 use Rattle.master_spec.specs.News.{news_of, bytes_of}
 use Rattle.master_spec.specs.Conversation.{reaction}
 use Rattle.master_spec.specs.Course.{step}
-use Rattle.master_spec.specs.Exchanged.{IsIn}
 use Rattle.master_spec.specs.Shown.{Shown, Last, First}
 use Rattle.master_spec.specs.Requests.{Asking}
 use Rattle.master_spec.specs.declared.setups.Slave.{Slave}
-use Rattle.master_spec.specs.declared.setups.Setup.{Setup}
 use Rattle.master_spec.specs.declared.causes.Cause.{Cause}
 use Rattle.master_spec.specs.declared.causes.Cause.TheVariants.{NoAnswer, Stuck, Faulted, Unexpected}
-use Rattle.master_spec.specs.declared.requests.Answer.{Answer}
 use Rattle.master_spec.specs.declared.requests.Answer.TheVariants.{Ack, StateAck, ErrorAck}
 use Rattle.master_spec.specs.declared.tasks.Task.TheVariants as tasks
 use Rattle.master_spec.specs.declared.reports.Report.TheVariants as reports
 use Rattle.shown_witnesses.specs.Ends.{pair, slave}
-use Rattle.shown_witnesses.specs.Logs.{IsRun, Tells, ShowsOnly, ShowsNothing}
+use Rattle.shown_witnesses.specs.Logs.{IsRun, Tells, ShowsNothing}
 use Rattle.shown_witnesses.specs.Pairs.{both_silent, second_silent, first_faulted, silent_in_setup, fallen_back}
 use Rattle.shown_witnesses.proofs.Askings.{opened, decided, question, change}
-use Rattle.shown_witnesses.proofs.Readings.{by_rows, plain}
+use Rattle.shown_witnesses.proofs.Readings.{plain}
 
 -- ---- the slaves of lesser numbers
 

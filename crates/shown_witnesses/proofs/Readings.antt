@@ -1,6 +1,5 @@
 -- What is shown of a slave is shown of its last request, where the log is read.
-use Rattle.std.proofs.Common.{◌≡◌, ℕ, zero, suc, true, false, ◌-◌, ◌<◌, ◌≤◌, ◌&&◌, ◌%◌, find, IsFalse, IfSome, reverse, arith, Option, Some, None, List, [], ◌∷◌, slice_get, refl, sym, ap, ◌∙◌, subst}
-use Rattle.pdu_layout.specs.declared.messages.Cfg.{Cfg}
+use Rattle.std.proofs.Common.{◌≡◌, ℕ, zero, suc, false, ◌-◌, ◌<◌, ◌≤◌, ◌&&◌, ◌%◌, find, IsFalse, IfSome, reverse, arith, Option, Some, None, List, [], ◌∷◌, slice_get, refl, sym, ap, ◌∙◌, subst}
 use Rattle.dcp_ends.specs.declared.entries.LogEntry.{LogEntry}
 use Rattle.master_spec.specs.declared.tasks.Task.{Task}
 use Rattle.master_spec.specs.declared.causes.Cause.{Cause}
@@ -18,7 +17,7 @@ use Rattle.shown_witnesses.specs.Logs.{IsRun, Tells}
 use Rattle.master_spec.specs.Tasks.{row_of, passing_of}
 use Rattle.master_spec.specs.Conversation.{is_state}
 use Rattle.master_spec.specs.Setup.{jobs_of}
-use Rattle.master_spec.specs.Requests.{Asking, Decision, asks, of_phase, is_step, is_outputs, is_error_question, is_state_request, is_acked, turns_between, turns_after}
+use Rattle.master_spec.specs.Requests.{Asking, Decision, asks, of_phase, is_step, is_outputs, is_state_request, is_acked, turns_between, turns_after}
 use Rattle.master_spec.specs.Exchanged.{IsDecided, Brings}
 use Rattle.master_spec.specs.Shown.{Shown, ShownBy, Last, IsUnanswered, MissesInputs, MissesOutputs, IsStuck, IsFaulted, last_sending, fits_answer}
 

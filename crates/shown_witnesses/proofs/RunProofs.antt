@@ -1,18 +1,18 @@
 -- Two runs of one registration.
-use Rattle.std.proofs.Common.{◌≡◌, ℕ, zero, suc, cond, ◌+◌, ◌<◌, ◌≤◌, ◌==◌, ◌&&◌, ◌||◌, not, nat_lt, Bool, true, false, IsTrue, Option, Some, None, pos, List, [], ◌∷◌, refl, arith, reverse, sym, ap, ◌∙◌, subst, slice_get}
-use Rattle.std.specs.List.{list_all, list_any}
+use Rattle.std.proofs.Common.{◌≡◌, ℕ, zero, suc, ◌<◌, ◌≤◌, ◌&&◌, ◌||◌, not, nat_lt, Bool, true, IsTrue, Some, None, pos, List, [], ◌∷◌, refl, arith, reverse, sym, ◌∙◌, subst, slice_get}
+use Rattle.std.specs.List.{list_all}
 use Rattle.std.proofs.lemmas.Bool.Decides.{nat_tests}
 use Rattle.dcp_types.specs.Values.{digits}
 use Rattle.dcp_ends.specs.declared.entries.LogEntry.{LogEntry}
 use Rattle.pdu_layout.specs.Reading.{message_in, spelling}
-use Rattle.pdu_layout.specs.Fields.FieldValue.{Number, Signed}
+use Rattle.pdu_layout.specs.Fields.FieldValue.{Number}
 use Rattle.pdu_layout.specs.declared.messages.Cfg.TheVariants as cfg
 use Rattle.dcp_types.specs.declared.data_types.DataType.TheVariants as types
 use Rattle.master_spec.specs.News.{news_of, bytes_of}
 use Rattle.master_spec.specs.Conversation.{reaction}
 use Rattle.master_spec.specs.Course.{step}
 use Rattle.master_spec.specs.Exchanged.{IsIn, IsDecided, Brings, Exchange, Exchanged, AllExchanged, IsBetween, in_order, in_run, nth_of}
-use Rattle.master_spec.specs.Requests.{Asking, is_prepare, is_step, is_stop, is_reset, is_outputs, is_acked, is_state_question}
+use Rattle.master_spec.specs.Requests.{Asking, is_prepare, is_step, is_stop, is_reset, is_outputs, is_acked}
 use Rattle.master_spec.specs.declared.requests.Answer.TheVariants.{Ack, Nack, StateAck}
 use Rattle.master_spec.specs.declared.reports.Report.TheVariants as reports
 use Rattle.master_spec.specs.declared.setups.Slave.{Slave}
@@ -21,7 +21,7 @@ use Rattle.shown_witnesses.specs.Logs.{IsRun}
 use Rattle.shown_witnesses.specs.Runs.{NotAllExchanged, two_runs, not_reset, reset_refused, prepared_too_early}
 use Rattle.shown_witnesses.proofs.Askings.{decided, question, change}
 use Rattle.shown_witnesses.proofs.Readings.{only_one, one_answer, one_place}
-use Rattle.shown_witnesses.proofs.Lists.{each_passes, none_passes}
+use Rattle.shown_witnesses.proofs.Lists.{each_passes}
 
 pub run_twice : IsRun twice two_runs (reports.Finished 1)
 unfolding message_in spelling digits news_of bytes_of reaction step

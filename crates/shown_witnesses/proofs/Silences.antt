@@ -1,18 +1,16 @@
 -- The slave that never answers.
-use Rattle.std.proofs.Common.{◌≡◌, ℕ, ◌<◌, Option, Some, None, List, [], ◌∷◌, refl, arith, reverse, sym, ap, ◌∙◌, false}
+use Rattle.std.proofs.Common.{◌≡◌, ℕ, Option, Some, None, List, [], ◌∷◌, refl, arith, reverse}
 use Rattle.dcp_types.specs.Values.{digits}
 use Rattle.pdu_layout.specs.Reading.{message_in, spelling}
-use Rattle.pdu_layout.specs.Fields.FieldValue.{Number, Signed, Bytes}
+use Rattle.pdu_layout.specs.Fields.FieldValue.{Number}
 use Rattle.master_spec.specs.News.{news_of, bytes_of}
 use Rattle.master_spec.specs.Conversation.{reaction}
 use Rattle.master_spec.specs.Course.{step}
-use Rattle.master_spec.specs.Shown.{Shown, ShownBy, Last, First, fits_answer}
-use Rattle.master_spec.specs.Exchanged.{IsIn}
-use Rattle.master_spec.specs.declared.setups.Slave.{Slave}
+use Rattle.master_spec.specs.Shown.{Shown, ShownBy, Last}
 use Rattle.master_spec.specs.Requests.{Asking, Decision}
 use Rattle.master_spec.specs.declared.causes.Cause.{Cause}
 use Rattle.master_spec.specs.declared.causes.Cause.TheVariants.{NoAnswer, Refused, InputsMissing, DataMissing, Stuck, Faulted, Unexpected}
-use Rattle.master_spec.specs.declared.requests.Answer.TheVariants.{Ack, Nack, StateAck, ErrorAck, LogAck}
+use Rattle.master_spec.specs.declared.requests.Answer.TheVariants.{Ack, Nack}
 use Rattle.master_spec.specs.declared.tasks.Task.{Task}
 use Rattle.master_spec.specs.declared.tasks.Task.TheVariants as tasks
 use Rattle.master_spec.specs.declared.reports.Report.TheVariants as reports

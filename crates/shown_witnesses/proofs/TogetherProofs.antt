@@ -1,24 +1,22 @@
 -- Two slaves that exchange one step.
-use Rattle.std.proofs.Common.{◌≡◌, ℕ, zero, suc, cond, ◌+◌, ◌<◌, ◌≤◌, ◌==◌, ◌&&◌, ◌||◌, not, nat_lt, Bool, true, false, IsTrue, inl, inr, Option, Some, None, pos, List, [], ◌∷◌, refl, arith, reverse, sym, ap, ◌∙◌, subst, slice_get}
+use Rattle.std.proofs.Common.{◌≡◌, ℕ, zero, suc, ◌<◌, ◌≤◌, ◌&&◌, ◌||◌, not, nat_lt, Bool, true, false, IsTrue, inl, inr, Some, None, List, [], ◌∷◌, refl, arith, reverse, sym, ◌∙◌, subst, slice_get}
 use Rattle.std.specs.List.{list_all, list_any}
 use Rattle.std.proofs.lemmas.Bool.Decides.{nat_tests}
 use Rattle.dcp_types.specs.Values.{digits}
-use Rattle.dcp_ends.specs.declared.entries.LogEntry.{LogEntry}
 use Rattle.pdu_layout.specs.Reading.{message_in, spelling}
-use Rattle.pdu_layout.specs.Fields.FieldValue.{Number, Signed}
+use Rattle.pdu_layout.specs.Fields.FieldValue.{Number}
 use Rattle.master_spec.specs.News.{news_of, bytes_of}
 use Rattle.master_spec.specs.Conversation.{reaction}
 use Rattle.master_spec.specs.Course.{step}
-use Rattle.master_spec.specs.Exchanged.{IsIn, IsDecided, Brings, Exchange, Exchanged, AllExchanged, in_order, in_run, nth_of}
-use Rattle.master_spec.specs.Requests.{Asking, brings_outputs, is_step, is_stop, is_outputs, is_acked, is_state_question}
-use Rattle.master_spec.specs.declared.requests.Answer.TheVariants.{Ack, Nack, StateAck}
+use Rattle.master_spec.specs.Exchanged.{Brings, Exchange, Exchanged, AllExchanged, in_order, in_run, nth_of}
+use Rattle.master_spec.specs.Requests.{Asking, brings_outputs, is_step, is_stop, is_outputs, is_acked}
+use Rattle.master_spec.specs.declared.requests.Answer.TheVariants.{Ack, StateAck}
 use Rattle.master_spec.specs.declared.reports.Report.TheVariants as reports
 use Rattle.master_spec.specs.declared.setups.Slave.{Slave}
 use Rattle.shown_witnesses.specs.Ends.{master, slave, pair, brought}
 use Rattle.shown_witnesses.specs.Logs.{IsRun}
 use Rattle.shown_witnesses.specs.Together.{NotTogether, together, one_ahead, one_behind}
 use Rattle.shown_witnesses.proofs.Askings.{opened, decided, question, change}
-use Rattle.shown_witnesses.proofs.Readings.{only_one, one_answer, one_place}
 use Rattle.shown_witnesses.proofs.Lists.{each_passes, none_passes}
 use Rattle.shown_witnesses.proofs.Places.{places, IsAmong, brought_at}
 use Rattle.shown_witnesses.proofs.Unexchanged.{tells, it_tells}

@@ -1,18 +1,18 @@
 -- Steps that are not exchanged, since one thing is not there.
-use Rattle.std.proofs.Common.{◌≡◌, ℕ, zero, suc, cond, ◌+◌, ◌<◌, ◌≤◌, ◌==◌, ◌&&◌, nat_lt, Bool, true, false, IsTrue, Option, Some, None, List, [], ◌∷◌, refl, arith, reverse, sym, ap, ◌∙◌, subst, slice_get, inl, inr}
-use Rattle.std.specs.List.{list_all, list_any}
+use Rattle.std.proofs.Common.{◌≡◌, ℕ, ◌+◌, ◌<◌, ◌≤◌, ◌==◌, ◌&&◌, nat_lt, Bool, true, false, IsTrue, Option, Some, None, List, [], ◌∷◌, refl, arith, reverse, sym, ap, ◌∙◌, subst, slice_get, inl, inr}
+use Rattle.std.specs.List.{list_any}
 use Rattle.std.proofs.lemmas.Bool.Decides.{nat_tests}
 use Rattle.dcp_ends.specs.declared.entries.LogEntry.{LogEntry}
 use Rattle.pdu_layout.specs.Reading.{message_in}
 use Rattle.pdu_layout.specs.Fields.FieldValue.{Number}
 use Rattle.master_spec.specs.News.{news_of}
-use Rattle.master_spec.specs.Exchanged.{IsIn, IsDecided, Exchange, Exchanged, in_order, in_run, nth_of}
+use Rattle.master_spec.specs.Exchanged.{IsDecided, Exchange, Exchanged, in_order, in_run, nth_of}
 use Rattle.master_spec.specs.Requests.{Asking, Decision, is_step, is_outputs, is_acked, is_state_question, is_single, brings_outputs}
 use Rattle.master_spec.specs.declared.requests.Answer.{Answer}
 use Rattle.master_spec.specs.declared.requests.Answer.TheVariants.{Ack, Nack, StateAck}
 use Rattle.shown_witnesses.specs.Ends.{single, slave, master}
 use Rattle.shown_witnesses.specs.Whole.{NotExchanged, only_noticed, asked_too_early, early_values, late_values, not_running, outputs_refused, two_at_once}
-use Rattle.shown_witnesses.proofs.Askings.{decided, question, change}
+use Rattle.shown_witnesses.proofs.Askings.{decided, change}
 use Rattle.shown_witnesses.proofs.Readings.{one_answer, one_place}
 use Rattle.shown_witnesses.proofs.Lists.{none_passes}
 use Rattle.shown_witnesses.proofs.Places.{places, IsAmong, brought_at}

@@ -1,5 +1,5 @@
 -- Two setups whose bound is worked out by hand.
-use Rattle.std.specs.Prelude.{ℕ, pos, List, [], ◌∷◌}
+use Rattle.std.specs.Prelude.{ℕ, pos, [], ◌∷◌}
 use Rattle.dcp_types.specs.declared.data_types.DataType.TheVariants as types
 use Rattle.dcp_types.specs.declared.limits.Limits.{Limits}
 use Rattle.pdu_layout.specs.declared.messages.Cfg.{Cfg}

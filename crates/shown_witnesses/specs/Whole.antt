@@ -1,5 +1,5 @@
 -- A run of one step that finishes, and logs that lack one thing of it.
-use Rattle.std.specs.Prelude.{ℕ, ◌≡◌, List, [], ◌∷◌, reverse}
+use Rattle.std.specs.Prelude.{List, [], ◌∷◌, reverse}
 use Rattle.dcp_ends.specs.declared.entries.LogEntry.{LogEntry}
 use Rattle.master_spec.specs.Exchanged.{Exchanged}
 use Rattle.shown_witnesses.specs.Ends.{single, turn, sent, changed, stepped, asked_state, acked, refused, told_state, noticed, brought}
