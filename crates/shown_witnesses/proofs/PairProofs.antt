@@ -19,6 +19,7 @@ use Rattle.master_spec.specs.declared.reports.Report.TheVariants as reports
 use Rattle.shown_witnesses.specs.Ends.{pair, slave}
 use Rattle.shown_witnesses.specs.Logs.{IsRun, Tells, ShowsNothing}
 use Rattle.shown_witnesses.specs.Pairs.{both_silent, second_silent, first_faulted, silent_in_setup, fallen_back}
+use Rattle.shown_witnesses.specs.Together.{pair_twice, silent_in_reset}
 use Rattle.shown_witnesses.proofs.Askings.{opened, decided, question, change}
 use Rattle.shown_witnesses.proofs.Readings.{plain}
 
@@ -238,4 +239,40 @@ stuck_too = record {
       late = omega arith;
     },
   );
+}
+
+-- ---- the second is silent while it is reset
+
+run_reset : IsRun pair_twice silent_in_reset (reports.Failed 2 9 (NoAnswer 15))
+unfolding message_in spelling digits news_of bytes_of reaction step
+run_reset = record { by_rules = refl; reported = refl; in_time = omega arith }
+
+abbrev told_so_far : List Asking
+told_so_far = question 18 86 87 (StateAck 1) ∷ question 17 83 84 (StateAck 1) ∷ question 16 80 81 (StateAck 1) ∷ change 10 15 16 77 79 Ack ∷ question 14 72 74 (StateAck 16) ∷ []
+
+last_reset : Last pair_twice (reverse silent_in_reset) (slave 1) 9 tasks.Reset (question 19 89 90 (StateAck 1)) told_so_far
+unfolding message_in news_of
+last_reset = record { phase = refl; job = ([], refl); last = refl }
+
+pub none_in_reset : ShowsNothing pair_twice silent_in_reset (slave 1)
+none_in_reset p cause s = (plain (λ _. ⊥) last_reset 90 (StateAck 1) refl (omega arith) refl refl refl (λ c e. cc) (λ c e _. cc) (λ e. cc) p cause s).1
+
+last_unreset : Last pair_twice (reverse silent_in_reset) (slave 2) 9 tasks.Reset (opened 10 15 (Number 16 ∷ []) 78) (question 14 73 75 (StateAck 16) ∷ [])
+unfolding message_in news_of
+last_unreset = record { phase = refl; job = ([], refl); last = refl }
+
+pub tells_reset : Tells pair_twice silent_in_reset (slave 2) 9 (NoAnswer 15)
+tells_reset = record {
+  run = run_reset;
+  first = record {
+    is_in = (1, refl);
+    shown = record {
+      task = tasks.Reset;
+      request = opened 10 15 (Number 16 ∷ []) 78;
+      earlier = question 14 73 75 (StateAck 16) ∷ [];
+      last = last_unreset;
+      shown = (refl, record { often = refl; spaced = tt; turns = omega arith; late = tt });
+    };
+    none_before = λ t i b other s. none_in_reset 9 other (subst (λ t. Shown pair_twice (reverse silent_in_reset) t 9 other) (sym (only_first t i.0 i.1 b)) s);
+  };
 }

@@ -69,7 +69,7 @@ pub only_one : (s t : Slave) (i : ℕ) → slice_get (s ∷ []) i ≡ Some t →
 only_one s t zero e = cc
 only_one s t (suc i) e = absurd cc
 
-none_below : (s t : Slave) (i : ℕ) → slice_get (s ∷ []) i ≡ Some t → t.id < s.id → ⊥
+pub none_below : (s t : Slave) (i : ℕ) → slice_get (s ∷ []) i ≡ Some t → t.id < s.id → ⊥
 none_below s t i e b = let same : s.id ≡ t.id = ap (λ (x : Slave). x.id) (only_one s t i e) in omega arith
 
 -- ---- the seven rows of a request without an answer, and of one whose answer fits, where no values and no passing state are awaited

@@ -12,23 +12,25 @@ use Rattle.master_spec.specs.News.{news_of, bytes_of}
 use Rattle.master_spec.specs.Conversation.{reaction}
 use Rattle.master_spec.specs.Course.{step}
 use Rattle.master_spec.specs.Exchanged.{IsIn, IsDecided, Brings, Exchange, Exchanged, AllExchanged, IsBetween, in_order, in_run, nth_of}
-use Rattle.master_spec.specs.Requests.{Asking, is_prepare, is_step, is_stop, is_reset, is_outputs, is_acked}
+use Rattle.master_spec.specs.Requests.{brings_outputs, Asking, is_prepare, is_step, is_stop, is_reset, is_outputs, is_acked}
 use Rattle.master_spec.specs.declared.requests.Answer.TheVariants.{Ack, Nack, StateAck}
 use Rattle.master_spec.specs.declared.reports.Report.TheVariants as reports
 use Rattle.master_spec.specs.declared.setups.Slave.{Slave}
-use Rattle.shown_witnesses.specs.Ends.{slave, twice, brought}
-use Rattle.shown_witnesses.specs.Logs.{IsRun}
-use Rattle.shown_witnesses.specs.Runs.{NotAllExchanged, two_runs, not_reset, reset_refused, prepared_too_early}
+use Rattle.shown_witnesses.specs.Ends.{master, set_between, twice, brought}
+use Rattle.shown_witnesses.specs.Logs.{IsRun, Tells}
+use Rattle.shown_witnesses.specs.Runs.{old_outputs, NotAllExchanged, two_runs, not_reset, reset_refused, prepared_too_early}
 use Rattle.shown_witnesses.proofs.Askings.{decided, question, change}
-use Rattle.shown_witnesses.proofs.Readings.{only_one, one_answer, one_place}
+use Rattle.shown_witnesses.proofs.Readings.{none_below, only_one, one_answer, one_place}
+use Rattle.shown_witnesses.proofs.Places.{places, IsAmong, brought_at}
+use Rattle.master_spec.specs.Shown.{Last}
+use Rattle.master_spec.specs.declared.tasks.Task.{Task}
+use Rattle.master_spec.specs.declared.tasks.Task.TheVariants as tasks
+use Rattle.master_spec.specs.declared.causes.Cause.TheVariants.{DataMissing}
 use Rattle.shown_witnesses.proofs.Lists.{each_passes}
 
 pub run_twice : IsRun twice two_runs (reports.Finished 1)
 unfolding message_in spelling digits news_of bytes_of reaction step
 run_twice = record { by_rules = refl; reported = refl; in_time = omega arith }
-
-abbrev the_slave : Slave
-the_slave = record { id = 1; address = (slave 1).address; types = (slave 1).types; script = record { uuid = 1; setup = cfg.Clear ∷ []; adjusts = (cfg.Parameter 0 types.I64 (pos 5) ∷ []) ∷ [] } }
 
 -- ---- the first run
 
@@ -52,13 +54,13 @@ Facts_1 s =
     × (slice_get (in_run twice (reverse two_runs) s 1) 4 ≡ Some running_1)
     × Brings twice (reverse two_runs) s 1 48
 
-facts_1 : Facts_1 the_slave
+facts_1 : Facts_1 set_between
 unfolding message_in news_of
 facts_1 = (refl, refl, refl, refl, (brought 1 1 8, refl, refl))
 
 abbrev exchange_1 : (s : Slave) → IsIn twice s → Exchange twice (reverse two_runs) s 1 1
 exchange_1 s i =
-    let f = subst Facts_1 (only_one the_slave s i.0 i.1) facts_1 in
+    let f = subst Facts_1 (only_one set_between s i.0 i.1) facts_1 in
     record {
       step = stepped_1;
       stepped = 41;
@@ -89,7 +91,7 @@ exchange_1 s i =
 abbrev is_behind_1 : Asking → Bool
 is_behind_1 a = not ((is_step a || is_stop a) && nat_lt 46 a.first) || (nat_lt 51 a.first && nat_lt 48 a.first)
 
-all_behind_1 : list_all is_behind_1 (in_order twice (reverse two_runs) the_slave) ≡ true
+all_behind_1 : list_all is_behind_1 (in_order twice (reverse two_runs) set_between) ≡ true
 unfolding message_in news_of
 all_behind_1 = refl
 
@@ -99,7 +101,7 @@ behind_1 a h k b = (grind (arith, nat_tests), grind (arith, nat_tests))
 later_1 : (t : Slave) → IsIn twice t → (a : Asking) (n : ℕ) → slice_get (in_order twice (reverse two_runs) t) n ≡ Some a
     → IsTrue (is_step a || is_stop a) → 46 < a.first → (51 < a.first) × (48 < a.first)
 later_1 t i a n e k b =
-    let here = subst (λ s. list_all is_behind_1 (in_order twice (reverse two_runs) s) ≡ true) (only_one the_slave t i.0 i.1) all_behind_1 in
+    let here = subst (λ s. list_all is_behind_1 (in_order twice (reverse two_runs) s) ≡ true) (only_one set_between t i.0 i.1) all_behind_1 in
     behind_1 a (each_passes is_behind_1 (in_order twice (reverse two_runs) t) n a here e) k b
 
 abbrev exchanged_1 : Exchanged twice (reverse two_runs) 1 1
@@ -127,13 +129,13 @@ Facts_2 s =
     × (slice_get (in_run twice (reverse two_runs) s 2) 4 ≡ Some running_2)
     × Brings twice (reverse two_runs) s 3 106
 
-facts_2 : Facts_2 the_slave
+facts_2 : Facts_2 set_between
 unfolding message_in news_of
 facts_2 = (refl, refl, refl, refl, (brought 1 3 8, refl, refl))
 
 abbrev exchange_2 : (s : Slave) → IsIn twice s → Exchange twice (reverse two_runs) s 2 1
 exchange_2 s i =
-    let f = subst Facts_2 (only_one the_slave s i.0 i.1) facts_2 in
+    let f = subst Facts_2 (only_one set_between s i.0 i.1) facts_2 in
     record {
       step = stepped_2;
       stepped = 99;
@@ -164,7 +166,7 @@ exchange_2 s i =
 abbrev is_behind_2 : Asking → Bool
 is_behind_2 a = not ((is_step a || is_stop a) && nat_lt 104 a.first) || (nat_lt 109 a.first && nat_lt 106 a.first)
 
-all_behind_2 : list_all is_behind_2 (in_order twice (reverse two_runs) the_slave) ≡ true
+all_behind_2 : list_all is_behind_2 (in_order twice (reverse two_runs) set_between) ≡ true
 unfolding message_in news_of
 all_behind_2 = refl
 
@@ -174,7 +176,7 @@ behind_2 a h k b = (grind (arith, nat_tests), grind (arith, nat_tests))
 later_2 : (t : Slave) → IsIn twice t → (a : Asking) (n : ℕ) → slice_get (in_order twice (reverse two_runs) t) n ≡ Some a
     → IsTrue (is_step a || is_stop a) → 104 < a.first → (109 < a.first) × (106 < a.first)
 later_2 t i a n e k b =
-    let here = subst (λ s. list_all is_behind_2 (in_order twice (reverse two_runs) s) ≡ true) (only_one the_slave t i.0 i.1) all_behind_2 in
+    let here = subst (λ s. list_all is_behind_2 (in_order twice (reverse two_runs) s) ≡ true) (only_one set_between t i.0 i.1) all_behind_2 in
     behind_2 a (each_passes is_behind_2 (in_order twice (reverse two_runs) t) n a here e) k b
 
 abbrev exchanged_2 : Exchanged twice (reverse two_runs) 2 1
@@ -188,21 +190,21 @@ stop = change 9 17 11 53 54 Ack
 abbrev reset : Asking
 reset = change 10 19 16 59 60 Ack
 
-stops : nth_of is_stop 1 (in_order twice (reverse two_runs) the_slave) ≡ Some stop
+stops : nth_of is_stop 1 (in_order twice (reverse two_runs) set_between) ≡ Some stop
 unfolding message_in news_of
 stops = refl
 
-resets : nth_of is_reset 1 (in_order twice (reverse two_runs) the_slave) ≡ Some reset
+resets : nth_of is_reset 1 (in_order twice (reverse two_runs) set_between) ≡ Some reset
 unfolding message_in news_of
 resets = refl
 
-prepares : nth_of is_prepare 2 (in_order twice (reverse two_runs) the_slave) ≡ Some (change 3 22 1 67 68 Ack)
+prepares : nth_of is_prepare 2 (in_order twice (reverse two_runs) set_between) ≡ Some (change 3 22 1 67 68 Ack)
 unfolding message_in news_of
 prepares = refl
 
 prepared_behind : (t : Slave) → IsIn twice t → (a : Asking) → nth_of is_prepare 2 (in_order twice (reverse two_runs) t) ≡ Some a → 60 < a.first
 prepared_behind t i a e =
-    let here = subst (λ s. nth_of is_prepare 2 (in_order twice (reverse two_runs) s) ≡ Some (change 3 22 1 67 68 Ack)) (only_one the_slave t i.0 i.1) prepares in
+    let here = subst (λ s. nth_of is_prepare 2 (in_order twice (reverse two_runs) s) ≡ Some (change 3 22 1 67 68 Ack)) (only_one set_between t i.0 i.1) prepares in
     let both : Some (change 3 22 1 67 68 Ack) ≡ Some a = sym here ∙ e in
     let same : change 3 22 1 67 68 Ack ≡ a = cc in
     subst (λ a. 60 < a.first) same (omega arith)
@@ -213,9 +215,9 @@ between_runs = record {
   reset = λ s. reset;
   stopped = λ s. 54;
   done = λ s. 60;
-  stop_is = λ s i. subst (λ s. nth_of is_stop 1 (in_order twice (reverse two_runs) s) ≡ Some stop) (only_one the_slave s i.0 i.1) stops;
+  stop_is = λ s i. subst (λ s. nth_of is_stop 1 (in_order twice (reverse two_runs) s) ≡ Some stop) (only_one set_between s i.0 i.1) stops;
   stop_done = λ s i. refl;
-  reset_is = λ s i. subst (λ s. nth_of is_reset 1 (in_order twice (reverse two_runs) s) ≡ Some reset) (only_one the_slave s i.0 i.1) resets;
+  reset_is = λ s i. subst (λ s. nth_of is_reset 1 (in_order twice (reverse two_runs) s) ≡ Some reset) (only_one set_between s i.0 i.1) resets;
   reset_done = λ s i. refl;
   after = λ s i. omega arith;
   before = λ s t i j a e. prepared_behind t j a e;
@@ -240,39 +242,94 @@ all_twice = record { steps = exchanged_in; in_turn = λ r k a b c d e f. absurd 
 the_between : (log : List LogEntry) → AllExchanged twice (reverse log) → IsBetween twice (reverse log) 1
 the_between log x = x.between 1 (omega arith) (omega arith)
 
-none_reset : nth_of is_reset 1 (in_order twice (reverse not_reset) the_slave) ≡ None
+none_reset : nth_of is_reset 1 (in_order twice (reverse not_reset) set_between) ≡ None
 unfolding message_in news_of
 none_reset = refl
 
 pub not_reset_not : NotAllExchanged not_reset
 not_reset_not x =
     let b = the_between not_reset x in
-    let e : None ≡ Some (b.reset the_slave) = sym none_reset ∙ b.reset_is the_slave (0, refl) in cc
+    let e : None ≡ Some (b.reset set_between) = sym none_reset ∙ b.reset_is set_between (0, refl) in cc
 
-reset_and_refused : nth_of is_reset 1 (in_order twice (reverse reset_refused) the_slave) ≡ Some (change 10 19 16 59 60 (Nack 2))
+reset_and_refused : nth_of is_reset 1 (in_order twice (reverse reset_refused) set_between) ≡ Some (change 10 19 16 59 60 (Nack 2))
 unfolding message_in news_of
 reset_and_refused = refl
 
 pub refused_not : NotAllExchanged reset_refused
 refused_not x =
     let b = the_between reset_refused x in
-    let e : Some (change 10 19 16 59 60 (Nack 2)) ≡ Some (b.reset the_slave) = sym reset_and_refused ∙ b.reset_is the_slave (0, refl) in
-    let same : change 10 19 16 59 60 (Nack 2) ≡ b.reset the_slave = cc in
-    let told : Nack 2 ≡ Ack = one_answer (b.reset the_slave) (subst (λ a. IsDecided a 60 (Nack 2)) same refl) (b.reset_done the_slave (0, refl)) in cc
+    let e : Some (change 10 19 16 59 60 (Nack 2)) ≡ Some (b.reset set_between) = sym reset_and_refused ∙ b.reset_is set_between (0, refl) in
+    let same : change 10 19 16 59 60 (Nack 2) ≡ b.reset set_between = cc in
+    let told : Nack 2 ≡ Ack = one_answer (b.reset set_between) (subst (λ a. IsDecided a 60 (Nack 2)) same refl) (b.reset_done set_between (0, refl)) in cc
 
-reset_at_last : nth_of is_reset 1 (in_order twice (reverse prepared_too_early) the_slave) ≡ Some (change 10 35 16 109 110 Ack)
+reset_at_last : nth_of is_reset 1 (in_order twice (reverse prepared_too_early) set_between) ≡ Some (change 10 35 16 109 110 Ack)
 unfolding message_in news_of
 reset_at_last = refl
 
-prepared_before : nth_of is_prepare 2 (in_order twice (reverse prepared_too_early) the_slave) ≡ Some (change 3 19 1 59 60 Ack)
+prepared_before : nth_of is_prepare 2 (in_order twice (reverse prepared_too_early) set_between) ≡ Some (change 3 19 1 59 60 Ack)
 unfolding message_in news_of
 prepared_before = refl
 
 pub too_early_not : NotAllExchanged prepared_too_early
 too_early_not x =
     let b = the_between prepared_too_early x in
-    let e : Some (change 10 35 16 109 110 Ack) ≡ Some (b.reset the_slave) = sym reset_at_last ∙ b.reset_is the_slave (0, refl) in
-    let same : change 10 35 16 109 110 Ack ≡ b.reset the_slave = cc in
-    let place : 110 ≡ b.done the_slave = one_place (b.reset the_slave) (subst (λ a. IsDecided a 110 Ack) same refl) (b.reset_done the_slave (0, refl)) in
-    let order = b.before the_slave the_slave (0, refl) (0, refl) (change 3 19 1 59 60 Ack) prepared_before in
+    let e : Some (change 10 35 16 109 110 Ack) ≡ Some (b.reset set_between) = sym reset_at_last ∙ b.reset_is set_between (0, refl) in
+    let same : change 10 35 16 109 110 Ack ≡ b.reset set_between = cc in
+    let place : 110 ≡ b.done set_between = one_place (b.reset set_between) (subst (λ a. IsDecided a 110 Ack) same refl) (b.reset_done set_between (0, refl)) in
+    let order = b.before set_between set_between (0, refl) (0, refl) (change 3 19 1 59 60 Ack) prepared_before in
     omega arith
+
+-- ---- outputs of the first run in the second
+
+run_old : IsRun twice old_outputs (reports.Failed 1 16 (DataMissing 0))
+unfolding message_in spelling digits news_of bytes_of reaction step
+run_old = record { by_rules = refl; reported = refl; in_time = omega arith }
+
+abbrev home : Asking
+home = question 29 89 90 (StateAck 5)
+
+abbrev sending : List Asking
+sending = change 8 28 7 85 86 Ack ∷ question 27 82 83 (StateAck 7) ∷ []
+
+abbrev outputs : Task
+outputs = tasks.FirstOutputs 2
+
+last_old : Last twice (reverse old_outputs) set_between 16 outputs home sending
+unfolding message_in news_of
+last_old = record { phase = refl; job = ([], refl); last = refl }
+
+none_came : places (brings_outputs master set_between 2 1) 0 old_outputs ≡ []
+unfolding message_in news_of
+none_came = refl
+
+none_here : (i : ℕ) → Brings twice (reverse old_outputs) set_between 2 i → ⊥
+none_here i h = subst (λ ps. IsAmong ps i) none_came (brought_at twice (reverse old_outputs) set_between 2 i h)
+
+pub tells_old : Tells twice old_outputs set_between 16 (DataMissing 0)
+tells_old = record {
+  run = run_old;
+  first = record {
+    is_in = (0, refl);
+    shown = record {
+      task = outputs;
+      request = home;
+      earlier = sending;
+      last = last_old;
+      shown = record {
+        row = 2;
+        row_is = refl;
+        step = refl;
+        asks_state = refl;
+        place = 90;
+        state = 5;
+        told = refl;
+        target = refl;
+        turns = omega arith;
+        request = change 8 28 7 85 86 Ack;
+        request_is = refl;
+        missing = λ i b h. absurd (none_here i h);
+      };
+    };
+    none_before = λ t i b other _. none_below set_between t i.0 i.1 b;
+  };
+}

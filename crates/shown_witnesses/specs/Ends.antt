@@ -34,14 +34,11 @@ abbrev pub pair : (turn_limit watch_turns steps : ℕ) → Setup
 pair turn_limit watch_turns steps = record { address = master; limits = limits turn_limit 1 watch_turns; steps = steps; runs = 1; slaves = slave 1 ∷ slave 2 ∷ [] }
 
 -- two runs of one step with one slave, of which a parameter is set between them
+abbrev pub set_between : Slave
+set_between = record (slave 1) { script = record { uuid = 1; setup = cfg.Clear ∷ []; adjusts = (cfg.Parameter 0 types.I64 (pos 5) ∷ []) ∷ [] } }
+
 abbrev pub twice : Setup
-twice = record {
-  address = master;
-  limits = limits 1 2 1;
-  steps = 1;
-  runs = 2;
-  slaves = record (slave 1) { script = record { uuid = 1; setup = cfg.Clear ∷ []; adjusts = (cfg.Parameter 0 types.I64 (pos 5) ∷ []) ∷ [] } } ∷ [];
-}
+twice = record { address = master; limits = limits 1 2 1; steps = 1; runs = 2; slaves = set_between ∷ [] }
 
 -- ---- entries: what the master sent to slave s and got from it
 

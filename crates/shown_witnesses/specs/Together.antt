@@ -2,6 +2,7 @@
 use Rattle.std.specs.Prelude.{ℕ, ◌+◌, List, [], ◌∷◌, reverse}
 use Rattle.dcp_ends.specs.declared.entries.LogEntry.{LogEntry}
 use Rattle.master_spec.specs.Exchanged.{Exchanged}
+use Rattle.master_spec.specs.declared.setups.Setup.{Setup}
 use Rattle.shown_witnesses.specs.Ends.{pair, turn, changed, started, stepped, asked_state, acked, told_state, brought}
 use Rattle.shown_witnesses.specs.Pairs.{both_registered}
 
@@ -45,6 +46,16 @@ one_behind = both_running (
     ∷ turn ∷ changed 1 8 15 13 ∷ changed 2 8 15 13 ∷ acked 1 15 ∷ acked 2 15 ∷ brought 1 1 7
     ∷ turn ∷ asked_state 1 16 ∷ asked_state 2 16 ∷ told_state 1 16 11 ∷ told_state 2 16 11
     ∷ turn ∷ changed 1 9 17 11 ∷ brought 2 1 7 ∷ changed 2 9 17 11 ∷ [])
+
+-- ---- two runs without steps: the second does not answer when it is reset, and the first tells each time that it is in CONFIGURATION
+
+abbrev pub pair_twice : Setup
+pair_twice = record (pair 3 1 0) { runs = 2 }
+
+abbrev pub silent_in_reset : List LogEntry
+silent_in_reset = both_running (both 9 13 11 16 (
+    turn ∷ changed 1 10 15 16 ∷ changed 2 10 15 16 ∷ acked 1 15 ∷ asked_state 1 16 ∷ told_state 1 16 1
+    ∷ turn ∷ asked_state 1 17 ∷ told_state 1 17 1 ∷ turn ∷ asked_state 1 18 ∷ told_state 1 18 1 ∷ turn ∷ asked_state 1 19 ∷ told_state 1 19 1 ∷ turn ∷ []))
 
 -- the step is not exchanged by both in this log
 abbrev pub NotTogether : List LogEntry → Type 0

@@ -5,6 +5,7 @@ ghost use Rattle.master_spec.specs.declared.causes.Cause.TheVariants.{NoAnswer, 
 ghost use Rattle.shown_witnesses.specs.Ends.{pair, slave};
 ghost use Rattle.shown_witnesses.specs.Logs.{Tells, ShowsNothing};
 ghost use Rattle.shown_witnesses.specs.Pairs.{both_silent, second_silent, first_faulted, silent_in_setup};
+ghost use Rattle.shown_witnesses.specs.Together.{pair_twice, silent_in_reset};
 ghost use Rattle.std.specs.Prelude.{reverse};
 
 /// Where neither slave answers, both are shown to be silent, and the first is named.
@@ -31,4 +32,11 @@ pub fn signs_of_life_show_nothing()
 pub fn later_ends_of_lesser_slaves_are_named()
     ensures first { Tells (pair 1 1 0) first_faulted (slave 1) 1 (Faulted 3 35) }
     ensures second { Shown (pair 1 1 0) (reverse first_faulted) (slave 2) 1 (NoAnswer 0) }
+{}
+
+/// Where the second is silent while it is reset, nothing is shown of the first, though turns pass after it has
+/// told its state: outputs are missing only in a phase that has some.
+pub fn phases_without_outputs_miss_none()
+    ensures second { Tells pair_twice silent_in_reset (slave 2) 9 (NoAnswer 15) }
+    ensures first { ShowsNothing pair_twice silent_in_reset (slave 1) }
 {}

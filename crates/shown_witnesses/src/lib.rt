@@ -16,7 +16,9 @@ mod stuck;
 mod unexpected;
 
 pub use bounds::{small_bound, usual_bound};
-pub use data_missing::{missing_outputs_are_shown, missing_outputs_had_their_time};
+pub use data_missing::{
+    missing_outputs_are_shown, missing_outputs_had_their_time, outputs_are_of_their_run,
+};
 pub use faulted::{fault_needs_its_question, faults_are_shown};
 pub use finished::{
     exchanges_need_their_answers, exchanges_need_their_values, finished_runs_are_exchanged,
@@ -25,8 +27,8 @@ pub use finished::{
 };
 pub use inputs_missing::{missing_inputs_are_shown, missing_inputs_need_each_try};
 pub use least::{
-    later_ends_of_lesser_slaves_are_named, passed_slaves_are_not_named, signs_of_life_show_nothing,
-    the_least_is_named,
+    later_ends_of_lesser_slaves_are_named, passed_slaves_are_not_named,
+    phases_without_outputs_miss_none, signs_of_life_show_nothing, the_least_is_named,
 };
 pub use no_answer::{late_answers_show_both, silence_is_shown, silence_needs_each_sending};
 pub use refused::{refusals_are_shown, refusals_need_their_request};
