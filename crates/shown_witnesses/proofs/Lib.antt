@@ -7,6 +7,6 @@ pub mod FirstPhases
 pub mod LaterPhases
 pub mod Exchanges
 pub mod Unexchanged
-pub mod PairProofs
-pub mod RunProofs
-pub mod TogetherProofs
+pub mod Pairs
+pub mod Runs
+pub mod Together

@@ -1,4 +1,4 @@
-use Rattle.shown_witnesses.proofs.RunProofs.{run_twice, all_twice}
+use Rattle.shown_witnesses.proofs.Runs.{run_twice, all_twice}
 use Rattle.shown_witnesses.proofs.finished.finished_runs_are_separate.Goals as goal
 
 pub returns-clause-run : goal.returns-clause-run

@@ -1,4 +1,4 @@
-use Rattle.shown_witnesses.proofs.TogetherProofs.{run_together, all_together}
+use Rattle.shown_witnesses.proofs.Together.{run_together, all_together}
 use Rattle.shown_witnesses.proofs.finished.finished_slaves_are_together.Goals as goal
 
 pub returns-clause-run : goal.returns-clause-run

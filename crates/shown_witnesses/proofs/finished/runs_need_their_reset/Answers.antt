@@ -1,4 +1,4 @@
-use Rattle.shown_witnesses.proofs.RunProofs.{not_reset_not, refused_not, too_early_not}
+use Rattle.shown_witnesses.proofs.Runs.{not_reset_not, refused_not, too_early_not}
 use Rattle.shown_witnesses.proofs.finished.runs_need_their_reset.Goals as goal
 
 pub returns-clause-missing : goal.returns-clause-missing

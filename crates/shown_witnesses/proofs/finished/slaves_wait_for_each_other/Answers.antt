@@ -1,4 +1,4 @@
-use Rattle.shown_witnesses.proofs.TogetherProofs.{ahead_not, behind_not}
+use Rattle.shown_witnesses.proofs.Together.{ahead_not, behind_not}
 use Rattle.shown_witnesses.proofs.finished.slaves_wait_for_each_other.Goals as goal
 
 pub returns-clause-ahead : goal.returns-clause-ahead

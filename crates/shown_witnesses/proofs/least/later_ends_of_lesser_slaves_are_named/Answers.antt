@@ -1,4 +1,4 @@
-use Rattle.shown_witnesses.proofs.PairProofs.{tells_faulted, shown_other}
+use Rattle.shown_witnesses.proofs.Pairs.{tells_faulted, shown_other}
 use Rattle.shown_witnesses.proofs.least.later_ends_of_lesser_slaves_are_named.Goals as goal
 
 pub returns-clause-first : goal.returns-clause-first

@@ -1,4 +1,4 @@
-use Rattle.shown_witnesses.proofs.PairProofs.{tells_silent, none_passed}
+use Rattle.shown_witnesses.proofs.Pairs.{tells_silent, none_passed}
 use Rattle.shown_witnesses.proofs.least.passed_slaves_are_not_named.Goals as goal
 
 pub returns-clause-second : goal.returns-clause-second

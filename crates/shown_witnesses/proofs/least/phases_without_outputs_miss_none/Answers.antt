@@ -1,4 +1,4 @@
-use Rattle.shown_witnesses.proofs.PairProofs.{tells_reset, none_in_reset}
+use Rattle.shown_witnesses.proofs.Pairs.{tells_reset, none_in_reset}
 use Rattle.shown_witnesses.proofs.least.phases_without_outputs_miss_none.Goals as goal
 
 pub returns-clause-second : goal.returns-clause-second

@@ -1,4 +1,4 @@
-use Rattle.shown_witnesses.proofs.PairProofs.{tells_setup, none_setup}
+use Rattle.shown_witnesses.proofs.Pairs.{tells_setup, none_setup}
 use Rattle.shown_witnesses.proofs.least.signs_of_life_show_nothing.Goals as goal
 
 pub returns-clause-second : goal.returns-clause-second

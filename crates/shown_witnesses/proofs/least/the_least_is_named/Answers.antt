@@ -1,4 +1,4 @@
-use Rattle.shown_witnesses.proofs.PairProofs.{tells_both, shown_two, not_second}
+use Rattle.shown_witnesses.proofs.Pairs.{tells_both, shown_two, not_second}
 use Rattle.shown_witnesses.proofs.least.the_least_is_named.Goals as goal
 
 pub returns-clause-first : goal.returns-clause-first

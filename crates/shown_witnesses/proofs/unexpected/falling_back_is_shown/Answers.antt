@@ -1,4 +1,4 @@
-use Rattle.shown_witnesses.proofs.PairProofs.{tells_back, stuck_too}
+use Rattle.shown_witnesses.proofs.Pairs.{tells_back, stuck_too}
 use Rattle.shown_witnesses.proofs.unexpected.falling_back_is_shown.Goals as goal
 
 pub returns-clause-first : goal.returns-clause-first
