@@ -18,7 +18,7 @@ use Rattle.shown_witnesses.specs.Logs.{IsRun}
 use Rattle.shown_witnesses.specs.Whole.{whole}
 use Rattle.shown_witnesses.proofs.Askings.{decided, question, change}
 use Rattle.shown_witnesses.proofs.Readings.{only_one}
-use Rattle.shown_witnesses.proofs.Lists.{each_passes}
+use Rattle.shown_witnesses.proofs.Alone.{IsAlone, is_behind, alone}
 
 pub run_whole : IsRun (single 1) whole (reports.Finished 1)
 unfolding message_in spelling digits news_of bytes_of reaction step
@@ -36,69 +36,29 @@ asked = change 8 15 13 46 47 Ack
 abbrev running : Asking
 running = question 16 50 51 (StateAck 11)
 
--- what the log has of the step with a slave
-abbrev Facts : Slave → Type 0
-Facts s =
-    (nth_of (λ a. is_step a && is_acked a) 1 (in_run (single 1) (reverse whole) s 1) ≡ Some stepped)
-    × (slice_get (in_run (single 1) (reverse whole) s 1) 2 ≡ Some computed)
-    × (nth_of is_outputs 1 (in_run (single 1) (reverse whole) s 1) ≡ Some asked)
-    × (slice_get (in_run (single 1) (reverse whole) s 1) 4 ≡ Some running)
-    × Brings (single 1) (reverse whole) s 1 48
-
-facts : Facts (slave 1)
+exchange : Exchange (single 1) (reverse whole) (slave 1) 1 1
 unfolding message_in news_of
-facts = (refl, refl, refl, refl, (brought 1 1 8, refl, refl))
+exchange = record {
+  step = stepped; stepped = 41; computed = computed; told_computed = 44; outputs = asked; sent = 47; running = running; told_running = 51; came = 48;
+  step_is = refl; single = refl; step_done = refl;
+  computed_is = (2, refl, refl); computed_done = refl;
+  outputs_is = refl; outputs_done = refl;
+  running_is = (4, refl, refl); running_done = refl;
+  brought = (brought 1 1 8, refl, refl);
+  first = omega arith; second = omega arith; third = omega arith; fourth = omega arith
+}
 
-abbrev exchange : (s : Slave) → IsIn (single 1) s → Exchange (single 1) (reverse whole) s 1 1
-exchange s i =
-    let f = subst Facts (only_one (slave 1) s i.0 i.1) facts in
-    record {
-      step = stepped;
-      stepped = 41;
-      computed = computed;
-      told_computed = 44;
-      outputs = asked;
-      sent = 47;
-      running = running;
-      told_running = 51;
-      came = 48;
-      step_is = f.0;
-      single = refl;
-      step_done = refl;
-      computed_is = (2, f.1, refl);
-      computed_done = refl;
-      outputs_is = f.2;
-      outputs_done = refl;
-      running_is = (4, f.3, refl);
-      running_done = refl;
-      brought = f.4;
-      first = omega arith;
-      second = omega arith;
-      third = omega arith;
-      fourth = omega arith;
-    }
-
--- ---- the barriers
-
--- a step or a stop after the outputs comes after the end of the exchange
-abbrev is_behind : Asking → Bool
-is_behind a = not ((is_step a || is_stop a) && nat_lt 46 a.first) || (nat_lt 51 a.first && nat_lt 48 a.first)
-
-all_behind : list_all is_behind (in_order (single 1) (reverse whole) (slave 1)) ≡ true
+-- after the outputs no step or stop comes before the end of the exchange
+behind : list_all (is_behind 46 51 48) (in_order (single 1) (reverse whole) (slave 1)) ≡ true
 unfolding message_in news_of
-all_behind = refl
+behind = refl
 
-behind : (a : Asking) → is_behind a ≡ true → IsTrue (is_step a || is_stop a) → 46 < a.first → (51 < a.first) × (48 < a.first)
-behind a h k b = (grind (arith, nat_tests), grind (arith, nat_tests))
-
-later : (t : Slave) → IsIn (single 1) t → (a : Asking) (n : ℕ) → slice_get (in_order (single 1) (reverse whole) t) n ≡ Some a
-    → IsTrue (is_step a || is_stop a) → 46 < a.first → (51 < a.first) × (48 < a.first)
-later t i a n e k b =
-    let here = subst (λ s. list_all is_behind (in_order (single 1) (reverse whole) s) ≡ true) (only_one (slave 1) t i.0 i.1) all_behind in
-    behind a (each_passes is_behind (in_order (single 1) (reverse whole) t) n a here e) k b
+only : IsAlone (single 1) (slave 1)
+only t i = only_one (slave 1) t i.0 i.1
 
 exchanged : Exchanged (single 1) (reverse whole) 1 1
-exchanged = record { each = exchange; computed = λ s t i j. omega arith; sent = λ s t i j a n e k b. later t j a n e k b }
+unfolding exchange
+exchanged = alone (single 1) (reverse whole) (slave 1) 1 1 only exchange behind
 
 pub all_exchanged : AllExchanged (single 1) (reverse whole)
 all_exchanged = record {

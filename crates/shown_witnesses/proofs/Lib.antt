@@ -2,6 +2,7 @@ pub mod Readings
 pub mod Askings
 pub mod Places
 pub mod Lists
+pub mod Alone
 pub mod Silences
 pub mod FirstPhases
 pub mod LaterPhases

@@ -26,11 +26,14 @@ use Rattle.master_spec.specs.Shown.{Last}
 use Rattle.master_spec.specs.declared.tasks.Task.{Task}
 use Rattle.master_spec.specs.declared.tasks.Task.TheVariants as tasks
 use Rattle.master_spec.specs.declared.causes.Cause.TheVariants.{DataMissing}
-use Rattle.shown_witnesses.proofs.Lists.{each_passes}
+use Rattle.shown_witnesses.proofs.Alone.{IsAlone, is_behind, alone}
 
 pub run_twice : IsRun twice two_runs (reports.Finished 1)
 unfolding message_in spelling digits news_of bytes_of reaction step
 run_twice = record { by_rules = refl; reported = refl; in_time = omega arith }
+
+only : IsAlone twice set_between
+only t i = only_one set_between t i.0 i.1
 
 -- ---- the first run
 
@@ -46,66 +49,26 @@ asked_1 = change 8 15 13 46 47 Ack
 abbrev running_1 : Asking
 running_1 = question 16 50 51 (StateAck 11)
 
-abbrev Facts_1 : Slave → Type 0
-Facts_1 s =
-    (nth_of (λ a. is_step a && is_acked a) 1 (in_run twice (reverse two_runs) s 1) ≡ Some stepped_1)
-    × (slice_get (in_run twice (reverse two_runs) s 1) 2 ≡ Some computed_1)
-    × (nth_of is_outputs 1 (in_run twice (reverse two_runs) s 1) ≡ Some asked_1)
-    × (slice_get (in_run twice (reverse two_runs) s 1) 4 ≡ Some running_1)
-    × Brings twice (reverse two_runs) s 1 48
-
-facts_1 : Facts_1 set_between
+exchange_1 : Exchange twice (reverse two_runs) set_between 1 1
 unfolding message_in news_of
-facts_1 = (refl, refl, refl, refl, (brought 1 1 8, refl, refl))
+exchange_1 = record {
+  step = stepped_1; stepped = 41; computed = computed_1; told_computed = 44; outputs = asked_1; sent = 47;
+  running = running_1; told_running = 51; came = 48;
+  step_is = refl; single = refl; step_done = refl;
+  computed_is = (2, refl, refl); computed_done = refl;
+  outputs_is = refl; outputs_done = refl;
+  running_is = (4, refl, refl); running_done = refl;
+  brought = (brought 1 1 8, refl, refl);
+  first = omega arith; second = omega arith; third = omega arith; fourth = omega arith
+}
 
-abbrev exchange_1 : (s : Slave) → IsIn twice s → Exchange twice (reverse two_runs) s 1 1
-exchange_1 s i =
-    let f = subst Facts_1 (only_one set_between s i.0 i.1) facts_1 in
-    record {
-      step = stepped_1;
-      stepped = 41;
-      computed = computed_1;
-      told_computed = 44;
-      outputs = asked_1;
-      sent = 47;
-      running = running_1;
-      told_running = 51;
-      came = 48;
-      step_is = f.0;
-      single = refl;
-      step_done = refl;
-      computed_is = (2, f.1, refl);
-      computed_done = refl;
-      outputs_is = f.2;
-      outputs_done = refl;
-      running_is = (4, f.3, refl);
-      running_done = refl;
-      brought = f.4;
-      first = omega arith;
-      second = omega arith;
-      third = omega arith;
-      fourth = omega arith;
-    }
-
--- a step or a stop after the outputs comes after the end of the exchange
-abbrev is_behind_1 : Asking → Bool
-is_behind_1 a = not ((is_step a || is_stop a) && nat_lt 46 a.first) || (nat_lt 51 a.first && nat_lt 48 a.first)
-
-all_behind_1 : list_all is_behind_1 (in_order twice (reverse two_runs) set_between) ≡ true
+behind_1 : list_all (is_behind 46 51 48) (in_order twice (reverse two_runs) set_between) ≡ true
 unfolding message_in news_of
-all_behind_1 = refl
+behind_1 = refl
 
-behind_1 : (a : Asking) → is_behind_1 a ≡ true → IsTrue (is_step a || is_stop a) → 46 < a.first → (51 < a.first) × (48 < a.first)
-behind_1 a h k b = (grind (arith, nat_tests), grind (arith, nat_tests))
-
-later_1 : (t : Slave) → IsIn twice t → (a : Asking) (n : ℕ) → slice_get (in_order twice (reverse two_runs) t) n ≡ Some a
-    → IsTrue (is_step a || is_stop a) → 46 < a.first → (51 < a.first) × (48 < a.first)
-later_1 t i a n e k b =
-    let here = subst (λ s. list_all is_behind_1 (in_order twice (reverse two_runs) s) ≡ true) (only_one set_between t i.0 i.1) all_behind_1 in
-    behind_1 a (each_passes is_behind_1 (in_order twice (reverse two_runs) t) n a here e) k b
-
-abbrev exchanged_1 : Exchanged twice (reverse two_runs) 1 1
-exchanged_1 = record { each = exchange_1; computed = λ s t i j. omega arith; sent = λ s t i j a n e k b. later_1 t j a n e k b }
+exchanged_1 : Exchanged twice (reverse two_runs) 1 1
+unfolding exchange_1
+exchanged_1 = alone twice (reverse two_runs) set_between 1 1 only exchange_1 behind_1
 
 -- ---- the second run
 
@@ -121,66 +84,26 @@ asked_2 = change 8 34 13 104 105 Ack
 abbrev running_2 : Asking
 running_2 = question 35 108 109 (StateAck 11)
 
-abbrev Facts_2 : Slave → Type 0
-Facts_2 s =
-    (nth_of (λ a. is_step a && is_acked a) 1 (in_run twice (reverse two_runs) s 2) ≡ Some stepped_2)
-    × (slice_get (in_run twice (reverse two_runs) s 2) 2 ≡ Some computed_2)
-    × (nth_of is_outputs 1 (in_run twice (reverse two_runs) s 2) ≡ Some asked_2)
-    × (slice_get (in_run twice (reverse two_runs) s 2) 4 ≡ Some running_2)
-    × Brings twice (reverse two_runs) s 3 106
-
-facts_2 : Facts_2 set_between
+exchange_2 : Exchange twice (reverse two_runs) set_between 2 1
 unfolding message_in news_of
-facts_2 = (refl, refl, refl, refl, (brought 1 3 8, refl, refl))
+exchange_2 = record {
+  step = stepped_2; stepped = 99; computed = computed_2; told_computed = 102; outputs = asked_2; sent = 105;
+  running = running_2; told_running = 109; came = 106;
+  step_is = refl; single = refl; step_done = refl;
+  computed_is = (2, refl, refl); computed_done = refl;
+  outputs_is = refl; outputs_done = refl;
+  running_is = (4, refl, refl); running_done = refl;
+  brought = (brought 1 3 8, refl, refl);
+  first = omega arith; second = omega arith; third = omega arith; fourth = omega arith
+}
 
-abbrev exchange_2 : (s : Slave) → IsIn twice s → Exchange twice (reverse two_runs) s 2 1
-exchange_2 s i =
-    let f = subst Facts_2 (only_one set_between s i.0 i.1) facts_2 in
-    record {
-      step = stepped_2;
-      stepped = 99;
-      computed = computed_2;
-      told_computed = 102;
-      outputs = asked_2;
-      sent = 105;
-      running = running_2;
-      told_running = 109;
-      came = 106;
-      step_is = f.0;
-      single = refl;
-      step_done = refl;
-      computed_is = (2, f.1, refl);
-      computed_done = refl;
-      outputs_is = f.2;
-      outputs_done = refl;
-      running_is = (4, f.3, refl);
-      running_done = refl;
-      brought = f.4;
-      first = omega arith;
-      second = omega arith;
-      third = omega arith;
-      fourth = omega arith;
-    }
-
--- a step or a stop after the outputs comes after the end of the exchange
-abbrev is_behind_2 : Asking → Bool
-is_behind_2 a = not ((is_step a || is_stop a) && nat_lt 104 a.first) || (nat_lt 109 a.first && nat_lt 106 a.first)
-
-all_behind_2 : list_all is_behind_2 (in_order twice (reverse two_runs) set_between) ≡ true
+behind_2 : list_all (is_behind 104 109 106) (in_order twice (reverse two_runs) set_between) ≡ true
 unfolding message_in news_of
-all_behind_2 = refl
+behind_2 = refl
 
-behind_2 : (a : Asking) → is_behind_2 a ≡ true → IsTrue (is_step a || is_stop a) → 104 < a.first → (109 < a.first) × (106 < a.first)
-behind_2 a h k b = (grind (arith, nat_tests), grind (arith, nat_tests))
-
-later_2 : (t : Slave) → IsIn twice t → (a : Asking) (n : ℕ) → slice_get (in_order twice (reverse two_runs) t) n ≡ Some a
-    → IsTrue (is_step a || is_stop a) → 104 < a.first → (109 < a.first) × (106 < a.first)
-later_2 t i a n e k b =
-    let here = subst (λ s. list_all is_behind_2 (in_order twice (reverse two_runs) s) ≡ true) (only_one set_between t i.0 i.1) all_behind_2 in
-    behind_2 a (each_passes is_behind_2 (in_order twice (reverse two_runs) t) n a here e) k b
-
-abbrev exchanged_2 : Exchanged twice (reverse two_runs) 2 1
-exchanged_2 = record { each = exchange_2; computed = λ s t i j. omega arith; sent = λ s t i j a n e k b. later_2 t j a n e k b }
+exchanged_2 : Exchanged twice (reverse two_runs) 2 1
+unfolding exchange_2
+exchanged_2 = alone twice (reverse two_runs) set_between 2 1 only exchange_2 behind_2
 
 -- ---- between the runs
 

@@ -17,6 +17,7 @@ use Rattle.shown_witnesses.specs.Ends.{master, slave, pair, brought}
 use Rattle.shown_witnesses.specs.Logs.{IsRun}
 use Rattle.shown_witnesses.specs.Together.{NotTogether, together, one_ahead, one_behind}
 use Rattle.shown_witnesses.proofs.Askings.{opened, decided, question, change}
+use Rattle.shown_witnesses.proofs.Alone.{moved}
 use Rattle.shown_witnesses.proofs.Lists.{each_passes, none_passes}
 use Rattle.shown_witnesses.proofs.Places.{places, IsAmong, brought_at}
 use Rattle.shown_witnesses.proofs.Unexchanged.{tells, it_tells}
@@ -46,17 +47,19 @@ asked_1 = change 8 15 13 77 79 Ack
 abbrev running_1 : Asking
 running_1 = question 16 84 86 (StateAck 11)
 
-abbrev Facts_1 : Slave → Type 0
-Facts_1 s =
-    (nth_of (λ a. is_step a && is_acked a) 1 (in_run (pair 3 1 1) (reverse together) s 1) ≡ Some stepped_1)
-    × (slice_get (in_run (pair 3 1 1) (reverse together) s 1) 2 ≡ Some computed_1)
-    × (nth_of is_outputs 1 (in_run (pair 3 1 1) (reverse together) s 1) ≡ Some asked_1)
-    × (slice_get (in_run (pair 3 1 1) (reverse together) s 1) 4 ≡ Some running_1)
-    × Brings (pair 3 1 1) (reverse together) s 1 81
-
-facts_1 : Facts_1 (slave 1)
+-- the exchange of the first
+there_1 : Exchange (pair 3 1 1) (reverse together) (slave 1) 1 1
 unfolding message_in news_of
-facts_1 = (refl, refl, refl, refl, (brought 1 1 7, refl, refl))
+there_1 = record {
+  step = stepped_1; stepped = 69; computed = computed_1; told_computed = 74; outputs = asked_1; sent = 79;
+  running = running_1; told_running = 86; came = 81;
+  step_is = refl; single = refl; step_done = refl;
+  computed_is = (2, refl, refl); computed_done = refl;
+  outputs_is = refl; outputs_done = refl;
+  running_is = (4, refl, refl); running_done = refl;
+  brought = (brought 1 1 7, refl, refl);
+  first = omega arith; second = omega arith; third = omega arith; fourth = omega arith
+}
 
 all_behind_1 : list_all (is_behind 77) (in_order (pair 3 1 1) (reverse together) (slave 1)) ≡ true
 unfolding message_in news_of
@@ -76,17 +79,19 @@ asked_2 = change 8 15 13 78 80 Ack
 abbrev running_2 : Asking
 running_2 = question 16 85 87 (StateAck 11)
 
-abbrev Facts_2 : Slave → Type 0
-Facts_2 s =
-    (nth_of (λ a. is_step a && is_acked a) 1 (in_run (pair 3 1 1) (reverse together) s 1) ≡ Some stepped_2)
-    × (slice_get (in_run (pair 3 1 1) (reverse together) s 1) 2 ≡ Some computed_2)
-    × (nth_of is_outputs 1 (in_run (pair 3 1 1) (reverse together) s 1) ≡ Some asked_2)
-    × (slice_get (in_run (pair 3 1 1) (reverse together) s 1) 4 ≡ Some running_2)
-    × Brings (pair 3 1 1) (reverse together) s 1 82
-
-facts_2 : Facts_2 (slave 2)
+-- the exchange of the second
+there_2 : Exchange (pair 3 1 1) (reverse together) (slave 2) 1 1
 unfolding message_in news_of
-facts_2 = (refl, refl, refl, refl, (brought 2 1 7, refl, refl))
+there_2 = record {
+  step = stepped_2; stepped = 70; computed = computed_2; told_computed = 75; outputs = asked_2; sent = 80;
+  running = running_2; told_running = 87; came = 82;
+  step_is = refl; single = refl; step_done = refl;
+  computed_is = (2, refl, refl); computed_done = refl;
+  outputs_is = refl; outputs_done = refl;
+  running_is = (4, refl, refl); running_done = refl;
+  brought = (brought 2 1 7, refl, refl);
+  first = omega arith; second = omega arith; third = omega arith; fourth = omega arith
+}
 
 all_behind_2 : list_all (is_behind 78) (in_order (pair 3 1 1) (reverse together) (slave 2)) ≡ true
 unfolding message_in news_of
@@ -101,60 +106,8 @@ is_2 : (s : Slave) → Some (slave 2) ≡ Some s → slave 2 ≡ s
 is_2 s e = cc
 
 abbrev exchange : (s : Slave) (i : ℕ) → slice_get (slave 1 ∷ slave 2 ∷ []) i ≡ Some s → Exchange (pair 3 1 1) (reverse together) s 1 1
-exchange s zero e =
-    let f = subst Facts_1 (is_1 s e) facts_1 in
-    record {
-      step = stepped_1;
-      stepped = 69;
-      computed = computed_1;
-      told_computed = 74;
-      outputs = asked_1;
-      sent = 79;
-      running = running_1;
-      told_running = 86;
-      came = 81;
-      step_is = f.0;
-      single = refl;
-      step_done = refl;
-      computed_is = (2, f.1, refl);
-      computed_done = refl;
-      outputs_is = f.2;
-      outputs_done = refl;
-      running_is = (4, f.3, refl);
-      running_done = refl;
-      brought = f.4;
-      first = omega arith;
-      second = omega arith;
-      third = omega arith;
-      fourth = omega arith;
-    }
-exchange s (suc zero) e =
-    let f = subst Facts_2 (is_2 s e) facts_2 in
-    record {
-      step = stepped_2;
-      stepped = 70;
-      computed = computed_2;
-      told_computed = 75;
-      outputs = asked_2;
-      sent = 80;
-      running = running_2;
-      told_running = 87;
-      came = 82;
-      step_is = f.0;
-      single = refl;
-      step_done = refl;
-      computed_is = (2, f.1, refl);
-      computed_done = refl;
-      outputs_is = f.2;
-      outputs_done = refl;
-      running_is = (4, f.3, refl);
-      running_done = refl;
-      brought = f.4;
-      first = omega arith;
-      second = omega arith;
-      third = omega arith;
-      fourth = omega arith;
-    }
+exchange s zero e = moved (slave 1) s (is_1 s e) there_1
+exchange s (suc zero) e = moved (slave 2) s (is_2 s e) there_2
 exchange s (suc (suc i)) e = absurd cc
 
 none_there : (s : Slave) → None ≡ Some s → ⊥
@@ -162,6 +115,7 @@ none_there s e = cc
 
 computed_before : (s t : Slave) (i : ℕ) (e : slice_get (slave 1 ∷ slave 2 ∷ []) i ≡ Some s) (j : ℕ) (f : slice_get (slave 1 ∷ slave 2 ∷ []) j ≡ Some t)
     → (exchange s i e).told_computed < (exchange t j f).outputs.first
+unfolding there_1 there_2
 computed_before s t zero e zero f = omega arith
 computed_before s t zero e (suc zero) f = omega arith
 computed_before s t (suc zero) e zero f = omega arith
@@ -172,6 +126,7 @@ computed_before s t (suc zero) e (suc (suc j)) f = absurd (none_there t f)
 
 later : (t : Slave) (j : ℕ) (f : slice_get (slave 1 ∷ slave 2 ∷ []) j ≡ Some t) (a : Asking) (n : ℕ)
     → slice_get (in_order (pair 3 1 1) (reverse together) t) n ≡ Some a → IsTrue (is_step a || is_stop a) → (exchange t j f).outputs.first < a.first → 87 < a.first
+unfolding there_1 there_2
 later t zero f a n e k b =
     let here = subst (λ s. list_all (is_behind 77) (in_order (pair 3 1 1) (reverse together) s) ≡ true) (is_1 t f) all_behind_1 in
     behind 77 a (each_passes (is_behind 77) (in_order (pair 3 1 1) (reverse together) t) n a here e) k b
@@ -181,6 +136,7 @@ later t (suc zero) f a n e k b =
 later t (suc (suc j)) f a n e k b = absurd (none_there t f)
 
 ended : (s : Slave) (i : ℕ) (e : slice_get (slave 1 ∷ slave 2 ∷ []) i ≡ Some s) (m : ℕ) → 87 < m → ((exchange s i e).told_running < m) × ((exchange s i e).came < m)
+unfolding there_1 there_2
 ended s zero e m b = (omega arith, omega arith)
 ended s (suc zero) e m b = (omega arith, omega arith)
 ended s (suc (suc i)) e m b = absurd (none_there s e)
