@@ -13,8 +13,15 @@ use Rattle.shown_witnesses.proofs.Lists.{each_passes}
 -- the exchange of a slave is that of an equal one, at the same places
 abbrev pub moved : {setup : Setup} {log : List LogEntry} {r k : ℕ} (s t : Slave) → s ≡ t → Exchange setup log s r k → Exchange setup log t r k
 moved {setup} {log} {r} {k} s t same x = record {
-  step = x.step; stepped = x.stepped; computed = x.computed; told_computed = x.told_computed; outputs = x.outputs; sent = x.sent;
-  running = x.running; told_running = x.told_running; came = x.came;
+  step = x.step;
+  stepped = x.stepped;
+  computed = x.computed;
+  told_computed = x.told_computed;
+  outputs = x.outputs;
+  sent = x.sent;
+  running = x.running;
+  told_running = x.told_running;
+  came = x.came;
   step_is = subst (λ s. nth_of (λ a. is_step a && is_acked a) k (in_run setup log s r) ≡ Some x.step) same x.step_is;
   single = x.single;
   step_done = x.step_done;
@@ -25,7 +32,10 @@ moved {setup} {log} {r} {k} s t same x = record {
   running_is = (x.running_is.0, subst (λ s. slice_get (in_run setup log s r) x.running_is.0 ≡ Some x.running) same x.running_is.1, x.running_is.2);
   running_done = x.running_done;
   brought = subst (λ s. Brings setup log s (((r - 1) * (setup.steps + 1) + k) % 65536) x.came) same x.brought;
-  first = x.first; second = x.second; third = x.third; fourth = x.fourth
+  first = x.first;
+  second = x.second;
+  third = x.third;
+  fourth = x.fourth;
 }
 
 -- a step or a stop after a place comes after two others
@@ -53,7 +63,7 @@ abbrev pub alone : (setup : Setup) (log : List LogEntry) (s : Slave) (r k : ℕ)
 alone setup log s r k one x all = record {
   each = λ t i. moved s t (one t i) x;
   computed = λ t u i j. before;
-  sent = λ t u i j a n e kind b. later setup log s u x.outputs.first x.told_running x.came (one u j) all a n e kind b
+  sent = λ t u i j a n e kind b. later setup log s u x.outputs.first x.told_running x.came (one u j) all a n e kind b;
 }
   where
     before : x.told_computed < x.outputs.first

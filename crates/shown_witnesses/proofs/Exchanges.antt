@@ -39,13 +39,29 @@ running = question 16 50 51 (StateAck 11)
 exchange : Exchange (single 1) (reverse whole) (slave 1) 1 1
 unfolding message_in news_of
 exchange = record {
-  step = stepped; stepped = 41; computed = computed; told_computed = 44; outputs = asked; sent = 47; running = running; told_running = 51; came = 48;
-  step_is = refl; single = refl; step_done = refl;
-  computed_is = (2, refl, refl); computed_done = refl;
-  outputs_is = refl; outputs_done = refl;
-  running_is = (4, refl, refl); running_done = refl;
+  step = stepped;
+  stepped = 41;
+  computed = computed;
+  told_computed = 44;
+  outputs = asked;
+  sent = 47;
+  running = running;
+  told_running = 51;
+  came = 48;
+  step_is = refl;
+  single = refl;
+  step_done = refl;
+  computed_is = (2, refl, refl);
+  computed_done = refl;
+  outputs_is = refl;
+  outputs_done = refl;
+  running_is = (4, refl, refl);
+  running_done = refl;
   brought = (brought 1 1 8, refl, refl);
-  first = omega arith; second = omega arith; third = omega arith; fourth = omega arith
+  first = omega arith;
+  second = omega arith;
+  third = omega arith;
+  fourth = omega arith;
 }
 
 -- after the outputs no step or stop comes before the end of the exchange

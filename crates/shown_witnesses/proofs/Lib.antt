@@ -11,3 +11,4 @@ pub mod Unexchanged
 pub mod Pairs
 pub mod Runs
 pub mod Together
+pub mod RoughRun

@@ -52,14 +52,29 @@ running_1 = question 16 50 51 (StateAck 11)
 exchange_1 : Exchange twice (reverse two_runs) set_between 1 1
 unfolding message_in news_of
 exchange_1 = record {
-  step = stepped_1; stepped = 41; computed = computed_1; told_computed = 44; outputs = asked_1; sent = 47;
-  running = running_1; told_running = 51; came = 48;
-  step_is = refl; single = refl; step_done = refl;
-  computed_is = (2, refl, refl); computed_done = refl;
-  outputs_is = refl; outputs_done = refl;
-  running_is = (4, refl, refl); running_done = refl;
+  step = stepped_1;
+  stepped = 41;
+  computed = computed_1;
+  told_computed = 44;
+  outputs = asked_1;
+  sent = 47;
+  running = running_1;
+  told_running = 51;
+  came = 48;
+  step_is = refl;
+  single = refl;
+  step_done = refl;
+  computed_is = (2, refl, refl);
+  computed_done = refl;
+  outputs_is = refl;
+  outputs_done = refl;
+  running_is = (4, refl, refl);
+  running_done = refl;
   brought = (brought 1 1 8, refl, refl);
-  first = omega arith; second = omega arith; third = omega arith; fourth = omega arith
+  first = omega arith;
+  second = omega arith;
+  third = omega arith;
+  fourth = omega arith;
 }
 
 behind_1 : list_all (is_behind 46 51 48) (in_order twice (reverse two_runs) set_between) ≡ true
@@ -87,14 +102,29 @@ running_2 = question 35 108 109 (StateAck 11)
 exchange_2 : Exchange twice (reverse two_runs) set_between 2 1
 unfolding message_in news_of
 exchange_2 = record {
-  step = stepped_2; stepped = 99; computed = computed_2; told_computed = 102; outputs = asked_2; sent = 105;
-  running = running_2; told_running = 109; came = 106;
-  step_is = refl; single = refl; step_done = refl;
-  computed_is = (2, refl, refl); computed_done = refl;
-  outputs_is = refl; outputs_done = refl;
-  running_is = (4, refl, refl); running_done = refl;
+  step = stepped_2;
+  stepped = 99;
+  computed = computed_2;
+  told_computed = 102;
+  outputs = asked_2;
+  sent = 105;
+  running = running_2;
+  told_running = 109;
+  came = 106;
+  step_is = refl;
+  single = refl;
+  step_done = refl;
+  computed_is = (2, refl, refl);
+  computed_done = refl;
+  outputs_is = refl;
+  outputs_done = refl;
+  running_is = (4, refl, refl);
+  running_done = refl;
   brought = (brought 1 3 8, refl, refl);
-  first = omega arith; second = omega arith; third = omega arith; fourth = omega arith
+  first = omega arith;
+  second = omega arith;
+  third = omega arith;
+  fourth = omega arith;
 }
 
 behind_2 : list_all (is_behind 104 109 106) (in_order twice (reverse two_runs) set_between) ≡ true

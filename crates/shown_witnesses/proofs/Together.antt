@@ -51,14 +51,29 @@ running_1 = question 16 84 86 (StateAck 11)
 there_1 : Exchange (pair 3 1 1) (reverse together) (slave 1) 1 1
 unfolding message_in news_of
 there_1 = record {
-  step = stepped_1; stepped = 69; computed = computed_1; told_computed = 74; outputs = asked_1; sent = 79;
-  running = running_1; told_running = 86; came = 81;
-  step_is = refl; single = refl; step_done = refl;
-  computed_is = (2, refl, refl); computed_done = refl;
-  outputs_is = refl; outputs_done = refl;
-  running_is = (4, refl, refl); running_done = refl;
+  step = stepped_1;
+  stepped = 69;
+  computed = computed_1;
+  told_computed = 74;
+  outputs = asked_1;
+  sent = 79;
+  running = running_1;
+  told_running = 86;
+  came = 81;
+  step_is = refl;
+  single = refl;
+  step_done = refl;
+  computed_is = (2, refl, refl);
+  computed_done = refl;
+  outputs_is = refl;
+  outputs_done = refl;
+  running_is = (4, refl, refl);
+  running_done = refl;
   brought = (brought 1 1 7, refl, refl);
-  first = omega arith; second = omega arith; third = omega arith; fourth = omega arith
+  first = omega arith;
+  second = omega arith;
+  third = omega arith;
+  fourth = omega arith;
 }
 
 all_behind_1 : list_all (is_behind 77) (in_order (pair 3 1 1) (reverse together) (slave 1)) ≡ true
@@ -83,14 +98,29 @@ running_2 = question 16 85 87 (StateAck 11)
 there_2 : Exchange (pair 3 1 1) (reverse together) (slave 2) 1 1
 unfolding message_in news_of
 there_2 = record {
-  step = stepped_2; stepped = 70; computed = computed_2; told_computed = 75; outputs = asked_2; sent = 80;
-  running = running_2; told_running = 87; came = 82;
-  step_is = refl; single = refl; step_done = refl;
-  computed_is = (2, refl, refl); computed_done = refl;
-  outputs_is = refl; outputs_done = refl;
-  running_is = (4, refl, refl); running_done = refl;
+  step = stepped_2;
+  stepped = 70;
+  computed = computed_2;
+  told_computed = 75;
+  outputs = asked_2;
+  sent = 80;
+  running = running_2;
+  told_running = 87;
+  came = 82;
+  step_is = refl;
+  single = refl;
+  step_done = refl;
+  computed_is = (2, refl, refl);
+  computed_done = refl;
+  outputs_is = refl;
+  outputs_done = refl;
+  running_is = (4, refl, refl);
+  running_done = refl;
   brought = (brought 2 1 7, refl, refl);
-  first = omega arith; second = omega arith; third = omega arith; fourth = omega arith
+  first = omega arith;
+  second = omega arith;
+  third = omega arith;
+  fourth = omega arith;
 }
 
 all_behind_2 : list_all (is_behind 78) (in_order (pair 3 1 1) (reverse together) (slave 2)) ≡ true

@@ -8,3 +8,4 @@ pub mod Runs
 pub mod Pairs
 pub mod Long
 pub mod Together
+pub mod Rough

@@ -4,6 +4,7 @@ ghost use Rattle.master_spec.specs.declared.causes.Cause.TheVariants.{DataMissin
 ghost use Rattle.shown_witnesses.specs.Ends.{set_between, single, slave, twice};
 ghost use Rattle.shown_witnesses.specs.Logs.{Tells, ShowsOnly, ShowsNothing};
 ghost use Rattle.shown_witnesses.specs.Phases.{late_outputs, missing_outputs, other_outputs, outputs_awaited, outputs_at_last};
+ghost use Rattle.shown_witnesses.specs.Rough.{rough_missing};
 ghost use Rattle.shown_witnesses.specs.Runs.{old_outputs};
 
 /// First outputs that do not come within a turn after the state that they belong to are shown to be missing.
@@ -24,4 +25,9 @@ pub fn missing_outputs_had_their_time()
 /// In the second run the outputs of the first do not count.
 pub fn outputs_are_of_their_run()
     ensures { Tells twice old_outputs set_between 16 (DataMissing 0) }
+{}
+
+/// The outputs of the second step are shown to be missing after a step that was refused once.
+pub fn outputs_are_of_their_step()
+    ensures { Tells (single 2) rough_missing (slave 1) 11 (DataMissing 2) }
 {}

@@ -4,6 +4,7 @@ ghost use Rattle.master_spec.specs.Exchanged.{AllExchanged};
 ghost use Rattle.master_spec.specs.declared.reports.Report.TheVariants.{Finished};
 ghost use Rattle.shown_witnesses.specs.Ends.{pair, single, twice};
 ghost use Rattle.shown_witnesses.specs.Logs.{IsRun};
+ghost use Rattle.shown_witnesses.specs.Rough.{rough_whole};
 ghost use Rattle.shown_witnesses.specs.Runs.{NotAllExchanged, two_runs, not_reset, reset_refused, prepared_too_early};
 ghost use Rattle.shown_witnesses.specs.Together.{NotTogether, together, one_ahead, one_behind};
 ghost use Rattle.shown_witnesses.specs.Whole.{NotExchanged, whole, only_noticed, asked_too_early, early_values, late_values, not_running, outputs_refused, two_at_once};
@@ -56,4 +57,11 @@ pub fn finished_slaves_are_together()
 pub fn slaves_wait_for_each_other()
     ensures ahead { NotTogether one_ahead }
     ensures behind { NotTogether one_behind }
+{}
+
+/// So does the log of two steps over a bad network, with a repeated request, an answer that comes twice, a
+/// step that is refused once, and values that come after the state.
+pub fn rough_runs_are_exchanged()
+    ensures run { IsRun (single 2) rough_whole (Finished 2) }
+    ensures exchanged { AllExchanged (single 2) (reverse rough_whole) }
 {}

@@ -22,8 +22,8 @@ pub use data_missing::{
 pub use faulted::{fault_needs_its_question, faults_are_shown};
 pub use finished::{
     exchanges_need_their_answers, exchanges_need_their_values, finished_runs_are_exchanged,
-    finished_runs_are_separate, finished_slaves_are_together, runs_need_their_reset,
-    slaves_wait_for_each_other,
+    finished_runs_are_separate, finished_slaves_are_together, rough_runs_are_exchanged,
+    runs_need_their_reset, slaves_wait_for_each_other,
 };
 pub use inputs_missing::{missing_inputs_are_shown, missing_inputs_need_each_try};
 pub use least::{
