@@ -1,5 +1,5 @@
 -- Where there is one slave, its exchange is that of all.
-use Rattle.std.proofs.Common.{◌≡◌, ℕ, ◌<◌, ◌+◌, ◌-◌, ◌*◌, ◌%◌, ◌&&◌, ◌||◌, not, nat_lt, cond, Bool, true, IsTrue, Some, List, [], ◌∷◌, refl, arith, subst, slice_get}
+use Rattle.std.proofs.Common.{◌≡◌, ℕ, ◌<◌, ◌+◌, ◌-◌, ◌*◌, ◌%◌, ◌&&◌, ◌||◌, not, nat_lt, Bool, true, IsTrue, Some, List, arith, subst, slice_get}
 use Rattle.std.specs.List.{list_all}
 use Rattle.std.proofs.lemmas.Bool.Decides.{nat_tests}
 use Rattle.dcp_ends.specs.declared.entries.LogEntry.{LogEntry}
@@ -7,7 +7,6 @@ use Rattle.master_spec.specs.declared.setups.Slave.{Slave}
 use Rattle.master_spec.specs.declared.setups.Setup.{Setup}
 use Rattle.master_spec.specs.Exchanged.{IsIn, Brings, Exchange, Exchanged, in_order, in_run, nth_of}
 use Rattle.master_spec.specs.Requests.{Asking, is_step, is_stop, is_outputs, is_acked}
-use Rattle.shown_witnesses.proofs.Readings.{only_one}
 use Rattle.shown_witnesses.proofs.Lists.{each_passes}
 
 -- the exchange of a slave is that of an equal one, at the same places

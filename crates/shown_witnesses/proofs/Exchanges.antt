@@ -1,18 +1,16 @@
 -- Steps that are exchanged.
-use Rattle.std.proofs.Common.{◌≡◌, ℕ, ◌<◌, ◌≤◌, ◌&&◌, ◌||◌, not, nat_lt, Bool, true, IsTrue, Some, [], ◌∷◌, refl, arith, reverse, subst, slice_get}
+use Rattle.std.proofs.Common.{◌≡◌, ℕ, ◌≤◌, true, [], ◌∷◌, refl, arith, reverse, subst}
 use Rattle.std.specs.List.{list_all}
-use Rattle.std.proofs.lemmas.Bool.Decides.{nat_tests}
 use Rattle.dcp_types.specs.Values.{digits}
 use Rattle.pdu_layout.specs.Reading.{message_in, spelling}
 use Rattle.pdu_layout.specs.Fields.FieldValue.{Number}
 use Rattle.master_spec.specs.News.{news_of, bytes_of}
 use Rattle.master_spec.specs.Conversation.{reaction}
 use Rattle.master_spec.specs.Course.{step}
-use Rattle.master_spec.specs.Exchanged.{IsIn, Brings, Exchange, Exchanged, AllExchanged, in_order, in_run, nth_of}
-use Rattle.master_spec.specs.Requests.{Asking, is_step, is_stop, is_outputs, is_acked}
+use Rattle.master_spec.specs.Exchanged.{Exchange, Exchanged, AllExchanged, in_order}
+use Rattle.master_spec.specs.Requests.{Asking}
 use Rattle.master_spec.specs.declared.requests.Answer.TheVariants.{Ack, StateAck}
 use Rattle.master_spec.specs.declared.reports.Report.TheVariants as reports
-use Rattle.master_spec.specs.declared.setups.Slave.{Slave}
 use Rattle.shown_witnesses.specs.Ends.{single, slave, brought}
 use Rattle.shown_witnesses.specs.Logs.{IsRun}
 use Rattle.shown_witnesses.specs.Whole.{whole}

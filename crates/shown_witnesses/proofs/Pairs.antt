@@ -1,10 +1,10 @@
 -- Two slaves, of which one or both fail.
-use Rattle.std.proofs.Common.{◌≡◌, ℕ, zero, suc, ◌<◌, Some, List, [], ◌∷◌, slice_get, refl, arith, reverse, sym, ap, subst}
+use Rattle.std.proofs.Common.{◌≡◌, ℕ, zero, suc, ◌<◌, pos, Some, List, [], ◌∷◌, slice_get, refl, arith, reverse, sym, ap, subst}
 use Rattle.dcp_types.specs.Values.{digits}
 use Rattle.dcp_ends.specs.declared.entries.LogEntry.{LogEntry}
 use Rattle.pdu_layout.specs.Reading.{message_in, spelling}
 use Rattle.pdu_layout.specs.Fields.{FieldValue}
-use Rattle.pdu_layout.specs.Fields.FieldValue.{Number}
+use Rattle.pdu_layout.specs.Fields.FieldValue.{Number, Signed}
 use Rattle.master_spec.specs.News.{news_of, bytes_of}
 use Rattle.master_spec.specs.Conversation.{reaction}
 use Rattle.master_spec.specs.Course.{step}
@@ -19,28 +19,28 @@ use Rattle.master_spec.specs.declared.reports.Report.TheVariants as reports
 use Rattle.shown_witnesses.specs.Ends.{pair, slave}
 use Rattle.shown_witnesses.specs.Logs.{IsRun, Tells, ShowsNothing}
 use Rattle.shown_witnesses.specs.Pairs.{both_silent, second_silent, first_faulted, silent_in_setup, fallen_back}
-use Rattle.shown_witnesses.specs.Together.{pair_twice, silent_in_reset}
+use Rattle.shown_witnesses.specs.Together.{pair_adjusted, pair_twice, second_set, silent_in_adjust, silent_in_reset, still_stopped}
 use Rattle.shown_witnesses.proofs.Askings.{opened, decided, question, change}
 use Rattle.shown_witnesses.proofs.Readings.{plain}
 
 -- ---- the slaves of lesser numbers
 
 -- none is before the first
-none_first : (t : Slave) (i : ℕ) → slice_get (slave 1 ∷ slave 2 ∷ []) i ≡ Some t → t.id < 1 → ⊥
-none_first t zero e b = let same : slave 1 ≡ t = cc in let id : 1 ≡ t.id = ap (λ (x : Slave). x.id) same in omega arith
-none_first t (suc zero) e b = let same : slave 2 ≡ t = cc in let id : 2 ≡ t.id = ap (λ (x : Slave). x.id) same in omega arith
-none_first t (suc (suc i)) e b = cc
+none_first : (u t : Slave) (i : ℕ) → u.id ≡ 2 → slice_get (slave 1 ∷ u ∷ []) i ≡ Some t → t.id < 1 → ⊥
+none_first u t zero two e b = let same : slave 1 ≡ t = cc in let id : 1 ≡ t.id = ap (λ (x : Slave). x.id) same in omega arith
+none_first u t (suc zero) two e b = let same : u ≡ t = cc in let id : u.id ≡ t.id = ap (λ (x : Slave). x.id) same in omega arith
+none_first u t (suc (suc i)) two e b = cc
 
 -- only the first is before the second
-only_first : (t : Slave) (i : ℕ) → slice_get (slave 1 ∷ slave 2 ∷ []) i ≡ Some t → t.id < 2 → slave 1 ≡ t
-only_first t zero e b = cc
-only_first t (suc zero) e b = let same : slave 2 ≡ t = cc in let id : 2 ≡ t.id = ap (λ (x : Slave). x.id) same in absurd (omega arith)
-only_first t (suc (suc i)) e b = absurd cc
+only_first : (u t : Slave) (i : ℕ) → u.id ≡ 2 → slice_get (slave 1 ∷ u ∷ []) i ≡ Some t → t.id < 2 → slave 1 ≡ t
+only_first u t zero two e b = cc
+only_first u t (suc zero) two e b = let same : u ≡ t = cc in let id : u.id ≡ t.id = ap (λ (x : Slave). x.id) same in absurd (omega arith)
+only_first u t (suc (suc i)) two e b = absurd cc
 
 tells_first : {turn_limit watch_turns n : ℕ} {log : List LogEntry} {cause : Cause}
     → IsRun (pair turn_limit watch_turns 0) log (reports.Failed 1 n cause) → Shown (pair turn_limit watch_turns 0) (reverse log) (slave 1) n cause
     → Tells (pair turn_limit watch_turns 0) log (slave 1) n cause
-tells_first run shown = record { run = run; first = record { is_in = (0, refl); shown = shown; none_before = λ t i b other _. none_first t i.0 i.1 b } }
+tells_first run shown = record { run = run; first = record { is_in = (0, refl); shown = shown; none_before = λ t i b other _. none_first (slave 2) t i.0 refl i.1 b } }
 
 tells_second : {turn_limit watch_turns n : ℕ} {log : List LogEntry} {cause : Cause}
     → IsRun (pair turn_limit watch_turns 0) log (reports.Failed 2 n cause) → Shown (pair turn_limit watch_turns 0) (reverse log) (slave 2) n cause
@@ -50,7 +50,7 @@ tells_second {turn_limit} {watch_turns} {n} {log} {cause} run shown none = recor
   first = record {
     is_in = (1, refl);
     shown = shown;
-    none_before = λ t i b other s. none n other (subst (λ t. Shown (pair turn_limit watch_turns 0) (reverse log) t n other) (sym (only_first t i.0 i.1 b)) s);
+    none_before = λ t i b other s. none n other (subst (λ t. Shown (pair turn_limit watch_turns 0) (reverse log) t n other) (sym (only_first (slave 2) t i.0 refl i.1 b)) s);
   };
 }
 
@@ -273,6 +273,69 @@ tells_reset = record {
       last = last_unreset;
       shown = (refl, record { often = refl; spaced = tt; turns = omega arith; late = tt });
     };
-    none_before = λ t i b other s. none_in_reset 9 other (subst (λ t. Shown pair_twice (reverse silent_in_reset) t 9 other) (sym (only_first t i.0 i.1 b)) s);
+    none_before = λ t i b other s. none_in_reset 9 other (subst (λ t. Shown pair_twice (reverse silent_in_reset) t 9 other) (sym (only_first (slave 2) t i.0 refl i.1 b)) s);
+  };
+}
+
+-- ---- the second is silent while a parameter is set
+
+run_stopped : IsRun pair_adjusted still_stopped (reports.Failed 1 10 (Unexpected 17 178 16))
+unfolding message_in spelling digits news_of bytes_of reaction step
+run_stopped = record { by_rules = refl; reported = refl; in_time = omega arith }
+
+last_stopped : Last pair_adjusted (reverse still_stopped) (slave 1) 10 tasks.Adjust (question 17 88 89 (StateAck 16)) (question 16 80 81 (StateAck 1) ∷ [])
+unfolding message_in news_of
+last_stopped = record { phase = refl; job = ([], refl); last = refl }
+
+pub tells_stopped : Tells pair_adjusted still_stopped (slave 1) 10 (Unexpected 17 178 16)
+tells_stopped = record {
+  run = run_stopped;
+  first = record {
+    is_in = (0, refl);
+    shown = record {
+      task = tasks.Adjust;
+      request = question 17 88 89 (StateAck 16);
+      earlier = question 16 80 81 (StateAck 1) ∷ [];
+      last = last_stopped;
+      shown = (refl, record { place = 89; answer = StateAck 16; told = refl; type_is = refl; state_is = refl; unfit = refl });
+    };
+    none_before = λ t i b other s. none_first second_set t i.0 refl i.1 b;
+  };
+}
+
+run_adjust : IsRun pair_adjusted silent_in_adjust (reports.Failed 2 10 (NoAnswer 17))
+unfolding message_in spelling digits news_of bytes_of reaction step
+run_adjust = record { by_rules = refl; reported = refl; in_time = omega arith }
+
+abbrev beats : List Asking
+beats = question 18 91 92 (StateAck 1) ∷ question 17 88 89 (StateAck 1) ∷ question 16 80 81 (StateAck 1) ∷ []
+
+last_beat : Last pair_adjusted (reverse silent_in_adjust) (slave 1) 10 tasks.Adjust (question 19 94 95 (StateAck 1)) beats
+unfolding message_in news_of
+last_beat = record { phase = refl; job = ([], refl); last = refl }
+
+pub none_in_adjust : ShowsNothing pair_adjusted silent_in_adjust (slave 1)
+none_in_adjust p cause s = (plain (λ _. ⊥) last_beat 95 (StateAck 1) refl (omega arith) refl refl refl (λ c e. cc) (λ c e _. cc) (λ e. cc) p cause s).1
+
+abbrev adjusting : Asking
+adjusting = opened 39 17 (Number 0 ∷ Number 7 ∷ Signed (pos 5) ∷ []) 86
+
+last_adjust : Last pair_adjusted (reverse silent_in_adjust) second_set 10 tasks.Adjust adjusting (question 16 83 84 (StateAck 1) ∷ [])
+unfolding message_in news_of
+last_adjust = record { phase = refl; job = (_, refl); last = refl }
+
+pub tells_adjust : Tells pair_adjusted silent_in_adjust second_set 10 (NoAnswer 17)
+tells_adjust = record {
+  run = run_adjust;
+  first = record {
+    is_in = (1, refl);
+    shown = record {
+      task = tasks.Adjust;
+      request = adjusting;
+      earlier = question 16 83 84 (StateAck 1) ∷ [];
+      last = last_adjust;
+      shown = (refl, record { often = refl; spaced = tt; turns = omega arith; late = tt });
+    };
+    none_before = λ t i b other s. none_in_adjust 10 other (subst (λ t. Shown pair_adjusted (reverse silent_in_adjust) t 10 other) (sym (only_first second_set t i.0 refl i.1 b)) s);
   };
 }

@@ -1,5 +1,5 @@
 -- A run of two steps over a bad network.
-use Rattle.std.proofs.Common.{◌≡◌, ℕ, zero, suc, ◌+◌, ◌<◌, ◌≤◌, true, Some, List, [], ◌∷◌, refl, arith, reverse, subst}
+use Rattle.std.proofs.Common.{◌≡◌, ℕ, zero, suc, ◌+◌, ◌≤◌, true, List, [], ◌∷◌, refl, arith, reverse, subst}
 use Rattle.std.specs.List.{list_all}
 use Rattle.dcp_types.specs.Values.{digits}
 use Rattle.pdu_layout.specs.Reading.{message_in, spelling}

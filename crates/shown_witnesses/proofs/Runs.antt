@@ -1,18 +1,15 @@
 -- Two runs of one registration.
-use Rattle.std.proofs.Common.{◌≡◌, ℕ, zero, suc, ◌<◌, ◌≤◌, ◌&&◌, ◌||◌, not, nat_lt, Bool, true, IsTrue, Some, None, pos, List, [], ◌∷◌, refl, arith, reverse, sym, ◌∙◌, subst, slice_get}
+use Rattle.std.proofs.Common.{◌≡◌, ℕ, zero, suc, ◌<◌, ◌≤◌, true, Some, None, List, [], ◌∷◌, refl, arith, reverse, sym, ◌∙◌, subst}
 use Rattle.std.specs.List.{list_all}
-use Rattle.std.proofs.lemmas.Bool.Decides.{nat_tests}
 use Rattle.dcp_types.specs.Values.{digits}
 use Rattle.dcp_ends.specs.declared.entries.LogEntry.{LogEntry}
 use Rattle.pdu_layout.specs.Reading.{message_in, spelling}
 use Rattle.pdu_layout.specs.Fields.FieldValue.{Number}
-use Rattle.pdu_layout.specs.declared.messages.Cfg.TheVariants as cfg
-use Rattle.dcp_types.specs.declared.data_types.DataType.TheVariants as types
 use Rattle.master_spec.specs.News.{news_of, bytes_of}
 use Rattle.master_spec.specs.Conversation.{reaction}
 use Rattle.master_spec.specs.Course.{step}
-use Rattle.master_spec.specs.Exchanged.{IsIn, IsDecided, Brings, Exchange, Exchanged, AllExchanged, IsBetween, in_order, in_run, nth_of}
-use Rattle.master_spec.specs.Requests.{brings_outputs, Asking, is_prepare, is_step, is_stop, is_reset, is_outputs, is_acked}
+use Rattle.master_spec.specs.Exchanged.{IsIn, IsDecided, Brings, Exchange, Exchanged, AllExchanged, IsBetween, in_order, nth_of}
+use Rattle.master_spec.specs.Requests.{brings_outputs, Asking, is_prepare, is_stop, is_reset}
 use Rattle.master_spec.specs.declared.requests.Answer.TheVariants.{Ack, Nack, StateAck}
 use Rattle.master_spec.specs.declared.reports.Report.TheVariants as reports
 use Rattle.master_spec.specs.declared.setups.Slave.{Slave}

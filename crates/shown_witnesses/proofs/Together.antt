@@ -8,8 +8,8 @@ use Rattle.pdu_layout.specs.Fields.FieldValue.{Number}
 use Rattle.master_spec.specs.News.{news_of, bytes_of}
 use Rattle.master_spec.specs.Conversation.{reaction}
 use Rattle.master_spec.specs.Course.{step}
-use Rattle.master_spec.specs.Exchanged.{Brings, Exchange, Exchanged, AllExchanged, in_order, in_run, nth_of}
-use Rattle.master_spec.specs.Requests.{Asking, brings_outputs, is_step, is_stop, is_outputs, is_acked}
+use Rattle.master_spec.specs.Exchanged.{Exchange, Exchanged, AllExchanged, in_order, in_run, nth_of}
+use Rattle.master_spec.specs.Requests.{Asking, brings_outputs, is_step, is_stop, is_outputs}
 use Rattle.master_spec.specs.declared.requests.Answer.TheVariants.{Ack, StateAck}
 use Rattle.master_spec.specs.declared.reports.Report.TheVariants as reports
 use Rattle.master_spec.specs.declared.setups.Slave.{Slave}
@@ -135,13 +135,13 @@ is_1 s e = cc
 is_2 : (s : Slave) → Some (slave 2) ≡ Some s → slave 2 ≡ s
 is_2 s e = cc
 
+none_there : (s : Slave) → None ≡ Some s → ⊥
+none_there s e = cc
+
 abbrev exchange : (s : Slave) (i : ℕ) → slice_get (slave 1 ∷ slave 2 ∷ []) i ≡ Some s → Exchange (pair 3 1 1) (reverse together) s 1 1
 exchange s zero e = moved (slave 1) s (is_1 s e) there_1
 exchange s (suc zero) e = moved (slave 2) s (is_2 s e) there_2
-exchange s (suc (suc i)) e = absurd cc
-
-none_there : (s : Slave) → None ≡ Some s → ⊥
-none_there s e = cc
+exchange s (suc (suc i)) e = absurd (none_there s e)
 
 computed_before : (s t : Slave) (i : ℕ) (e : slice_get (slave 1 ∷ slave 2 ∷ []) i ≡ Some s) (j : ℕ) (f : slice_get (slave 1 ∷ slave 2 ∷ []) j ≡ Some t)
     → (exchange s i e).told_computed < (exchange t j f).outputs.first

@@ -1,9 +1,12 @@
 -- Two slaves that exchange one step.
-use Rattle.std.specs.Prelude.{ℕ, ◌+◌, List, [], ◌∷◌, reverse}
+use Rattle.std.specs.Prelude.{ℕ, pos, ◌+◌, List, [], ◌∷◌, reverse}
 use Rattle.dcp_ends.specs.declared.entries.LogEntry.{LogEntry}
 use Rattle.master_spec.specs.Exchanged.{Exchanged}
 use Rattle.master_spec.specs.declared.setups.Setup.{Setup}
-use Rattle.shown_witnesses.specs.Ends.{pair, turn, changed, started, stepped, asked_state, acked, told_state, brought}
+use Rattle.master_spec.specs.declared.setups.Slave.{Slave}
+use Rattle.pdu_layout.specs.declared.messages.Cfg.TheVariants as cfg
+use Rattle.dcp_types.specs.declared.data_types.DataType.TheVariants as types
+use Rattle.shown_witnesses.specs.Ends.{pair, slave, turn, adjusted, changed, started, stepped, asked_state, acked, told_state, brought}
 use Rattle.shown_witnesses.specs.Pairs.{both_registered}
 
 -- both go from one state to another: code is that of the request, n its number, and state the state that it names
@@ -56,6 +59,27 @@ abbrev pub silent_in_reset : List LogEntry
 silent_in_reset = both_running (both 9 13 11 16 (
     turn ∷ changed 1 10 15 16 ∷ changed 2 10 15 16 ∷ acked 1 15 ∷ asked_state 1 16 ∷ told_state 1 16 1
     ∷ turn ∷ asked_state 1 17 ∷ told_state 1 17 1 ∷ turn ∷ asked_state 1 18 ∷ told_state 1 18 1 ∷ turn ∷ asked_state 1 19 ∷ told_state 1 19 1 ∷ turn ∷ []))
+
+-- ---- the second has a parameter to set between the runs and does not answer; the first has none, and is asked for a sign of life
+
+abbrev pub second_set : Slave
+second_set = record (slave 2) { script = record { uuid = 2; setup = cfg.Clear ∷ []; adjusts = (cfg.Parameter 0 types.I64 (pos 5) ∷ []) ∷ [] } }
+
+abbrev pub pair_adjusted : Setup
+pair_adjusted = record (pair 3 1 0) { runs = 2; slaves = slave 1 ∷ second_set ∷ [] }
+
+abbrev pub both_reset : List LogEntry → List LogEntry
+both_reset rest = both_running (both 9 13 11 16 (
+    turn ∷ changed 1 10 15 16 ∷ changed 2 10 15 16 ∷ acked 1 15 ∷ asked_state 1 16 ∷ told_state 1 16 1 ∷ acked 2 15 ∷ asked_state 2 16 ∷ told_state 2 16 1
+    ∷ turn ∷ adjusted 2 17 5 ∷ turn ∷ asked_state 1 17 ∷ rest))
+
+-- it tells a state of the run before
+abbrev pub still_stopped : List LogEntry
+still_stopped = both_reset (told_state 1 17 16 ∷ turn ∷ turn ∷ [])
+
+-- it tells each time that it is in CONFIGURATION
+abbrev pub silent_in_adjust : List LogEntry
+silent_in_adjust = both_reset (told_state 1 17 1 ∷ turn ∷ asked_state 1 18 ∷ told_state 1 18 1 ∷ turn ∷ asked_state 1 19 ∷ told_state 1 19 1 ∷ turn ∷ [])
 
 -- the step is not exchanged by both in this log
 abbrev pub NotTogether : List LogEntry → Type 0

@@ -1,11 +1,11 @@
 //! Two slaves: which one is named.
 
 ghost use Rattle.master_spec.specs.Shown.{Shown, First};
-ghost use Rattle.master_spec.specs.declared.causes.Cause.TheVariants.{NoAnswer, Faulted};
+ghost use Rattle.master_spec.specs.declared.causes.Cause.TheVariants.{NoAnswer, Faulted, Unexpected};
 ghost use Rattle.shown_witnesses.specs.Ends.{pair, slave};
 ghost use Rattle.shown_witnesses.specs.Logs.{Tells, ShowsNothing};
 ghost use Rattle.shown_witnesses.specs.Pairs.{both_silent, second_silent, first_faulted, silent_in_setup};
-ghost use Rattle.shown_witnesses.specs.Together.{pair_twice, silent_in_reset};
+ghost use Rattle.shown_witnesses.specs.Together.{pair_adjusted, pair_twice, second_set, silent_in_adjust, silent_in_reset, still_stopped};
 ghost use Rattle.std.specs.Prelude.{reverse};
 
 /// Where neither slave answers, both are shown to be silent, and the first is named.
@@ -39,4 +39,12 @@ pub fn later_ends_of_lesser_slaves_are_named()
 pub fn phases_without_outputs_miss_none()
     ensures second { Tells pair_twice silent_in_reset (slave 2) 9 (NoAnswer 15) }
     ensures first { ShowsNothing pair_twice silent_in_reset (slave 1) }
+{}
+
+/// So it is where the second is silent while a parameter is set, which the first has none of: then the state
+/// that shows nothing is that in which it is configured, and each other state is shown.
+pub fn empty_lists_have_a_state()
+    ensures second { Tells pair_adjusted silent_in_adjust second_set 10 (NoAnswer 17) }
+    ensures first { ShowsNothing pair_adjusted silent_in_adjust (slave 1) }
+    ensures stopped { Tells pair_adjusted still_stopped (slave 1) 10 (Unexpected 17 178 16) }
 {}

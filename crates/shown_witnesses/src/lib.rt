@@ -27,7 +27,7 @@ pub use finished::{
 };
 pub use inputs_missing::{missing_inputs_are_shown, missing_inputs_need_each_try};
 pub use least::{
-    later_ends_of_lesser_slaves_are_named, passed_slaves_are_not_named,
+    empty_lists_have_a_state, later_ends_of_lesser_slaves_are_named, passed_slaves_are_not_named,
     phases_without_outputs_miss_none, signs_of_life_show_nothing, the_least_is_named,
 };
 pub use no_answer::{late_answers_show_both, silence_is_shown, silence_needs_each_sending};
