@@ -1,0 +1,14 @@
+pub mod Readings
+pub mod Askings
+pub mod Places
+pub mod Lists
+pub mod Alone
+pub mod Silences
+pub mod FirstPhases
+pub mod LaterPhases
+pub mod Exchanges
+pub mod Unexchanged
+pub mod Pairs
+pub mod Runs
+pub mod Together
+pub mod RoughRun

@@ -1,0 +1,11 @@
+pub mod Ends
+pub mod Logs
+pub mod Silence
+pub mod FirstPhase
+pub mod Phases
+pub mod Whole
+pub mod Runs
+pub mod Pairs
+pub mod Long
+pub mod Together
+pub mod Rough
