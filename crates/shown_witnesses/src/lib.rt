@@ -18,6 +18,7 @@ mod unexpected;
 pub use bounds::{small_bound, usual_bound};
 pub use data_missing::{
     missing_outputs_are_shown, missing_outputs_had_their_time, outputs_are_of_their_run,
+    outputs_are_of_their_step,
 };
 pub use faulted::{fault_needs_its_question, faults_are_shown};
 pub use finished::{
