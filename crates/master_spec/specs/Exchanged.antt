@@ -1,16 +1,15 @@
 -- What the log of a finished run shows of each step: how its requests and answers follow one another, over all slaves.
-use Rattle.std.specs.Prelude.{◌≡◌, ℕ, zero, suc, ◌+◌, ◌-◌, ◌%◌, ◌<◌, ◌≤◌, ◌==◌, ◌&&◌, ◌||◌, Bool, true, false, IsTrue, if◌then◌else◌, Option, Some, None, List, [], ◌∷◌, ◌++◌, length, filter, reverse, slice_get}
-use Rattle.dcp_types.specs.declared.addresses.Address.{Address}
+use Rattle.std.specs.Prelude.{◌≡◌, ℕ, zero, suc, ◌+◌, ◌-◌, ◌%◌, ◌<◌, ◌≤◌, ◌&&◌, ◌||◌, Bool, IsTrue, if◌then◌else◌, Option, Some, List, [], ◌∷◌, filter, reverse, slice_get}
 use Rattle.dcp_types.specs.Codes.{state_code}
 use Rattle.dcp_types.specs.declared.states.State.TheVariants as states
 use Rattle.dcp_ends.specs.declared.entries.LogEntry.{LogEntry}
 use Rattle.lockstep.specs.Lockstep.{row_index}
 use Rattle.master_spec.specs.declared.requests.Answer.{Answer}
-use Rattle.master_spec.specs.declared.requests.Answer.TheVariants.{Ack, Nack, StateAck, ErrorAck, LogAck}
+use Rattle.master_spec.specs.declared.requests.Answer.TheVariants.{Ack, StateAck}
 use Rattle.master_spec.specs.declared.setups.Slave.{Slave}
 use Rattle.master_spec.specs.declared.setups.Setup.{Setup}
 use Rattle.master_spec.specs.Course.{payload_size}
-use Rattle.master_spec.specs.Requests.{Asking, Decision, asks, is_prepare, is_run, is_step, is_outputs, is_stop, is_reset, is_state_question, is_single, is_acked, brings_outputs}
+use Rattle.master_spec.specs.Requests.{Asking, asks, is_prepare, is_run, is_step, is_outputs, is_stop, is_reset, is_state_question, is_single, is_acked, brings_outputs}
 
 abbrev pub IsIn : Setup → Slave → Type 0
 IsIn setup slave = (i : ℕ) × (slice_get setup.slaves i ≡ Some slave)
@@ -86,28 +85,32 @@ pub record Exchanged (setup : Setup) (log : List LogEntry) (r k : ℕ) : Type 0 
       → slice_get (in_order setup log t) n ≡ Some a → IsTrue (is_step a || is_stop a) → (each t j).outputs.first < a.first
       → IsEndedBefore setup log s r k (each s i) a.first
 
--- after run r each slave stops, and then is reset, before any is prepared for the next one
+-- after the start of run r each slave stops, and then is reset, before any is prepared for the next one
 pub record IsBetween (setup : Setup) (log : List LogEntry) (r : ℕ) : Type 0 where
   pub stop : Slave → Asking
   pub reset : Slave → Asking
   pub stopped : Slave → ℕ
   pub done : Slave → ℕ
-  pub stop_is : (s : Slave) → IsIn setup s → nth_of is_stop r (in_order setup log s) ≡ Some (stop s)
+  pub stop_is : (s : Slave) → IsIn setup s → nth_of is_stop 1 (in_run setup log s r) ≡ Some (stop s)
   pub stop_done : (s : Slave) → IsIn setup s → IsDecided (stop s) (stopped s) Ack
-  pub reset_is : (s : Slave) → IsIn setup s → nth_of is_reset r (in_order setup log s) ≡ Some (reset s)
+  pub reset_is : (s : Slave) → IsIn setup s → nth_of is_reset 1 (in_run setup log s r) ≡ Some (reset s)
   pub reset_done : (s : Slave) → IsIn setup s → IsDecided (reset s) (done s) Ack
   pub after : (s : Slave) → IsIn setup s → stopped s < (reset s).first
   pub before : (s t : Slave) → IsIn setup s → IsIn setup t → (a : Asking)
-      → nth_of is_prepare (r + 1) (in_order setup log t) ≡ Some a → done s < a.first
+      → nth_of is_prepare 1 (in_run setup log t r) ≡ Some a → done s < a.first
 
--- each exchange of a run begins after that before it has ended
-abbrev pub AreInTurn : (setup : Setup) (log : List LogEntry) (r k : ℕ) → Exchanged setup log r k → Exchanged setup log r (k + 1) → Type 0
-AreInTurn setup log r k x y =
+-- the exchange of step l of run q begins after that of step k of run r has ended
+abbrev pub AreInTurn : (setup : Setup) (log : List LogEntry) (r k q l : ℕ) → Exchanged setup log r k → Exchanged setup log q l → Type 0
+AreInTurn setup log r k q l x y =
     (s t : Slave) (i : IsIn setup s) (j : IsIn setup t) → IsEndedBefore setup log s r k (x.each s i) (y.each t j).step.first
 
 -- What a finished run shows: all steps of all runs are exchanged, one after the other, and between two runs all slaves are reset.
 pub record AllExchanged (setup : Setup) (log : List LogEntry) : Type 0 where
   pub steps : (r k : ℕ) → 1 ≤ r → r ≤ setup.runs → 1 ≤ k → k ≤ setup.steps → Exchanged setup log r k
+  -- from a step to the next one of its run
   pub in_turn : (r k : ℕ) (a : 1 ≤ r) (b : r ≤ setup.runs) (c : 1 ≤ k) (d : k ≤ setup.steps) (e : 1 ≤ k + 1) (f : k + 1 ≤ setup.steps)
-      → AreInTurn setup log r k (steps r k a b c d) (steps r (k + 1) a b e f)
+      → AreInTurn setup log r k r (k + 1) (steps r k a b c d) (steps r (k + 1) a b e f)
+  -- from the last step of a run to the first one of the next
+  pub over : (r : ℕ) (a : 1 ≤ r) (b : r ≤ setup.runs) (c : 1 ≤ setup.steps) (d : setup.steps ≤ setup.steps) (e : 1 ≤ r + 1) (f : r + 1 ≤ setup.runs) (g : 1 ≤ 1)
+      → AreInTurn setup log r setup.steps (r + 1) 1 (steps r setup.steps a b c d) (steps (r + 1) 1 e f g c)
   pub between : (r : ℕ) → 1 ≤ r → r < setup.runs → IsBetween setup log r

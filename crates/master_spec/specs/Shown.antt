@@ -1,26 +1,20 @@
 -- Why a run failed, read off its log.
-use Rattle.std.specs.Prelude.{◌≡◌, ◌≢◌, ℕ, zero, suc, ◌+◌, ◌-◌, ◌%◌, ◌<◌, ◌≤◌, ◌==◌, ◌&&◌, max, Bool, true, false, IsTrue, IsFalse, if◌then◌else◌, ◌⊎◌, Option, Some, None, IfSome, List, [], ◌∷◌, ◌++◌, length, filter, map, slice_get, find}
+use Rattle.std.specs.Prelude.{◌≡◌, ℕ, ◌+◌, ◌-◌, ◌%◌, ◌<◌, ◌≤◌, ◌&&◌, max, Bool, true, false, IsTrue, IsFalse, if◌then◌else◌, Option, Some, None, IfSome, List, [], ◌∷◌, length, filter, slice_get, find}
 use Rattle.std.specs.List.{list_any}
-use Rattle.dcp_types.specs.declared.addresses.Address.{Address}
-use Rattle.dcp_types.specs.declared.limits.Limits.{Limits}
-use Rattle.dcp_types.specs.declared.states.State.{State}
-use Rattle.dcp_types.specs.Codes.{state_code}
 use Rattle.dcp_ends.specs.declared.entries.LogEntry.{LogEntry}
 use Rattle.master_spec.specs.declared.tasks.Task.{Task}
 use Rattle.master_spec.specs.declared.tasks.Task.TheVariants as tasks
 use Rattle.master_spec.specs.declared.causes.Cause.{Cause}
 use Rattle.master_spec.specs.declared.causes.Cause.TheVariants as causes
 use Rattle.master_spec.specs.Tasks.{target_of, passing_of, row_of, step_of}
-use Rattle.master_spec.specs.Jobs.{Job}
 use Rattle.master_spec.specs.declared.requests.Answer.{Answer}
-use Rattle.master_spec.specs.declared.requests.Answer.TheVariants.{Ack, Nack, StateAck, ErrorAck, LogAck}
+use Rattle.master_spec.specs.declared.requests.Answer.TheVariants.{Ack, Nack, StateAck, ErrorAck}
 use Rattle.master_spec.specs.News.{type_of, state_of}
 use Rattle.master_spec.specs.Marks.{is_missing}
 use Rattle.master_spec.specs.Conversation.{is_error, is_state}
 use Rattle.master_spec.specs.declared.setups.Slave.{Slave}
 use Rattle.master_spec.specs.declared.setups.Setup.{Setup}
 use Rattle.master_spec.specs.Setup.{jobs_of}
-use Rattle.master_spec.specs.Course.{payload_size}
 use Rattle.master_spec.specs.Requests.{Asking, Decision, asks, is_main, is_state_request, is_step, is_outputs, is_state_question, is_error_question, is_acked, phase_reached, of_phase, turns_between, turns_after}
 use Rattle.master_spec.specs.Exchanged.{IsIn, Brings, IsDecided}
 
@@ -58,7 +52,7 @@ abbrev pub names_target : Task → Option Decision → Bool
 names_target task None = false
 names_target task (Some d) = names_in task d.answer
 
--- the answer fits the request: earlier are the requests of the phase before it, for the state's target
+-- the answer fits the request: earlier are the requests of the phase before it, for the state's target. To a question for the log any answer fits
 abbrev pub fits_change : Answer → Bool
 fits_change Ack = true
 fits_change (Nack code) = true
@@ -82,15 +76,17 @@ abbrev pub fits_answer : Task → (r : Asking) → List Asking → Answer → Bo
 fits_answer task r earlier answer =
     if is_main r then fits_change answer
     else if is_error_question r then fits_error answer
-    else fits_state task earlier answer
+    else if is_state_question r then fits_state task earlier answer
+    else true
 
 -- a step that was refused because inputs were missing
 abbrev pub IsMissing : Asking → Type 0
 IsMissing a = (place code : ℕ) × IsDecided a place (Nack code) × IsTrue (is_missing code)
 
--- the last request to a slave, the requests before it in its phase, the one right before it, and the task of the phase
+-- the last request to a slave, the requests before it in its phase, and the task of the phase, which has begun
 pub record Last (setup : Setup) (log : List LogEntry) (slave : Slave) (p : ℕ) (task : Task) (r : Asking) (earlier : List Asking) : Type 0 where
   pub phase : p ≡ last_phase setup log
+  pub begun : 1 ≤ p
   pub job : (list : List _) × (slice_get (jobs_of setup slave) (p - 1) ≡ Some (record { task = task; list = list }))
   pub last : of_phase (jobs_of setup slave) p (asks setup.address slave log) ≡ r ∷ earlier
 

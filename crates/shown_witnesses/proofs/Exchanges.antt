@@ -78,6 +78,7 @@ pub all_exchanged : AllExchanged (single 1) (reverse whole)
 all_exchanged = record {
   steps = λ r k a b c d. subst (λ r. Exchanged (single 1) (reverse whole) r k) (one r a b) (subst (λ k. Exchanged (single 1) (reverse whole) 1 k) (one k c d) exchanged);
   in_turn = λ r k a b c d e f. absurd (omega arith);
+  over = λ r a b c d e f g. absurd (omega arith);
   between = λ r a b. absurd (omega arith);
 }
   where

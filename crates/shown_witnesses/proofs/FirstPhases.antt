@@ -1,12 +1,13 @@
 -- The first request and the questions after it.
-use Rattle.std.proofs.Common.{◌≡◌, ℕ, List, [], ◌∷◌, refl, arith, reverse, sym, subst, true}
+use Rattle.std.proofs.Common.{◌≡◌, ℕ, ◌≤◌, List, [], ◌∷◌, refl, arith, reverse, sym, ◌∙◌, subst, true}
 use Rattle.dcp_types.specs.Values.{digits}
 use Rattle.dcp_ends.specs.declared.entries.LogEntry.{LogEntry}
 use Rattle.pdu_layout.specs.Reading.{message_in, spelling}
+use Rattle.pdu_layout.specs.Fields.FieldValue.{Number}
 use Rattle.master_spec.specs.News.{news_of, bytes_of}
 use Rattle.master_spec.specs.Conversation.{reaction, is_error}
 use Rattle.master_spec.specs.Course.{step}
-use Rattle.master_spec.specs.Shown.{Last, IsFaulted}
+use Rattle.master_spec.specs.Shown.{Last, IsFaulted, last_phase}
 use Rattle.master_spec.specs.Exchanged.{IsDecided}
 use Rattle.master_spec.specs.Requests.{Asking}
 use Rattle.master_spec.specs.declared.causes.Cause.TheVariants.{Refused, Faulted, Unexpected}
@@ -17,7 +18,7 @@ use Rattle.master_spec.specs.declared.tasks.Task.TheVariants as tasks
 use Rattle.master_spec.specs.declared.reports.Report.TheVariants as reports
 use Rattle.shown_witnesses.specs.Ends.{single, slave}
 use Rattle.shown_witnesses.specs.Logs.{IsRun, Tells, ShowsOnly, ShowsNothing}
-use Rattle.shown_witnesses.specs.FirstPhase.{refusing, refused_other, refused_as_other, refused_from_other, refused_second, state_for_change, log_for_change, other_state, ack_for_state, state_for_error, right_state, faulted, fault_not_told, no_error_state}
+use Rattle.shown_witnesses.specs.FirstPhase.{refusing, refused_other, refused_as_other, refused_from_other, refused_second, refused_before, log_for_log, state_for_change, log_for_change, other_state, ack_for_state, state_for_error, right_state, faulted, fault_not_told, no_error_state}
 use Rattle.shown_witnesses.proofs.Askings.{opened, decided, identity, question}
 use Rattle.shown_witnesses.proofs.Readings.{one_answer, still_open, plain, tells_of}
 
@@ -39,7 +40,7 @@ run_refusing = record { by_rules = refl; reported = refl; in_time = omega arith 
 
 last_refusing : IsLast refusing (register (Nack 10)) []
 unfolding message_in news_of
-last_refusing = record { phase = refl; job = ([], refl); last = refl }
+last_refusing = record { phase = refl; begun = omega arith; job = ([], refl); last = refl }
 
 pub tells_refusing : Tells (single 0) refusing (slave 1) 1 (Refused 0 10)
 tells_refusing = tells_of run_refusing
@@ -53,31 +54,41 @@ asked = opened 1 0 identity 1
 
 last_other : IsLast refused_other asked []
 unfolding message_in news_of
-last_other = record { phase = refl; job = ([], refl); last = refl }
+last_other = record { phase = refl; begun = omega arith; job = ([], refl); last = refl }
 
 pub none_other : ShowsNothing (single 0) refused_other (slave 1)
 none_other = still_open last_other refl refl (λ h. let e = h.turns in omega arith)
 
 last_as_other : IsLast refused_as_other asked []
 unfolding message_in news_of
-last_as_other = record { phase = refl; job = ([], refl); last = refl }
+last_as_other = record { phase = refl; begun = omega arith; job = ([], refl); last = refl }
 
 pub none_as_other : ShowsNothing (single 0) refused_as_other (slave 1)
 none_as_other = still_open last_as_other refl refl (λ h. let e = h.turns in omega arith)
 
 last_from_other : IsLast refused_from_other asked []
 unfolding message_in news_of
-last_from_other = record { phase = refl; job = ([], refl); last = refl }
+last_from_other = record { phase = refl; begun = omega arith; job = ([], refl); last = refl }
 
 pub none_from_other : ShowsNothing (single 0) refused_from_other (slave 1)
 none_from_other = still_open last_from_other refl refl (λ h. let e = h.turns in omega arith)
 
 last_second : IsLast refused_second (opened 128 1 [] 3) (register Ack ∷ [])
 unfolding message_in news_of
-last_second = record { phase = refl; job = ([], refl); last = refl }
+last_second = record { phase = refl; begun = omega arith; job = ([], refl); last = refl }
 
 pub none_second : ShowsNothing (single 0) refused_second (slave 1)
 none_second = still_open last_second refl refl (λ h. let e = h.turns in omega arith)
+
+no_phase : last_phase (single 0) (reverse refused_before) ≡ 0
+unfolding message_in news_of
+no_phase = refl
+
+pub none_before : ShowsNothing (single 0) refused_before (slave 1)
+none_before p cause s =
+    let some : 1 ≤ p = s.last.begun in
+    let none : p ≡ 0 = s.last.phase ∙ no_phase in
+    absurd (omega arith)
 
 -- ---- answers that do not fit
 
@@ -87,7 +98,7 @@ run_state = record { by_rules = refl; reported = refl; in_time = omega arith }
 
 last_state : IsLast state_for_change (register (StateAck 0)) []
 unfolding message_in news_of
-last_state = record { phase = refl; job = ([], refl); last = refl }
+last_state = record { phase = refl; begun = omega arith; job = ([], refl); last = refl }
 
 pub tells_state : Tells (single 0) state_for_change (slave 1) 1 (Unexpected 0 178 0)
 tells_state = tells_of run_state (record {
@@ -107,7 +118,7 @@ run_log = record { by_rules = refl; reported = refl; in_time = omega arith }
 
 last_log : IsLast log_for_change (register LogAck) []
 unfolding message_in news_of
-last_log = record { phase = refl; job = ([], refl); last = refl }
+last_log = record { phase = refl; begun = omega arith; job = ([], refl); last = refl }
 
 pub tells_log : Tells (single 0) log_for_change (slave 1) 1 (Unexpected 0 180 255)
 tells_log = tells_of run_log (record {
@@ -127,7 +138,7 @@ run_other_state = record { by_rules = refl; reported = refl; in_time = omega ari
 
 last_other_state : IsLast other_state (question 1 3 4 (StateAck 0)) (register Ack ∷ [])
 unfolding message_in news_of
-last_other_state = record { phase = refl; job = ([], refl); last = refl }
+last_other_state = record { phase = refl; begun = omega arith; job = ([], refl); last = refl }
 
 pub tells_other_state : Tells (single 0) other_state (slave 1) 1 (Unexpected 1 178 0)
 tells_other_state = tells_of run_other_state (record {
@@ -147,7 +158,7 @@ run_ack = record { by_rules = refl; reported = refl; in_time = omega arith }
 
 last_ack : IsLast ack_for_state (question 1 3 4 Ack) (register Ack ∷ [])
 unfolding message_in news_of
-last_ack = record { phase = refl; job = ([], refl); last = refl }
+last_ack = record { phase = refl; begun = omega arith; job = ([], refl); last = refl }
 
 pub tells_ack : Tells (single 0) ack_for_state (slave 1) 1 (Unexpected 1 176 255)
 tells_ack = tells_of run_ack (record {
@@ -163,10 +174,17 @@ only_ack = plain (λ c. c ≡ Unexpected 1 176 255) last_ack 4 Ack refl (omega a
 
 last_right : IsLast right_state (question 1 3 4 (StateAck 1)) (register Ack ∷ [])
 unfolding message_in news_of
-last_right = record { phase = refl; job = ([], refl); last = refl }
+last_right = record { phase = refl; begun = omega arith; job = ([], refl); last = refl }
 
 pub none_right : ShowsNothing (single 0) right_state (slave 1)
 none_right p cause s = (plain (λ c. ⊥) last_right 4 (StateAck 1) refl (omega arith) refl refl refl (λ c e. cc) (λ c e _. cc) (λ e. cc) p cause s).1
+
+last_for_log : IsLast log_for_log (decided 130 1 (Number 0 ∷ Number 5 ∷ []) 3 4 LogAck) (register Ack ∷ [])
+unfolding message_in news_of
+last_for_log = record { phase = refl; begun = omega arith; job = ([], refl); last = refl }
+
+pub none_for_log : ShowsNothing (single 0) log_for_log (slave 1)
+none_for_log p cause s = (plain (λ c. ⊥) last_for_log 4 LogAck refl (omega arith) refl refl refl (λ c e. cc) (λ c e _. cc) (λ e. cc) p cause s).1
 
 -- ---- faults
 
@@ -183,7 +201,7 @@ run_error = record { by_rules = refl; reported = refl; in_time = omega arith }
 
 last_error : IsLast state_for_error (fault (StateAck 17)) (before 17)
 unfolding message_in news_of
-last_error = record { phase = refl; job = ([], refl); last = refl }
+last_error = record { phase = refl; begun = omega arith; job = ([], refl); last = refl }
 
 pub tells_error : Tells (single 0) state_for_error (slave 1) 1 (Unexpected 2 178 17)
 tells_error = tells_of run_error (record {
@@ -203,7 +221,7 @@ run_faulted = record { by_rules = refl; reported = refl; in_time = omega arith }
 
 last_faulted : IsLast faulted (fault (ErrorAck 35)) (before 17)
 unfolding message_in news_of
-last_faulted = record { phase = refl; job = ([], refl); last = refl }
+last_faulted = record { phase = refl; begun = omega arith; job = ([], refl); last = refl }
 
 pub tells_faulted : Tells (single 0) faulted (slave 1) 1 (Faulted 2 35)
 tells_faulted = tells_of run_faulted (record {
@@ -233,14 +251,14 @@ only_faulted = plain (λ c. c ≡ Faulted 2 35) last_faulted 6 (ErrorAck 35) ref
 
 last_not_told : IsLast fault_not_told (opened 129 2 [] 5) (before 17)
 unfolding message_in news_of
-last_not_told = record { phase = refl; job = ([], refl); last = refl }
+last_not_told = record { phase = refl; begun = omega arith; job = ([], refl); last = refl }
 
 pub none_not_told : ShowsNothing (single 0) fault_not_told (slave 1)
 none_not_told = still_open last_not_told refl refl (λ h. let e = h.turns in omega arith)
 
 last_no_error : IsLast no_error_state (fault (ErrorAck 35)) (before 1)
 unfolding message_in news_of
-last_no_error = record { phase = refl; job = ([], refl); last = refl }
+last_no_error = record { phase = refl; begun = omega arith; job = ([], refl); last = refl }
 
 no_fault : (c : ℕ) → IsFaulted (fault (ErrorAck 35)) (before 1) c → ⊥
 no_fault c h =

@@ -31,7 +31,7 @@ run_stuck = record { by_rules = refl; reported = refl; in_time = omega arith }
 
 last_stuck : Last (single 0) (reverse stuck) (slave 1) 3 tasks.Prepare (question 4 12 13 (StateAck 2)) (change 3 3 1 9 10 Ack ∷ [])
 unfolding message_in news_of
-last_stuck = record { phase = refl; job = ([], refl); last = refl }
+last_stuck = record { phase = refl; begun = omega arith; job = ([], refl); last = refl }
 
 pub tells_stuck : Tells (single 0) stuck (slave 1) 3 (Stuck 4 2)
 tells_stuck = tells_of run_stuck (record {
@@ -61,7 +61,7 @@ only_stuck = by_rows (λ c. c ≡ Stuck 4 2) last_stuck 13 (StateAck 2) refl (om
 
 last_at_once : Last (single 0) (reverse asked_at_once) (slave 1) 3 tasks.Prepare (question 4 12 13 (StateAck 2)) (change 3 3 1 9 11 Ack ∷ [])
 unfolding message_in news_of
-last_at_once = record { phase = refl; job = ([], refl); last = refl }
+last_at_once = record { phase = refl; begun = omega arith; job = ([], refl); last = refl }
 
 not_late : (t : ℕ) → IsStuck (single 0) (reverse asked_at_once) tasks.Prepare (question 4 12 13 (StateAck 2)) (change 3 3 1 9 11 Ack ∷ []) t → ⊥
 not_late t h =
@@ -74,7 +74,7 @@ none_at_once p cause s = (by_rows (λ _. ⊥) last_at_once 13 (StateAck 2) refl 
 
 last_prepared : Last (single 0) (reverse prepared_at_last) (slave 1) 3 tasks.Prepare (question 4 12 13 (StateAck 3)) (change 3 3 1 9 10 Ack ∷ [])
 unfolding message_in news_of
-last_prepared = record { phase = refl; job = ([], refl); last = refl }
+last_prepared = record { phase = refl; begun = omega arith; job = ([], refl); last = refl }
 
 pub none_prepared : ShowsNothing (single 0) prepared_at_last (slave 1)
 none_prepared p cause s = (by_rows (λ _. ⊥) last_prepared 13 (StateAck 3) refl (omega arith)
@@ -100,7 +100,7 @@ run_missing = record { by_rules = refl; reported = refl; in_time = omega arith }
 
 last_missing : Last (single 0) (reverse missing_outputs) (slave 1) 6 outputs home sending
 unfolding message_in news_of
-last_missing = record { phase = refl; job = ([], refl); last = refl }
+last_missing = record { phase = refl; begun = omega arith; job = ([], refl); last = refl }
 
 none_came : places (brings_outputs master (slave 1) 0 1) 0 missing_outputs ≡ []
 unfolding message_in news_of
@@ -137,7 +137,7 @@ only_missing = by_rows (λ c. c ≡ DataMissing 0) last_missing 31 (StateAck 5) 
 
 last_awaited : Last (single 0) (reverse outputs_awaited) (slave 1) 6 outputs home sending
 unfolding message_in news_of
-last_awaited = record { phase = refl; job = ([], refl); last = refl }
+last_awaited = record { phase = refl; begun = omega arith; job = ([], refl); last = refl }
 
 still_awaited : (k : ℕ) → MissesOutputs (single 0) (reverse outputs_awaited) (slave 1) outputs home sending k → ⊥
 still_awaited k h = let e = awaited (single 0) (reverse outputs_awaited) (slave 1) outputs home sending k 31 (StateAck 5) h refl in omega arith
@@ -148,7 +148,7 @@ none_awaited p cause s = (by_rows (λ _. ⊥) last_awaited 31 (StateAck 5) refl 
 
 last_at_last : Last (single 0) (reverse outputs_at_last) (slave 1) 6 outputs home sending
 unfolding message_in news_of
-last_at_last = record { phase = refl; job = ([], refl); last = refl }
+last_at_last = record { phase = refl; begun = omega arith; job = ([], refl); last = refl }
 
 came : Brings (single 0) (reverse outputs_at_last) (slave 1) 0 32
 unfolding message_in news_of
@@ -175,7 +175,7 @@ run_other = record { by_rules = refl; reported = refl; in_time = omega arith }
 
 last_other : Last (single 0) (reverse other_outputs) (slave 1) 6 outputs later_home later_sending
 unfolding message_in news_of
-last_other = record { phase = refl; job = ([], refl); last = refl }
+last_other = record { phase = refl; begun = omega arith; job = ([], refl); last = refl }
 
 one_came : places (brings_outputs master (slave 1) 0 1) 0 other_outputs ≡ 26 ∷ []
 unfolding message_in news_of
@@ -216,7 +216,7 @@ run_late = record { by_rules = refl; reported = refl; in_time = omega arith }
 
 last_late : Last (single 0) (reverse late_outputs) (slave 1) 6 outputs home sending
 unfolding message_in news_of
-last_late = record { phase = refl; job = ([], refl); last = refl }
+last_late = record { phase = refl; begun = omega arith; job = ([], refl); last = refl }
 
 late_came : places (brings_outputs master (slave 1) 0 1) 0 late_outputs ≡ 33 ∷ []
 unfolding message_in news_of
@@ -271,7 +271,7 @@ run_inputs = record { by_rules = refl; reported = refl; in_time = omega arith }
 
 last_inputs : Last (single 1) (reverse missing_inputs) (slave 1) 8 (tasks.Step 1) (second_step 8) (first_step ∷ start ∷ [])
 unfolding message_in news_of
-last_inputs = record { phase = refl; job = ([], refl); last = refl }
+last_inputs = record { phase = refl; begun = omega arith; job = ([], refl); last = refl }
 
 both_missing : (i : ℕ) (a : Asking) → slice_get (second_step 8 ∷ first_step ∷ []) i ≡ Some a → IsMissing a
 both_missing zero a e = let same : second_step 8 ≡ a = cc in subst IsMissing same (44, 8, refl, refl)
@@ -299,7 +299,7 @@ only_inputs = by_rows (λ c. c ≡ InputsMissing 14 1) last_inputs 44 (Nack 8) r
 
 last_once : Last (single 1) (reverse refused_once) (slave 1) 8 (tasks.Step 1) first_step (start ∷ [])
 unfolding message_in news_of
-last_once = record { phase = refl; job = ([], refl); last = refl }
+last_once = record { phase = refl; begun = omega arith; job = ([], refl); last = refl }
 
 once : (k : ℕ) → MissesInputs (single 1) (reverse refused_once) (tasks.Step 1) first_step (start ∷ []) k → ⊥
 once k h = let e = h.tries in omega arith
@@ -314,7 +314,7 @@ run_otherwise = record { by_rules = refl; reported = refl; in_time = omega arith
 
 last_otherwise : Last (single 1) (reverse refused_otherwise) (slave 1) 8 (tasks.Step 1) (second_step 14) (first_step ∷ start ∷ [])
 unfolding message_in news_of
-last_otherwise = record { phase = refl; job = ([], refl); last = refl }
+last_otherwise = record { phase = refl; begun = omega arith; job = ([], refl); last = refl }
 
 pub tells_otherwise : Tells (single 1) refused_otherwise (slave 1) 8 (Refused 14 14)
 tells_otherwise = tells_of run_otherwise (record {

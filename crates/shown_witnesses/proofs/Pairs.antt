@@ -66,11 +66,11 @@ run_both = record { by_rules = refl; reported = refl; in_time = omega arith }
 
 last_one : Last (pair 1 2 0) (reverse both_silent) (slave 1) 1 (tasks.Register 1) (opened 1 0 (identity 1) 1) []
 unfolding message_in news_of
-last_one = record { phase = refl; job = ([], refl); last = refl }
+last_one = record { phase = refl; begun = omega arith; job = ([], refl); last = refl }
 
 last_two : Last (pair 1 2 0) (reverse both_silent) (slave 2) 1 (tasks.Register 2) (opened 1 0 (identity 2) 2) []
 unfolding message_in news_of
-last_two = record { phase = refl; job = ([], refl); last = refl }
+last_two = record { phase = refl; begun = omega arith; job = ([], refl); last = refl }
 
 shown_one : Shown (pair 1 2 0) (reverse both_silent) (slave 1) 1 (NoAnswer 0)
 shown_one = record {
@@ -104,14 +104,14 @@ run_second = record { by_rules = refl; reported = refl; in_time = omega arith }
 
 last_passed : Last (pair 1 2 0) (reverse second_silent) (slave 1) 1 (tasks.Register 1) (question 1 4 5 (StateAck 1)) (decided 1 0 (identity 1) 1 3 Ack ∷ [])
 unfolding message_in news_of
-last_passed = record { phase = refl; job = ([], refl); last = refl }
+last_passed = record { phase = refl; begun = omega arith; job = ([], refl); last = refl }
 
 pub none_passed : ShowsNothing (pair 1 2 0) second_silent (slave 1)
 none_passed p cause s = (plain (λ _. ⊥) last_passed 5 (StateAck 1) refl (omega arith) refl refl refl (λ c e. cc) (λ c e _. cc) (λ e. cc) p cause s).1
 
 last_silent : Last (pair 1 2 0) (reverse second_silent) (slave 2) 1 (tasks.Register 2) (opened 1 0 (identity 2) 2) []
 unfolding message_in news_of
-last_silent = record { phase = refl; job = ([], refl); last = refl }
+last_silent = record { phase = refl; begun = omega arith; job = ([], refl); last = refl }
 
 pub tells_silent : Tells (pair 1 2 0) second_silent (slave 2) 1 (NoAnswer 0)
 tells_silent = tells_second run_second (record {
@@ -133,7 +133,7 @@ asked = question 2 7 8 (StateAck 18) ∷ question 1 4 5 (StateAck 1) ∷ decided
 
 last_faulted : Last (pair 1 1 0) (reverse first_faulted) (slave 1) 1 (tasks.Register 1) (decided 129 3 [] 9 10 (ErrorAck 35)) asked
 unfolding message_in news_of
-last_faulted = record { phase = refl; job = ([], refl); last = refl }
+last_faulted = record { phase = refl; begun = omega arith; job = ([], refl); last = refl }
 
 pub tells_faulted : Tells (pair 1 1 0) first_faulted (slave 1) 1 (Faulted 3 35)
 tells_faulted = tells_first run_faulted (record {
@@ -160,7 +160,7 @@ tells_faulted = tells_first run_faulted (record {
 
 last_other : Last (pair 1 1 0) (reverse first_faulted) (slave 2) 1 (tasks.Register 2) (opened 1 0 (identity 2) 2) []
 unfolding message_in news_of
-last_other = record { phase = refl; job = ([], refl); last = refl }
+last_other = record { phase = refl; begun = omega arith; job = ([], refl); last = refl }
 
 pub shown_other : Shown (pair 1 1 0) (reverse first_faulted) (slave 2) 1 (NoAnswer 0)
 shown_other = record {
@@ -179,14 +179,14 @@ run_setup = record { by_rules = refl; reported = refl; in_time = omega arith }
 
 last_setup : (e : List Asking) × Last (pair 3 1 0) (reverse silent_in_setup) (slave 1) 2 tasks.Setup (question 5 20 21 (StateAck 1)) e
 unfolding message_in news_of
-last_setup = (question 4 17 18 (StateAck 1) ∷ question 3 14 15 (StateAck 1) ∷ decided 36 2 [] 10 12 Ack ∷ question 1 4 5 (StateAck 1) ∷ [], record { phase = refl; job = (_, refl); last = refl })
+last_setup = (question 4 17 18 (StateAck 1) ∷ question 3 14 15 (StateAck 1) ∷ decided 36 2 [] 10 12 Ack ∷ question 1 4 5 (StateAck 1) ∷ [], record { phase = refl; begun = omega arith; job = (_, refl); last = refl })
 
 pub none_setup : ShowsNothing (pair 3 1 0) silent_in_setup (slave 1)
 none_setup p cause s = (plain (λ _. ⊥) last_setup.1 21 (StateAck 1) refl (omega arith) refl refl refl (λ c e. cc) (λ c e _. cc) (λ e. cc) p cause s).1
 
 last_cleared : Last (pair 3 1 0) (reverse silent_in_setup) (slave 2) 2 tasks.Setup (opened 36 2 [] 11) (question 1 7 8 (StateAck 1) ∷ [])
 unfolding message_in news_of
-last_cleared = record { phase = refl; job = (_, refl); last = refl }
+last_cleared = record { phase = refl; begun = omega arith; job = (_, refl); last = refl }
 
 pub tells_setup : Tells (pair 3 1 0) silent_in_setup (slave 2) 2 (NoAnswer 2)
 tells_setup = tells_second run_setup (record {
@@ -208,7 +208,7 @@ went = question 4 19 20 (StateAck 3) ∷ change 3 3 1 15 17 Ack ∷ []
 
 last_back : Last (pair 3 1 0) (reverse fallen_back) (slave 1) 3 tasks.Prepare (question 5 22 23 (StateAck 2)) went
 unfolding message_in news_of
-last_back = record { phase = refl; job = ([], refl); last = refl }
+last_back = record { phase = refl; begun = omega arith; job = ([], refl); last = refl }
 
 pub tells_back : Tells (pair 3 1 0) fallen_back (slave 1) 3 (Unexpected 5 178 2)
 tells_back = tells_first run_back (record {
@@ -252,14 +252,14 @@ told_so_far = question 18 86 87 (StateAck 1) ∷ question 17 83 84 (StateAck 1) 
 
 last_reset : Last pair_twice (reverse silent_in_reset) (slave 1) 9 tasks.Reset (question 19 89 90 (StateAck 1)) told_so_far
 unfolding message_in news_of
-last_reset = record { phase = refl; job = ([], refl); last = refl }
+last_reset = record { phase = refl; begun = omega arith; job = ([], refl); last = refl }
 
 pub none_in_reset : ShowsNothing pair_twice silent_in_reset (slave 1)
 none_in_reset p cause s = (plain (λ _. ⊥) last_reset 90 (StateAck 1) refl (omega arith) refl refl refl (λ c e. cc) (λ c e _. cc) (λ e. cc) p cause s).1
 
 last_unreset : Last pair_twice (reverse silent_in_reset) (slave 2) 9 tasks.Reset (opened 10 15 (Number 16 ∷ []) 78) (question 14 73 75 (StateAck 16) ∷ [])
 unfolding message_in news_of
-last_unreset = record { phase = refl; job = ([], refl); last = refl }
+last_unreset = record { phase = refl; begun = omega arith; job = ([], refl); last = refl }
 
 pub tells_reset : Tells pair_twice silent_in_reset (slave 2) 9 (NoAnswer 15)
 tells_reset = record {
@@ -285,7 +285,7 @@ run_stopped = record { by_rules = refl; reported = refl; in_time = omega arith }
 
 last_stopped : Last pair_adjusted (reverse still_stopped) (slave 1) 10 tasks.Adjust (question 17 88 89 (StateAck 16)) (question 16 80 81 (StateAck 1) ∷ [])
 unfolding message_in news_of
-last_stopped = record { phase = refl; job = ([], refl); last = refl }
+last_stopped = record { phase = refl; begun = omega arith; job = ([], refl); last = refl }
 
 pub tells_stopped : Tells pair_adjusted still_stopped (slave 1) 10 (Unexpected 17 178 16)
 tells_stopped = record {
@@ -312,7 +312,7 @@ beats = question 18 91 92 (StateAck 1) ∷ question 17 88 89 (StateAck 1) ∷ qu
 
 last_beat : Last pair_adjusted (reverse silent_in_adjust) (slave 1) 10 tasks.Adjust (question 19 94 95 (StateAck 1)) beats
 unfolding message_in news_of
-last_beat = record { phase = refl; job = ([], refl); last = refl }
+last_beat = record { phase = refl; begun = omega arith; job = ([], refl); last = refl }
 
 pub none_in_adjust : ShowsNothing pair_adjusted silent_in_adjust (slave 1)
 none_in_adjust p cause s = (plain (λ _. ⊥) last_beat 95 (StateAck 1) refl (omega arith) refl refl refl (λ c e. cc) (λ c e _. cc) (λ e. cc) p cause s).1
@@ -322,7 +322,7 @@ adjusting = opened 39 17 (Number 0 ∷ Number 7 ∷ Signed (pos 5) ∷ []) 86
 
 last_adjust : Last pair_adjusted (reverse silent_in_adjust) second_set 10 tasks.Adjust adjusting (question 16 83 84 (StateAck 1) ∷ [])
 unfolding message_in news_of
-last_adjust = record { phase = refl; job = (_, refl); last = refl }
+last_adjust = record { phase = refl; begun = omega arith; job = (_, refl); last = refl }
 
 pub tells_adjust : Tells pair_adjusted silent_in_adjust second_set 10 (NoAnswer 17)
 tells_adjust = record {

@@ -110,7 +110,7 @@ exchanged_in (suc zero) zero a b c d = absurd (omega arith)
 exchanged_in (suc zero) (suc (suc (suc k))) a b c d = absurd (omega arith)
 
 in_turn : (r k : ℕ) (a : 1 ≤ r) (b : r ≤ 1) (c : 1 ≤ k) (d : k ≤ 2) (e : 1 ≤ k + 1) (f : k + 1 ≤ 2)
-    → AreInTurn (single 2) (reverse rough_whole) r k (exchanged_in r k a b c d) (exchanged_in r (k + 1) a b e f)
+    → AreInTurn (single 2) (reverse rough_whole) r k r (k + 1) (exchanged_in r k a b c d) (exchanged_in r (k + 1) a b e f)
 unfolding exchanged_in exchanged_1 exchanged_2 exchange_1 exchange_2
 in_turn (suc zero) (suc zero) a b c d e f = λ s t i j. (omega arith, omega arith)
 in_turn zero k a b c d e f = absurd (omega arith)
@@ -119,7 +119,7 @@ in_turn (suc zero) zero a b c d e f = absurd (omega arith)
 in_turn (suc zero) (suc (suc k)) a b c d e f = absurd (omega arith)
 
 pub all_rough : AllExchanged (single 2) (reverse rough_whole)
-all_rough = record { steps = exchanged_in; in_turn = in_turn; between = λ r a b. absurd (omega arith) }
+all_rough = record { steps = exchanged_in; in_turn = in_turn; over = λ r a b c d e f g. absurd (omega arith); between = λ r a b. absurd (omega arith) }
 
 -- ---- the outputs of the second step are missing
 
@@ -135,7 +135,7 @@ sending = change 8 20 13 65 66 Ack ∷ question 19 62 63 (StateAck 13) ∷ []
 
 last_missing : Last (single 2) (reverse rough_missing) (slave 1) 11 (tasks.Outputs 2 2) home sending
 unfolding message_in news_of
-last_missing = record { phase = refl; job = ([], refl); last = refl }
+last_missing = record { phase = refl; begun = omega arith; job = ([], refl); last = refl }
 
 none_came : places (brings_outputs master (slave 1) 2 1) 0 rough_missing ≡ []
 unfolding message_in news_of

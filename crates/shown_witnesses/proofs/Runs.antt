@@ -1,5 +1,5 @@
 -- Two runs of one registration.
-use Rattle.std.proofs.Common.{◌≡◌, ℕ, zero, suc, ◌<◌, ◌≤◌, true, Some, None, List, [], ◌∷◌, refl, arith, reverse, sym, ◌∙◌, subst}
+use Rattle.std.proofs.Common.{◌≡◌, ℕ, zero, suc, ◌+◌, ◌<◌, ◌≤◌, true, Some, None, List, [], ◌∷◌, refl, arith, reverse, sym, ap, ◌∙◌, inl, inr, ◌&&◌, subst}
 use Rattle.std.specs.List.{list_all}
 use Rattle.dcp_types.specs.Values.{digits}
 use Rattle.dcp_ends.specs.declared.entries.LogEntry.{LogEntry}
@@ -8,14 +8,14 @@ use Rattle.pdu_layout.specs.Fields.FieldValue.{Number}
 use Rattle.master_spec.specs.News.{news_of, bytes_of}
 use Rattle.master_spec.specs.Conversation.{reaction}
 use Rattle.master_spec.specs.Course.{step}
-use Rattle.master_spec.specs.Exchanged.{IsIn, IsDecided, Brings, Exchange, Exchanged, AllExchanged, IsBetween, in_order, nth_of}
-use Rattle.master_spec.specs.Requests.{brings_outputs, Asking, is_prepare, is_stop, is_reset}
+use Rattle.master_spec.specs.Exchanged.{IsIn, IsDecided, Brings, Exchange, Exchanged, AllExchanged, AreInTurn, IsBetween, in_order, in_run, nth_of}
+use Rattle.master_spec.specs.Requests.{brings_outputs, Asking, is_prepare, is_step, is_stop, is_reset, is_acked}
 use Rattle.master_spec.specs.declared.requests.Answer.TheVariants.{Ack, Nack, StateAck}
 use Rattle.master_spec.specs.declared.reports.Report.TheVariants as reports
 use Rattle.master_spec.specs.declared.setups.Slave.{Slave}
 use Rattle.shown_witnesses.specs.Ends.{master, set_between, twice, brought}
 use Rattle.shown_witnesses.specs.Logs.{IsRun, Tells}
-use Rattle.shown_witnesses.specs.Runs.{old_outputs, NotAllExchanged, two_runs, not_reset, reset_refused, prepared_too_early}
+use Rattle.shown_witnesses.specs.Runs.{old_outputs, NotAllExchanged, NotBetween, two_runs, not_reset, reset_refused, prepared_too_early, reset_at_first, overlapping}
 use Rattle.shown_witnesses.proofs.Askings.{decided, question, change}
 use Rattle.shown_witnesses.proofs.Readings.{none_below, only_one, one_answer, one_place}
 use Rattle.shown_witnesses.proofs.Places.{places, IsAmong, brought_at}
@@ -140,21 +140,21 @@ stop = change 9 17 11 53 54 Ack
 abbrev reset : Asking
 reset = change 10 19 16 59 60 Ack
 
-stops : nth_of is_stop 1 (in_order twice (reverse two_runs) set_between) ≡ Some stop
+stops : nth_of is_stop 1 (in_run twice (reverse two_runs) set_between 1) ≡ Some stop
 unfolding message_in news_of
 stops = refl
 
-resets : nth_of is_reset 1 (in_order twice (reverse two_runs) set_between) ≡ Some reset
+resets : nth_of is_reset 1 (in_run twice (reverse two_runs) set_between 1) ≡ Some reset
 unfolding message_in news_of
 resets = refl
 
-prepares : nth_of is_prepare 2 (in_order twice (reverse two_runs) set_between) ≡ Some (change 3 22 1 67 68 Ack)
+prepares : nth_of is_prepare 1 (in_run twice (reverse two_runs) set_between 1) ≡ Some (change 3 22 1 67 68 Ack)
 unfolding message_in news_of
 prepares = refl
 
-prepared_behind : (t : Slave) → IsIn twice t → (a : Asking) → nth_of is_prepare 2 (in_order twice (reverse two_runs) t) ≡ Some a → 60 < a.first
+prepared_behind : (t : Slave) → IsIn twice t → (a : Asking) → nth_of is_prepare 1 (in_run twice (reverse two_runs) t 1) ≡ Some a → 60 < a.first
 prepared_behind t i a e =
-    let here = subst (λ s. nth_of is_prepare 2 (in_order twice (reverse two_runs) s) ≡ Some (change 3 22 1 67 68 Ack)) (only_one set_between t i.0 i.1) prepares in
+    let here = subst (λ s. nth_of is_prepare 1 (in_run twice (reverse two_runs) s 1) ≡ Some (change 3 22 1 67 68 Ack)) (only_one set_between t i.0 i.1) prepares in
     let both : Some (change 3 22 1 67 68 Ack) ≡ Some a = sym here ∙ e in
     let same : change 3 22 1 67 68 Ack ≡ a = cc in
     subst (λ a. 60 < a.first) same (omega arith)
@@ -165,9 +165,9 @@ between_runs = record {
   reset = λ s. reset;
   stopped = λ s. 54;
   done = λ s. 60;
-  stop_is = λ s i. subst (λ s. nth_of is_stop 1 (in_order twice (reverse two_runs) s) ≡ Some stop) (only_one set_between s i.0 i.1) stops;
+  stop_is = λ s i. subst (λ s. nth_of is_stop 1 (in_run twice (reverse two_runs) s 1) ≡ Some stop) (only_one set_between s i.0 i.1) stops;
   stop_done = λ s i. refl;
-  reset_is = λ s i. subst (λ s. nth_of is_reset 1 (in_order twice (reverse two_runs) s) ≡ Some reset) (only_one set_between s i.0 i.1) resets;
+  reset_is = λ s i. subst (λ s. nth_of is_reset 1 (in_run twice (reverse two_runs) s 1) ≡ Some reset) (only_one set_between s i.0 i.1) resets;
   reset_done = λ s i. refl;
   after = λ s i. omega arith;
   before = λ s t i j a e. prepared_behind t j a e;
@@ -184,15 +184,22 @@ exchanged_in (suc r) (suc (suc k)) a b c d = absurd (omega arith)
 between_in : (r : ℕ) → 1 ≤ r → r < 2 → IsBetween twice (reverse two_runs) r
 between_in r a b = let one : 1 ≡ r = omega arith in subst (IsBetween twice (reverse two_runs)) one between_runs
 
+over : (r : ℕ) (a : 1 ≤ r) (b : r ≤ 2) (c : 1 ≤ 1) (d : 1 ≤ 1) (e : 1 ≤ r + 1) (f : r + 1 ≤ 2) (g : 1 ≤ 1)
+    → AreInTurn twice (reverse two_runs) r 1 (r + 1) 1 (exchanged_in r 1 a b c d) (exchanged_in (r + 1) 1 e f g c)
+unfolding exchanged_in exchanged_1 exchanged_2 exchange_1 exchange_2
+over (suc zero) a b c d e f g = λ s t i j. (omega arith, omega arith)
+over zero a b c d e f g = absurd (omega arith)
+over (suc (suc r)) a b c d e f g = absurd (omega arith)
+
 pub all_twice : AllExchanged twice (reverse two_runs)
-all_twice = record { steps = exchanged_in; in_turn = λ r k a b c d e f. absurd (omega arith); between = between_in }
+all_twice = record { steps = exchanged_in; in_turn = λ r k a b c d e f. absurd (omega arith); over = over; between = between_in }
 
 -- ---- runs that lack a reset
 
 the_between : (log : List LogEntry) → AllExchanged twice (reverse log) → IsBetween twice (reverse log) 1
 the_between log x = x.between 1 (omega arith) (omega arith)
 
-none_reset : nth_of is_reset 1 (in_order twice (reverse not_reset) set_between) ≡ None
+none_reset : nth_of is_reset 1 (in_run twice (reverse not_reset) set_between 1) ≡ None
 unfolding message_in news_of
 none_reset = refl
 
@@ -201,7 +208,7 @@ not_reset_not x =
     let b = the_between not_reset x in
     let e : None ≡ Some (b.reset set_between) = sym none_reset ∙ b.reset_is set_between (0, refl) in cc
 
-reset_and_refused : nth_of is_reset 1 (in_order twice (reverse reset_refused) set_between) ≡ Some (change 10 19 16 59 60 (Nack 2))
+reset_and_refused : nth_of is_reset 1 (in_run twice (reverse reset_refused) set_between 1) ≡ Some (change 10 19 16 59 60 (Nack 2))
 unfolding message_in news_of
 reset_and_refused = refl
 
@@ -212,11 +219,11 @@ refused_not x =
     let same : change 10 19 16 59 60 (Nack 2) ≡ b.reset set_between = cc in
     let told : Nack 2 ≡ Ack = one_answer (b.reset set_between) (subst (λ a. IsDecided a 60 (Nack 2)) same refl) (b.reset_done set_between (0, refl)) in cc
 
-reset_at_last : nth_of is_reset 1 (in_order twice (reverse prepared_too_early) set_between) ≡ Some (change 10 35 16 109 110 Ack)
+reset_at_last : nth_of is_reset 1 (in_run twice (reverse prepared_too_early) set_between 1) ≡ Some (change 10 35 16 109 110 Ack)
 unfolding message_in news_of
 reset_at_last = refl
 
-prepared_before : nth_of is_prepare 2 (in_order twice (reverse prepared_too_early) set_between) ≡ Some (change 3 19 1 59 60 Ack)
+prepared_before : nth_of is_prepare 1 (in_run twice (reverse prepared_too_early) set_between 1) ≡ Some (change 3 19 1 59 60 Ack)
 unfolding message_in news_of
 prepared_before = refl
 
@@ -228,6 +235,44 @@ too_early_not x =
     let place : 110 ≡ b.done set_between = one_place (b.reset set_between) (subst (λ a. IsDecided a 110 Ack) same refl) (b.reset_done set_between (0, refl)) in
     let order = b.before set_between set_between (0, refl) (0, refl) (change 3 19 1 59 60 Ack) prepared_before in
     omega arith
+
+none_stops : nth_of is_stop 1 (in_run twice (reverse reset_at_first) set_between 1) ≡ None
+unfolding message_in news_of
+none_stops = refl
+
+pub at_first_not : NotBetween reset_at_first
+at_first_not b = let e : None ≡ Some (b.stop set_between) = sym none_stops ∙ b.stop_is set_between (0, refl) in cc
+
+-- ---- runs that overlap
+
+second_step : nth_of (λ a. is_step a && is_acked a) 1 (in_run twice (reverse overlapping) set_between 2) ≡ Some (decided 7 4 (Number 11 ∷ Number 1 ∷ []) 8 9 Ack)
+unfolding message_in news_of
+second_step = refl
+
+came_once : places (brings_outputs master set_between 1 1) 0 overlapping ≡ 14 ∷ []
+unfolding message_in news_of
+came_once = refl
+
+came_at : (i : ℕ) → IsAmong (14 ∷ []) i → 14 ≡ i
+came_at i (inl e) = e
+came_at i (inr h) = absurd h
+
+not_in_turn : (e : Exchange twice (reverse overlapping) set_between 1 1) (f : Exchange twice (reverse overlapping) set_between 2 1) → e.came < f.step.first → ⊥
+not_in_turn e f order =
+    let here = brought_at twice (reverse overlapping) set_between 1 e.came e.brought in
+    let came : 14 ≡ e.came = came_at e.came (subst (λ ps. IsAmong ps e.came) came_once here) in
+    let both : Some (decided 7 4 (Number 11 ∷ Number 1 ∷ []) 8 9 Ack) ≡ Some f.step = sym second_step ∙ f.step_is in
+    let same : decided 7 4 (Number 11 ∷ Number 1 ∷ []) 8 9 Ack ≡ f.step = cc in
+    let asked : 8 ≡ f.step.first = ap (λ (a : Asking). a.first) same in
+    omega arith
+
+pub overlapping_not : NotAllExchanged overlapping
+overlapping_not x =
+    let a : 1 ≤ 1 = omega arith in
+    let b : 1 ≤ 2 = omega arith in
+    let t : 2 ≤ 2 = omega arith in
+    let i : IsIn twice set_between = (0, refl) in
+    not_in_turn ((x.steps 1 1 a b a a).each set_between i) ((x.steps 2 1 b t a a).each set_between i) (x.over 1 a b a a b t a set_between set_between i i).1
 
 -- ---- outputs of the first run in the second
 
@@ -246,7 +291,7 @@ outputs = tasks.FirstOutputs 2
 
 last_old : Last twice (reverse old_outputs) set_between 16 outputs home sending
 unfolding message_in news_of
-last_old = record { phase = refl; job = ([], refl); last = refl }
+last_old = record { phase = refl; begun = omega arith; job = ([], refl); last = refl }
 
 none_came : places (brings_outputs master set_between 2 1) 0 old_outputs ≡ []
 unfolding message_in news_of

@@ -33,7 +33,7 @@ is_run = record { by_rules = refl; reported = refl; in_time = omega arith }
 
 last : Last (single 0) (reverse silent) (slave 1) 1 task (register (3 ∷ []) None) []
 unfolding message_in news_of
-last = record { phase = refl; job = ([], refl); last = refl }
+last = record { phase = refl; begun = omega arith; job = ([], refl); last = refl }
 
 shown : Shown (single 0) (reverse silent) (slave 1) 1 (NoAnswer 0)
 shown = record {
@@ -63,21 +63,21 @@ tells = tells_of is_run shown
 
 before_turn : Last (single 0) (reverse one_turn_less) (slave 1) 1 task (register (3 ∷ []) None) []
 unfolding message_in news_of
-before_turn = record { phase = refl; job = ([], refl); last = refl }
+before_turn = record { phase = refl; begun = omega arith; job = ([], refl); last = refl }
 
 pub none_early : ShowsNothing (single 0) one_turn_less (slave 1)
 none_early = still_open before_turn refl refl (λ h. let e = h.turns in omega arith)
 
 once : Last (single 0) (reverse sent_once) (slave 1) 1 task (register [] None) []
 unfolding message_in news_of
-once = record { phase = refl; job = ([], refl); last = refl }
+once = record { phase = refl; begun = omega arith; job = ([], refl); last = refl }
 
 pub none_once : ShowsNothing (single 0) sent_once (slave 1)
 none_once = still_open once refl refl (λ h. let e = h.often in omega arith)
 
 later : Last (single 0) (reverse late_repeat) (slave 1) 1 task (register (4 ∷ []) None) []
 unfolding message_in news_of
-later = record { phase = refl; job = ([], refl); last = refl }
+later = record { phase = refl; begun = omega arith; job = ([], refl); last = refl }
 
 pub none_slow : ShowsNothing (single 0) late_repeat (slave 1)
 none_slow = still_open later refl refl (λ h. let e = h.spaced in omega arith)
@@ -89,7 +89,7 @@ at_last = register (3 ∷ []) (Some (record { place = 4; answer = Ack }))
 
 in_time : Last (single 0) (reverse answered_at_last) (slave 1) 1 task at_last []
 unfolding message_in news_of
-in_time = record { phase = refl; job = ([], refl); last = refl }
+in_time = record { phase = refl; begun = omega arith; job = ([], refl); last = refl }
 
 pub none_answered : ShowsNothing (single 0) answered_at_last (slave 1)
 none_answered p cause s = (plain (λ _. ⊥) in_time 4 Ack refl (omega arith) refl refl refl (λ c e. cc) (λ c e _. cc) (λ e. cc) p cause s).1
@@ -103,7 +103,7 @@ run_late = record { by_rules = refl; reported = refl; in_time = omega arith }
 
 last_late : Last (single 0) (reverse refused_too_late) (slave 1) 1 task too_late []
 unfolding message_in news_of
-last_late = record { phase = refl; job = ([], refl); last = refl }
+last_late = record { phase = refl; begun = omega arith; job = ([], refl); last = refl }
 
 shown_late : Shown (single 0) (reverse refused_too_late) (slave 1) 1 (NoAnswer 0)
 shown_late = record {

@@ -182,6 +182,7 @@ pub all_together : AllExchanged (pair 3 1 1) (reverse together)
 all_together = record {
   steps = λ r k a b c d. subst (λ r. Exchanged (pair 3 1 1) (reverse together) r k) (one r a b) (subst (λ k. Exchanged (pair 3 1 1) (reverse together) 1 k) (one k c d) exchanged);
   in_turn = λ r k a b c d e f. absurd (omega arith);
+  over = λ r a b c d e f g. absurd (omega arith);
   between = λ r a b. absurd (omega arith);
 }
   where

@@ -1,7 +1,7 @@
 -- A slave whose answer to the first request, or to the questions after it, ends the run.
 use Rattle.std.specs.Prelude.{List, [], ◌∷◌}
 use Rattle.dcp_ends.specs.declared.entries.LogEntry.{LogEntry}
-use Rattle.shown_witnesses.specs.Ends.{turn, registered, asked_state, asked_error, got, acked, refused, told_state, told_error, told_log}
+use Rattle.shown_witnesses.specs.Ends.{turn, registered, asked_state, asked_error, sent, got, acked, refused, told_state, told_error, told_log}
 
 -- ---- a refusal
 
@@ -20,6 +20,10 @@ refused_from_other = turn ∷ registered 1 ∷ got 2 (177 ∷ 0 ∷ 0 ∷ 1 ∷ 
 
 abbrev pub refused_second : List LogEntry
 refused_second = turn ∷ registered 1 ∷ acked 1 0 ∷ asked_state 1 1 ∷ refused 1 0 10 ∷ []
+
+-- a question that is refused before the first phase has begun
+abbrev pub refused_before : List LogEntry
+refused_before = asked_state 1 0 ∷ refused 1 0 10 ∷ []
 
 -- ---- an answer that does not fit: to the first request, to the question for the state, and to that for the fault
 
@@ -41,6 +45,10 @@ state_for_error = turn ∷ registered 1 ∷ acked 1 0 ∷ asked_state 1 1 ∷ to
 -- the target
 abbrev pub right_state : List LogEntry
 right_state = turn ∷ registered 1 ∷ acked 1 0 ∷ asked_state 1 1 ∷ told_state 1 1 1 ∷ []
+
+-- a question for the log, of five entries at most, and its answer
+abbrev pub log_for_log : List LogEntry
+log_for_log = turn ∷ registered 1 ∷ acked 1 0 ∷ sent 1 (130 ∷ 1 ∷ 0 ∷ 1 ∷ 0 ∷ 5 ∷ []) ∷ told_log 1 1 ∷ []
 
 -- ---- a fault
 

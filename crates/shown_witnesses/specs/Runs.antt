@@ -1,7 +1,7 @@
 -- Two runs of one registration.
 use Rattle.std.specs.Prelude.{ℕ, ◌+◌, List, [], ◌∷◌, reverse}
 use Rattle.dcp_ends.specs.declared.entries.LogEntry.{LogEntry}
-use Rattle.master_spec.specs.Exchanged.{AllExchanged}
+use Rattle.master_spec.specs.Exchanged.{AllExchanged, IsBetween}
 use Rattle.shown_witnesses.specs.Ends.{twice, turn, changed, adjusted, started, stepped, asked_state, acked, refused, told_state, brought}
 use Rattle.shown_witnesses.specs.Phases.{set_up}
 
@@ -45,6 +45,21 @@ reset_refused = set_up (one_run 3 0 (turn ∷ changed 1 10 19 16 ∷ refused 1 1
 abbrev pub prepared_too_early : List LogEntry
 prepared_too_early = set_up (one_run 3 0 (one_run 19 2 (turn ∷ changed 1 10 35 16 ∷ acked 1 35 ∷ [])))
 
+-- the slave is stopped and reset before any start
+abbrev pub reset_at_first : List LogEntry
+reset_at_first = changed 1 9 0 11 ∷ acked 1 0 ∷ changed 1 10 1 16 ∷ acked 1 1 ∷ []
+
+-- the second run is started, and its step is asked for, before the outputs of the first step are; they serve for both runs
+abbrev pub overlapping : List LogEntry
+overlapping = started 1 0 ∷ acked 1 0 ∷ stepped 1 1 ∷ acked 1 1 ∷ asked_state 1 2 ∷ told_state 1 2 13
+    ∷ started 1 3 ∷ acked 1 3 ∷ stepped 1 4 ∷ acked 1 4 ∷ asked_state 1 5 ∷ told_state 1 5 13
+    ∷ changed 1 8 6 13 ∷ acked 1 6 ∷ brought 1 1 8 ∷ brought 1 3 8 ∷ asked_state 1 7 ∷ told_state 1 7 11
+    ∷ changed 1 9 8 11 ∷ acked 1 8 ∷ changed 1 10 9 16 ∷ acked 1 9 ∷ []
+
 -- not all is exchanged in this log
 abbrev pub NotAllExchanged : List LogEntry → Type 0
 NotAllExchanged log = AllExchanged twice (reverse log) → ⊥
+
+-- there is no end of the first run before a second one in this log
+abbrev pub NotBetween : List LogEntry → Type 0
+NotBetween log = IsBetween twice (reverse log) 1 → ⊥

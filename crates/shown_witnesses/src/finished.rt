@@ -5,7 +5,7 @@ ghost use Rattle.master_spec.specs.declared.reports.Report.TheVariants.{Finished
 ghost use Rattle.shown_witnesses.specs.Ends.{pair, single, twice};
 ghost use Rattle.shown_witnesses.specs.Logs.{IsRun};
 ghost use Rattle.shown_witnesses.specs.Rough.{rough_whole};
-ghost use Rattle.shown_witnesses.specs.Runs.{NotAllExchanged, two_runs, not_reset, reset_refused, prepared_too_early};
+ghost use Rattle.shown_witnesses.specs.Runs.{NotAllExchanged, NotBetween, two_runs, not_reset, reset_refused, prepared_too_early, reset_at_first, overlapping};
 ghost use Rattle.shown_witnesses.specs.Together.{NotTogether, together, one_ahead, one_behind};
 ghost use Rattle.shown_witnesses.specs.Whole.{NotExchanged, whole, only_noticed, asked_too_early, early_values, late_values, not_running, outputs_refused, two_at_once};
 ghost use Rattle.std.specs.Prelude.{reverse};
@@ -32,18 +32,25 @@ pub fn exchanges_need_their_values()
     ensures late { NotExchanged late_values }
 {}
 
-/// The log of two runs that finish shows that the step of each is exchanged, and that the slave is reset
-/// between them.
+/// The log of two runs that finish shows that the step of each is exchanged, one after the other, and that the
+/// slave is reset between them.
 pub fn finished_runs_are_separate()
     ensures run { IsRun twice two_runs (Finished 1) }
     ensures exchanged { AllExchanged twice (reverse two_runs) }
 {}
 
-/// It does not where the slave is not reset, where its reset is refused, or where it is prepared before.
+/// It does not where the slave is not reset, where its reset is refused, or where it is prepared before. A reset
+/// before the start of a run does not end that run.
 pub fn runs_need_their_reset()
     ensures missing { NotAllExchanged not_reset }
     ensures refused { NotAllExchanged reset_refused }
     ensures early { NotAllExchanged prepared_too_early }
+    ensures started { NotBetween reset_at_first }
+{}
+
+/// Two runs are not exchanged where the step of the second is asked for before the outputs of the first have come.
+pub fn runs_wait_for_each_other()
+    ensures { NotAllExchanged overlapping }
 {}
 
 /// The log of two slaves that finish shows that they exchange the step together.

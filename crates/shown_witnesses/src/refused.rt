@@ -2,7 +2,7 @@
 
 ghost use Rattle.master_spec.specs.declared.causes.Cause.TheVariants.{Refused};
 ghost use Rattle.shown_witnesses.specs.Ends.{single, slave};
-ghost use Rattle.shown_witnesses.specs.FirstPhase.{refusing, refused_other, refused_as_other, refused_from_other, refused_second};
+ghost use Rattle.shown_witnesses.specs.FirstPhase.{refusing, refused_other, refused_as_other, refused_from_other, refused_second, refused_before};
 ghost use Rattle.shown_witnesses.specs.Logs.{Tells, ShowsOnly, ShowsNothing};
 
 /// A refusal is shown with its number and its code, and nothing else is shown.
@@ -18,4 +18,9 @@ pub fn refusals_need_their_request()
     ensures sender { ShowsNothing (single 0) refused_as_other (slave 1) }
     ensures address { ShowsNothing (single 0) refused_from_other (slave 1) }
     ensures second { ShowsNothing (single 0) refused_second (slave 1) }
+{}
+
+/// Nothing is shown before the first phase has begun.
+pub fn refusals_need_their_phase()
+    ensures { ShowsNothing (single 0) refused_before (slave 1) }
 {}

@@ -2,7 +2,7 @@
 
 ghost use Rattle.master_spec.specs.declared.causes.Cause.TheVariants.{Stuck, Unexpected};
 ghost use Rattle.shown_witnesses.specs.Ends.{single, pair, slave};
-ghost use Rattle.shown_witnesses.specs.FirstPhase.{state_for_change, log_for_change, other_state, ack_for_state, state_for_error, right_state};
+ghost use Rattle.shown_witnesses.specs.FirstPhase.{state_for_change, log_for_change, other_state, ack_for_state, state_for_error, right_state, log_for_log};
 ghost use Rattle.shown_witnesses.specs.Logs.{Tells, ShowsOnly, ShowsNothing};
 ghost use Rattle.master_spec.specs.Shown.{Shown};
 ghost use Rattle.shown_witnesses.specs.Pairs.{fallen_back};
@@ -30,6 +30,11 @@ pub fn other_states_are_shown()
 /// The state that the phase leads to shows nothing.
 pub fn targets_are_expected()
     ensures { ShowsNothing (single 0) right_state (slave 1) }
+{}
+
+/// The answer to a question for the log shows nothing.
+pub fn told_logs_show_nothing()
+    ensures { ShowsNothing (single 0) log_for_log (slave 1) }
 {}
 
 /// The state that a slave passes through is not expected of it once it has named the one that it leads to.

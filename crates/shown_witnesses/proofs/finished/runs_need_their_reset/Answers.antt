@@ -1,4 +1,4 @@
-use Rattle.shown_witnesses.proofs.Runs.{not_reset_not, refused_not, too_early_not}
+use Rattle.shown_witnesses.proofs.Runs.{not_reset_not, refused_not, too_early_not, at_first_not}
 use Rattle.shown_witnesses.proofs.finished.runs_need_their_reset.Goals as goal
 
 pub returns-clause-missing : goal.returns-clause-missing
@@ -9,3 +9,6 @@ returns-clause-refused c = refused_not
 
 pub returns-clause-early : goal.returns-clause-early
 returns-clause-early c = too_early_not
+
+pub returns-clause-started : goal.returns-clause-started
+returns-clause-started c = at_first_not
