@@ -1,17 +1,16 @@
 -- What all calls of a reader leave: the bytes taken are the frames handed out followed by the bytes held.
-use Rattle.std.proofs.Common.{◌≡◌, ◌⊎◌, inl, inr, ℕ, zero, suc, ◌+◌, ◌-◌, ◌<◌, ◌≤◌, ◌^◌, ◌++◌, Bool, true, false, List, [], ◌∷◌, length, take, drop, min, refl, ap, sym, subst, ◌∙◌, arith, append_assoc, append-nil, length-append, All}
+use Rattle.std.proofs.Common.{◌≡◌, inl, inr, ℕ, ◌<◌, ◌≤◌, ◌^◌, ◌++◌, Bool, true, false, List, [], ◌∷◌, length, take, drop, min, refl, ap, sym, subst, ◌∙◌, arith, append_assoc, append-nil, length-append, All}
 use Rattle.std.proofs.lemmas.List.{drop_at, length-take}
 use Rattle.std.proofs.lemmas.List.Elements.{All-nil, All-push, All-append, All-take}
 use Rattle.std.proofs.lemmas.Grind.{flat_map-append}
-use Rattle.dcp_types.specs.Values.{digits}
 use Rattle.dcp_types.proofs.Digits.{same_number}
 use Rattle.stream_frame.specs.declared.frames.Frame.{Frame}
 use Rattle.stream_frame.specs.declared.frames.Frame.TheVariants.{Whole, NotYet, Bad}
-use Rattle.stream_frame.specs.Frames.{AreBytes, IsFrame, in_stream, all_in_stream, BeginsWith, HasFrame, BeginsBad, IsBad, CutInto}
+use Rattle.stream_frame.specs.Frames.{AreBytes, IsFrame, in_stream, all_in_stream, BeginsWith, HasFrame, BeginsBad, IsBad}
 use Rattle.stream_frame.specs.Framing.{Framing, Asks, fresh, space_of, space}
 use Rattle.stream_frame.specs.Calls.{Call, Fed, Asked, taken, handed, last_handed, is_refused, held, IsAnswered, AreAnswered, Stands}
 use Rattle.stream_frame.specs.Laws.{StaysBad, IsExact}
-use Rattle.stream_frame.proofs.Cuts.{no_frame_is_bad, decide, HasNone, all_rest, first_frames}
+use Rattle.stream_frame.proofs.Cuts.{no_frame_is_bad, decide, all_rest, first_frames}
 
 by_test : {P : Type 0} → (b : Bool) → (b ≡ true → P) → (b ≡ false → P) → P
 by_test true f g = f refl

@@ -1,6 +1,5 @@
 -- What holds of all streams, and of all lists of calls.
 use Rattle.std.specs.Prelude.{◌≡◌, ◌≤◌, ℕ, List, ◌∷◌, ◌++◌, length, All}
-use Rattle.stream_frame.specs.declared.frames.Frame.{Frame}
 use Rattle.stream_frame.specs.declared.frames.Frame.TheVariants.{NotYet, Bad}
 use Rattle.stream_frame.specs.Frames.{AreBytes, IsFrame, all_in_stream, CutInto}
 use Rattle.stream_frame.specs.Framing.{space_of}

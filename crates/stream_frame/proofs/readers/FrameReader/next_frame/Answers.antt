@@ -1,5 +1,5 @@
-use Rattle.std.proofs.Common.{◌≡◌, ◌+◌, ◌≤◌, ◌<◌, ℕ, List, length, take, drop, refl, sym, ap, subst, arith}
-use Rattle.stream_frame.specs.declared.frames.Frame.TheVariants.{Whole, NotYet, Bad}
+use Rattle.std.proofs.Common.{◌+◌, ◌≤◌, ◌<◌, length, refl, sym, ap, subst, arith}
+use Rattle.stream_frame.specs.declared.frames.Frame.TheVariants.{Whole, NotYet}
 use Rattle.stream_frame.specs.Framing.{Framing, Asks}
 use Rattle.stream_frame.proofs.Cuts.{short_has_none, wanting_has_none, whole_frame}
 use Rattle.stream_frame.proofs.Histories.{stands_asked}
