@@ -1,0 +1,3 @@
+pub mod Hellos
+pub mod Flushing
+pub mod Receiving
