@@ -15,7 +15,7 @@ use Rattle.dcp_record.specs.Cuts.{IsHead, IsExchange, ExchangeRefused, IsFirst, 
 use Rattle.dcp_record.specs.Laws.{IsBytes}
 use Rattle.dcp_record.proofs.Numbers.{front_16, front_32, front_place, bytes_behind, after_two}
 use Rattle.dcp_record.proofs.Fronts.{cut_in_form, cut_in_hosted, cut_in_length, cut_in_scenario, cut_in_first, cut_in_second, cut_in_size, cut_in_payload, cut_in_idle, cut_in_turn, out_is, sent_refused, got_refused, after_hosted}
-use Rattle.dcp_record.proofs.Behind.{fault_behind}
+use Rattle.dcp_record.proofs.Behind.{fault_behind, whole_behind}
 
 -- where bytes differ from a form, what is behind it, or that they end within it
 abbrev Differs : List ℕ → List ℕ → Type 0
@@ -236,8 +236,7 @@ abbrev TraceOr : List ℕ → Type 0
 TraceOr b = ((hosted : ℕ) × (scenario : List ℕ) × (entries : List LogEntry) × IsTrace b hosted scenario entries) ⊎ ((at : ℕ) × (why : TraceWhy) × Refusal b at why)
 
 trace_by_entries : (b : List ℕ) (hosted : ℕ) (scenario rest : List ℕ) → IsHead b hosted scenario rest → EntriesOr (length b - length rest) rest → TraceOr b
-trace_by_entries b hosted scenario rest head (inl k) =
-    inl (hosted, scenario, k.0, record { known = head.known; measured = head.measured; recordable = k.1.recordable; bytes = head.parts ∙ ap (λ (l : List ℕ). header_bytes hosted (length scenario) ++ scenario ++ l) k.1.parts })
+trace_by_entries b hosted scenario rest head (inl k) = inl (hosted, scenario, k.0, whole_behind b hosted scenario rest head k.0 k.1)
 trace_by_entries b hosted scenario rest head (inr k) = inr (k.0, k.1, fault_behind b hosted scenario rest head k.0 k.1 k.2)
 
 pub trace_or : (b : List ℕ) → IsBytes b → TraceOr b

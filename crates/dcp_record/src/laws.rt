@@ -1,6 +1,6 @@
 //! What holds of the bytes of all traces.
 
-ghost use Rattle.std.specs.Prelude.{◌≡◌, ◌<◌, ◌^◌, length, IfOk, IfErr};
+ghost use Rattle.std.specs.Prelude.{◌≡◌, ◌<◌, ◌^◌, length, MatchResult};
 ghost use Rattle.std.specs.List.{All};
 ghost use Rattle.dcp_record.specs.Traces.{IsRecordable, trace_bytes};
 ghost use Rattle.dcp_record.specs.Laws.{ReadOrRefused, NeverBoth, TracesDiffer, OneRefusal};
@@ -32,10 +32,7 @@ pub fn written_and_read_back<'a>(
     requires scenario { length scenario.now < 2 ^ 32 }
     requires entries { All IsRecordable entries.now }
     requires written { written.now ≡ trace_bytes hosted scenario.now entries.now }
-    ensures hosted { IfOk result (λ trace. trace.hosted ≡ hosted) }
-    ensures scenario { IfOk result (λ trace. trace.scenario.now ≡ scenario.now) }
-    ensures entries { IfOk result (λ trace. trace.entries ≡ entries.now) }
-    ensures memory { IfErr result (λ refused. refused ≡ OutOfMemory) }
+    ensures { MatchResult result (λ trace. (trace.hosted ≡ hosted) × (trace.scenario.now ≡ scenario.now) × (trace.entries ≡ entries.now)) (λ refused. refused ≡ OutOfMemory) }
 {
     read_record(alloc, written)
 }

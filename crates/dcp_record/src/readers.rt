@@ -1,6 +1,8 @@
 //! Reading a trace.
 
-ghost use Rattle.std.specs.Prelude.{◌≡◌, ◌++◌, IfOk, IfErr};
+ghost use Rattle.std.specs.Prelude.{◌≡◌, ◌++◌, ℕ, List, IfOk, IfErr, MatchResult};
+ghost use Rattle.dcp_ends.specs.declared.entries.LogEntry.{LogEntry};
+ghost use Rattle.dcp_record.specs.declared.faults.TraceRefused.TheVariants.{OutOfMemory};
 ghost use Rattle.dcp_record.specs.Traces.{form, IsTrace};
 ghost use Rattle.dcp_record.specs.Refusals.{HeaderRefused, IsRefused};
 ghost use Rattle.dcp_record.specs.Cuts.{IsHead};
@@ -42,6 +44,12 @@ struct Head<'a> {
 /// Reads the trace of a run. The entries take memory, the scenario's text takes none.
 pub fn read_record(alloc: Global, bytes: &[u8]) -> Result<Trace<'_>, TraceRefused>
     ensures ok { IfOk result (λ trace. IsTrace bytes.now trace.hosted trace.scenario.now trace.entries) }
+
+    // A trace is read as what it is, unless memory runs out.
+    ensures only { (hosted : ℕ) (scenario : List ℕ) (entries : List LogEntry) → IsTrace bytes.now hosted scenario entries
+        → MatchResult result (λ trace. (trace.hosted ≡ hosted) × (trace.scenario.now ≡ scenario) × (trace.entries ≡ entries)) (λ refused. refused ≡ OutOfMemory) }
+
+    // Else the bytes are refused.
     ensures err { IfErr result (λ refused. IsRefused bytes.now refused) }
 {
     let (head, rest) = match cut_head(bytes) {
