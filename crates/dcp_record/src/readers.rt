@@ -10,12 +10,10 @@ ghost use Rattle.dcp_record.specs.Cuts.{IsHead};
 use crate::entries_in::cut_entries;
 use crate::faults::{TraceFault, TraceRefused, TraceWhy};
 use crate::numbers_in::cut_u32;
+use crate::writers::FORM;
 use dcp_ends::LogEntry;
 use dcp_types::Items;
 use std::alloc::Global;
-
-/// The letters DCPR and the version.
-const FORM: [u8; 5] = [68, 67, 80, 82, 1];
 
 /// Where the hosted ends begin.
 const HOSTED_AT: usize = 5;
