@@ -15,7 +15,7 @@ module _ (w0 w1 w2 : Option (List ℕ)) (f0 f1 f2 : ℕ) (s0 s1 s2 : Unwritten) 
   pub Puts-then : Puts w0 w1 f0 f1 s0 s1 p → Puts w1 w2 f1 f2 s1 s2 q → Puts w0 w2 f0 f2 s0 s2 (p ++ q)
   Puts-then a b = λ first none text h. let P : List ℕ → Type 0 = λ t. Spooled first w2 none f2 t s2 in subst P (append_assoc text p q) (b first none (text ++ p) (a first none text h))
 
-all_entry_bytes-append : (xs ys : List LogEntry) → all_entry_bytes (xs ++ ys) ≡ all_entry_bytes xs ++ all_entry_bytes ys
+pub all_entry_bytes-append : (xs ys : List LogEntry) → all_entry_bytes (xs ++ ys) ≡ all_entry_bytes xs ++ all_entry_bytes ys
 all_entry_bytes-append [] ys = refl
 all_entry_bytes-append (x ∷ xs) ys = ap (λ (bs : List ℕ). log_entry_bytes x ++ bs) (all_entry_bytes-append xs ys) ∙ sym (append_assoc (log_entry_bytes x) (all_entry_bytes xs) (all_entry_bytes ys))
 

@@ -1,5 +1,6 @@
 -- The bytes of a trace.
-use Rattle.std.specs.Prelude.{ℕ, ◌≤◌, List, [], ◌∷◌, ◌++◌, length}
+use Rattle.std.specs.Prelude.{◌≡◌, ℕ, ◌<◌, ◌≤◌, ◌^◌, List, [], ◌∷◌, ◌++◌, length}
+use Rattle.std.specs.List.{All}
 use Rattle.std.specs.Int.{to_le_bytes, w16, w32}
 use Rattle.dcp_types.specs.declared.addresses.Address.{Address}
 use Rattle.dcp_ends.specs.declared.entries.LogEntry.{LogEntry}
@@ -24,9 +25,13 @@ abbrev pub all_entry_bytes : List LogEntry → List ℕ
 all_entry_bytes [] = []
 all_entry_bytes (entry ∷ entries) = log_entry_bytes entry ++ all_entry_bytes entries
 
--- the letters DCPR, the version 1, the hosted ends as bits, and the length of the scenario's text
+-- the letters DCPR and the version 1
+abbrev pub form : List ℕ
+form = 68 ∷ 67 ∷ 80 ∷ 82 ∷ 1 ∷ []
+
+-- the form, the hosted ends as bits, and the length of the scenario's text
 abbrev pub header_bytes : ℕ → ℕ → List ℕ
-header_bytes hosted len = (68 ∷ 67 ∷ 80 ∷ 82 ∷ 1 ∷ []) ++ to_le_bytes w32 hosted ++ to_le_bytes w32 len
+header_bytes hosted len = form ++ to_le_bytes w32 hosted ++ to_le_bytes w32 len
 
 -- a trace: the header, the scenario's text, and the entries to the end
 abbrev pub trace_bytes : ℕ → List ℕ → List LogEntry → List ℕ
@@ -38,3 +43,27 @@ IsInRange (Sent from to bytes) = (1 ≤ length bytes) × (length bytes ≤ 1024)
 IsInRange (Got at from bytes) = length bytes ≤ 1025
 IsInRange (Idle at) = Unit {0}
 IsInRange (Turn at) = Unit {0}
+
+-- the numbers of an address fit their bytes
+pub record IsPlace (a : Address) : Type 0 where
+  pub ip_fits : a.ip < 2 ^ 32
+  pub port_fits : a.port < 2 ^ 16
+
+abbrev pub HasPlaces : LogEntry → Type 0
+HasPlaces (Sent from to bytes) = IsPlace from × IsPlace to
+HasPlaces (Got at from bytes) = IsPlace at × IsPlace from
+HasPlaces (Idle at) = IsPlace at
+HasPlaces (Turn at) = IsPlace at
+
+-- all that an entry says fits its bytes
+pub record IsRecordable (entry : LogEntry) : Type 0 where
+  pub places : HasPlaces entry
+  pub in_range : IsInRange entry
+
+-- These bytes are the trace of a run: the hosted ends are among the master and 16 slaves, the scenario's length fits its four
+-- bytes, and each entry fits its own.
+pub record IsTrace (b : List ℕ) (hosted : ℕ) (scenario : List ℕ) (entries : List LogEntry) : Type 0 where
+  pub known : hosted < 2 ^ 17
+  pub measured : length scenario < 2 ^ 32
+  pub recordable : All IsRecordable entries
+  pub bytes : b ≡ trace_bytes hosted scenario entries

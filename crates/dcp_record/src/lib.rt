@@ -1,9 +1,18 @@
 //! Traces: a scenario's text and the log of its run as bytes, for anybody to read again.
 //!
 //! What it promises: what is written is the spelling of the trace byte for byte, or a front of it where
-//! the sink failed. No call takes memory.
+//! the sink failed; what is read is the one trace that has these bytes, or else the bytes are refused for
+//! one cause at one place. Writing takes no memory.
 #![tactic(auto)]
 
+mod entries_in;
+mod faults;
+mod laws;
+mod numbers_in;
+mod readers;
 mod writers;
 
+pub use faults::{TraceFault, TraceRefused, TraceWhy};
+pub use laws::{traces_read_or_are_refused, written_and_read_back};
+pub use readers::{Trace, read_record};
 pub use writers::{SinkFault, write_record};

@@ -11,7 +11,7 @@ use dcp_io::Sink;
 use dcp_types::Address;
 
 /// The letters DCPR and the version.
-const FORM: [u8; 5] = [68, 67, 80, 82, 1];
+pub const FORM: [u8; 5] = [68, 67, 80, 82, 1];
 
 /// How many bytes of a text are put at a time.
 const PIECE: usize = 4_096;

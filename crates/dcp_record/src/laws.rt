@@ -1,0 +1,38 @@
+//! What holds of the bytes of all traces.
+
+ghost use Rattle.std.specs.Prelude.{◌≡◌, ◌<◌, ◌^◌, length, MatchResult};
+ghost use Rattle.std.specs.List.{All};
+ghost use Rattle.dcp_record.specs.Traces.{IsRecordable, trace_bytes};
+ghost use Rattle.dcp_record.specs.Laws.{ReadOrRefused, NeverBoth, TracesDiffer, OneRefusal};
+ghost use Rattle.dcp_record.specs.declared.faults.TraceRefused.TheVariants.{OutOfMemory};
+
+use crate::faults::TraceRefused;
+use crate::readers::{Trace, read_record};
+use dcp_ends::LogEntry;
+use std::alloc::Global;
+
+/// Bytes are the one trace that has them, or are refused for one cause at one place.
+pub fn traces_read_or_are_refused()
+    ensures either { ReadOrRefused }
+    ensures never_both { NeverBoth }
+    ensures one_trace { TracesDiffer }
+    ensures one_refusal { OneRefusal }
+{}
+
+/// Reads what `write_record` wrote of these, all of it, to an empty sink: they come back as they were,
+/// unless memory is short.
+pub fn written_and_read_back<'a>(
+    alloc: Global,
+    hosted: u32,
+    scenario: &[u8],
+    entries: &[LogEntry],
+    written: &'a [u8],
+) -> Result<Trace<'a>, TraceRefused>
+    requires hosted { hosted < 2 ^ 17 }
+    requires scenario { length scenario.now < 2 ^ 32 }
+    requires entries { All IsRecordable entries.now }
+    requires written { written.now ≡ trace_bytes hosted scenario.now entries.now }
+    ensures { MatchResult result (λ trace. (trace.hosted ≡ hosted) × (trace.scenario.now ≡ scenario.now) × (trace.entries ≡ entries.now)) (λ refused. refused ≡ OutOfMemory) }
+{
+    read_record(alloc, written)
+}
