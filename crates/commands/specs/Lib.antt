@@ -2,7 +2,6 @@
 pub mod CommandWords
 pub mod Statuses
 pub mod Inputs
-pub mod Rows
 pub mod Said
 pub mod Refusals
 pub mod SaysDecoded
@@ -11,5 +10,6 @@ pub mod SaysDescribed
 pub mod SaysReference
 pub mod SaysTalk
 pub mod Says
+pub mod Changes
 pub mod Outcomes
 pub mod Programs

@@ -1,6 +1,5 @@
 -- What a call of the program answers, by its status: why, what of the source was taken, and what was written.
-use Rattle.std.specs.Prelude.{◌≡◌, ℕ, List, Option, codes}
-use Rattle.dcp_io.specs.Faults.{Rose}
+use Rattle.std.specs.Prelude.{◌≡◌, ℕ, List, codes}
 use Rattle.commands.specs.declared.command_words.Command.{Command}
 use Rattle.commands.specs.declared.statuses.Status.{Status}
 use Rattle.commands.specs.declared.statuses.Status.TheVariants.{Done, Usage, BadInput, RunFailed, ReadFault, WriteFault, NetFault, OutOfMemory, Differs}
@@ -8,31 +7,32 @@ use Rattle.commands.specs.declared.statuses.Judgement.{Judgement}
 use Rattle.commands.specs.declared.statuses.Judgement.TheVariants.{Good, Refused}
 use Rattle.byte_spool.specs.declared.outputs.Delivery.{Delivery}
 use Rattle.byte_spool.specs.declared.outputs.Delivery.TheVariants.{Whole, Cut}
+use Rattle.byte_spool.specs.Outputs.{Delivers}
+use Rattle.commands.specs.Changes.{Change, HasFailed, HasNotFailed}
 use Rattle.commands.specs.CommandWords.{Names, IsCommand}
 use Rattle.commands.specs.Inputs.{TakesInput, TakesSome}
-use Rattle.byte_spool.specs.Outputs.{Delivers}
 use Rattle.commands.specs.Says.{Says}
 
--- These words were given. The source had `left` and has `rest` left, where it tells its bytes; the sink held `held` and holds `holds`, where it tells its bytes; and these were their counts of faults before and are their counts now.
-module _ (words : List (List ℕ)) (left rest : Option (List ℕ)) (read_before read_now : ℕ) (held holds : Option (List ℕ)) (write_before write_now : ℕ) where
+-- these words were given, and this happened to the source and the sink
+module _ (words : List (List ℕ)) (source out : Change) where
   -- the text was written so
   abbrev pub Wrote : List ℕ → Delivery → Type 0
-  Wrote = Delivers held holds write_before write_now
+  Wrote = Delivers out.was out.is out.before out.now
 
   -- the words name a command, the whole input was taken and no read failed, the command judged it so, and what it says of it was written so
   abbrev pub Answered : Judgement → Delivery → Type 0
   Answered judgement delivery =
       (command : Command) × (input : List ℕ) × (text : List ℕ)
-      × Names words command × TakesInput left rest input × (read_now ≡ read_before)
+      × Names words command × TakesInput source.was source.is input × HasNotFailed source
       × Says command input judgement text × Wrote text delivery
 
   abbrev pub Outcome : Status → Type 0
   Outcome Done = Answered Good Whole
   Outcome WriteFault = Answered Good Cut
   Outcome BadInput = (delivery : Delivery) × Answered Refused delivery
-  Outcome Usage = (delivery : Delivery) × (IsCommand words → ⊥) × (read_now ≡ read_before) × Wrote (codes "usage\n") delivery
-  Outcome ReadFault = IsCommand words × TakesSome left rest × Rose read_before read_now × (write_now ≡ write_before)
-  Outcome OutOfMemory = IsCommand words × TakesSome left rest × (read_now ≡ read_before) × (write_now ≡ write_before)
+  Outcome Usage = (delivery : Delivery) × (IsCommand words → ⊥) × HasNotFailed source × Wrote (codes "usage\n") delivery
+  Outcome ReadFault = IsCommand words × TakesSome source.was source.is × HasFailed source × HasNotFailed out
+  Outcome OutOfMemory = IsCommand words × TakesSome source.was source.is × HasNotFailed source × HasNotFailed out
   Outcome RunFailed = ⊥
   Outcome NetFault = ⊥
   Outcome Differs = ⊥
@@ -43,7 +43,7 @@ ComesBeforeWriting ReadFault = Unit {0}
 ComesBeforeWriting OutOfMemory = Unit {0}
 ComesBeforeWriting _ = ⊥
 
--- the answers to a command whose source and sink do not fail
+-- the answers to a command whose objects do not fail
 abbrev pub IsFree : Status → Type 0
 IsFree Done = Unit {0}
 IsFree BadInput = Unit {0}

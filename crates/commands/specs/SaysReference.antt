@@ -11,11 +11,11 @@ use Rattle.lockstep.specs.Lockstep.{IsReference}
 use Rattle.commands.specs.declared.statuses.Judgement.{Judgement}
 use Rattle.commands.specs.declared.statuses.Judgement.TheVariants as judged
 use Rattle.commands.specs.Refusals.{line_refusal}
-use Rattle.commands.specs.Rows.{run_text}
+use Rattle.report_text.specs.Closings.{reference_text}
 
 -- the rows of the scenario that it is, and the line after them; or the first line that is refused
 abbrev pub SaysReference : List ℕ → Judgement → List ℕ → Type 0
 SaysReference input judged.Good text =
     (scenario : Scenario) × (rows : List (List ℤ)) × (fault : Option RefFault)
-    × ReadsAsScenario input scenario × IsReference scenario rows fault × (text ≡ run_text scenario.steps rows fault)
+    × ReadsAsScenario input scenario × IsReference scenario rows fault × (text ≡ reference_text scenario.steps rows fault)
 SaysReference input judged.Refused text = (line : ℕ) × (why : TextWhy) × FirstBad scenario_why_at input line why × (text ≡ line_refusal line (cause_word why))

@@ -10,7 +10,6 @@ mod command_words;
 mod inputs;
 mod programs;
 mod refusals;
-mod row_texts;
 mod said;
 mod says;
 mod statuses;

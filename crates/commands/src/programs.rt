@@ -1,4 +1,4 @@
-//! The program over a reader and a writer of the standard library.
+//! The program over readers and writers of the standard library.
 
 ghost use Rattle.std.specs.Prelude.{◌≡◌};
 ghost use Rattle.std.specs.Process.{exit_status};
@@ -7,39 +7,47 @@ ghost use Rattle.commands.specs.Programs.{ExitsWith};
 use crate::top_calls::run_words;
 use crate::word_lists::Words;
 use dcp_io::{StdSink, StdSource};
+use net_world::MemoryNet;
 use std::alloc::Global;
 use std::io;
 use std::process::ExitCode;
 
 /// How the program ended.
 #[derive(Drop)]
-pub struct Ended<R, W> {
+pub struct Ended<R, W, E> {
     /// The exit status of the process.
     pub code: ExitCode,
     /// The reader, with what is left of it.
     pub reader: R,
     /// The writer, with what it took.
     pub writer: W,
+    /// The writer of the trace, with what it took.
+    pub errors: E,
 }
 
-/// Does what the words say over a reader and a writer, and gives the exit status. Where they tell their
-/// bytes, the clauses of `run_words` hold of these.
-pub fn run_program<R: io::Read + Drop, W: io::Write + Drop>(
+/// Does what the words say over a reader, a writer and a writer of the trace, with a network in memory,
+/// and gives the exit status. Where they tell their bytes, the clauses of `run_words` hold of these.
+pub fn run_program<R: io::Read + Drop, W: io::Write + Drop, E: io::Write + Drop>(
     alloc: Global,
     words: &Words,
     reader: R,
     writer: W,
-) -> Ended<R, W>
+    errors: E,
+) -> Ended<R, W, E>
     ensures outcome { ExitsWith words.now (R.remaining reader) (R.remaining result.reader) (W.contents writer) (W.contents result.writer) (exit_status result.code) }
     ensures unread { exit_status result.code ≡ 1 → result.reader ≡ reader }
     ensures unwritten { exit_status result.code ≡ 4 → result.writer ≡ writer }
+    ensures untouched { result.errors ≡ errors }
 {
     let mut source = StdSource::new(reader);
     let mut out = StdSink::new(writer);
-    let status = run_words(alloc, words, &mut source, &mut out);
+    let mut trace = StdSink::new(errors);
+    let mut net = MemoryNet::new(alloc);
+    let status = run_words(alloc, words, &mut source, &mut out, &mut trace, &mut net);
     Ended {
         code: status.exit_code(),
         reader: source.into_inner(),
         writer: out.into_inner(),
+        errors: trace.into_inner(),
     }
 }

@@ -2,14 +2,14 @@
 
 ghost use Rattle.std.specs.Prelude.{◌≡◌};
 ghost use Rattle.byte_spool.specs.Outputs.{Delivers};
-ghost use Rattle.commands.specs.Rows.{run_text};
 ghost use Rattle.commands.specs.Said.{text_of};
+ghost use Rattle.report_text.specs.Closings.{reference_text};
 
-use crate::row_texts::{put_closing, put_rows};
 use crate::statuses::Judgement;
 use byte_spool::{Delivery, Spool, write_all};
 use dcp_io::Sink;
 use lockstep::Reference;
+use report_text::{put_reference_line, put_reference_rows};
 
 /// What a command says of an input.
 #[derive(Drop)]
@@ -27,8 +27,8 @@ pub enum Text {
     Whole(Vec<u8>),
     /// The line that refuses a text past its limit.
     PastLimit,
-    /// The rows of a run over so many steps and the line after them, which are printed while they are
-    /// written.
+    /// The rows of a reference over so many steps and the line after them, which are printed while they
+    /// are written.
     Rows { steps: u32, reference: Reference },
 }
 
@@ -45,10 +45,10 @@ pub fn write_text<K: Sink>(out: &mut K, text: &Text) -> Delivery
 
 /// Writes the rows and the line after them.
 fn write_rows<K: Sink>(out: &mut K, steps: u32, reference: &Reference) -> Delivery
-    ensures { Delivers (K.written out.old) (K.written out.new) (K.faults out.old) (K.faults out.new) (run_text steps reference.now.rows reference.now.fault) result }
+    ensures { Delivers (K.written out.old) (K.written out.new) (K.faults out.old) (K.faults out.new) (reference_text steps reference.now.rows reference.now.fault) result }
 {
     let mut spool = Spool::new();
-    put_rows(&mut spool, out, &reference.rows);
-    put_closing(&mut spool, out, steps, reference.fault);
+    put_reference_rows(&mut spool, out, &reference.rows);
+    put_reference_line(&mut spool, out, steps, reference.fault);
     spool.finish(out)
 }

@@ -12,22 +12,27 @@ use crate::statuses::Status;
 use crate::word_lists::Words;
 use byte_spool::write_all;
 use dcp_io::{Sink, Source};
+use dcp_net::Net;
 use dcp_types::OutOfMemory;
 use std::alloc::Global;
 
 /// Does what the words say: reads the source to its end or to one byte past the limit, judges the
 /// input, and writes the result. The first failure in this order decides the status. Words that name no
 /// command are answered by `usage`, and then the source is not read.
-pub fn run_words<S: Source, K: Sink>(
+pub fn run_words<S: Source, K: Sink, R: Sink, N: Net>(
     alloc: Global,
     words: &Words,
     source: &mut S,
     out: &mut K,
+    trace: &mut R,
+    net: &mut N,
 ) -> Status
-    ensures outcome { Outcome words.now (S.left source.old) (S.left source.new) (S.faults source.old) (S.faults source.new)
-        (K.written out.old) (K.written out.new) (K.faults out.old) (K.faults out.new) result }
+    ensures outcome { Outcome words.now
+        (record { was = S.left source.old; is = S.left source.new; before = S.faults source.old; now = S.faults source.new })
+        (record { was = K.written out.old; is = K.written out.new; before = K.faults out.old; now = K.faults out.new }) result }
     ensures unread { result ≡ Status.Usage → source.new ≡ source.old }
     ensures unwritten { ComesBeforeWriting result → out.new ≡ out.old }
+    ensures untouched { (trace.new ≡ trace.old) × (net.new ≡ net.old) }
     ensures complete { IsCommand words.now → (Rose (S.faults source.old) (S.faults source.new) → ⊥)
         → (Rose (K.faults out.old) (K.faults out.new) → ⊥) → IsFree result }
 {

@@ -8,7 +8,7 @@ use std::{env, io};
 
 fn main(rt: HostRuntime) -> ExitCode {
     match given_words(&rt) {
-        Ok(words) => run_program(rt.alloc(), &words, rt.stdin(), rt.stdout()).code,
+        Ok(words) => { run_program(rt.alloc(), &words, rt.stdin(), rt.stdout(), rt.stderr()).code }
         Err(OutOfMemory) => Status::OutOfMemory.exit_code(),
     }
 }

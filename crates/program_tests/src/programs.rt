@@ -3,6 +3,7 @@
 use crate::adapters::Device;
 use commands::{Status, Words, run_program, run_words};
 use dcp_io::{MemorySink, MemorySource};
+use net_world::MemoryNet;
 use std::alloc::Global;
 use std::process::ExitCode;
 use std::test::Fail;
@@ -30,7 +31,7 @@ fn the_exit_status_is_the_number_of_the_status(rt: HostRuntime) -> Result<(), Fa
     ];
     for (words, input, code, out) in rows {
         let words = words_of(alloc, words)?;
-        let ended = run_program(alloc, &words, input, Vec::new(alloc));
+        let ended = run_program(alloc, &words, input, Vec::new(alloc), Vec::new(alloc));
         assert_eq!(rt; ended.code, ExitCode::from(code));
         assert!(rt; ended.writer.as_slice() == out.as_bytes(), "{out}");
     }
@@ -46,13 +47,19 @@ fn faults_of_reader_and_writer_decide_the_exit_status(rt: HostRuntime) -> Result
         most: 1,
     };
     let describe = words_of(alloc, "describe")?;
-    let unread = run_program(alloc, &describe, broken, Vec::new(alloc));
+    let unread = run_program(alloc, &describe, broken, Vec::new(alloc), Vec::new(alloc));
     assert_eq!(rt; unread.code, ExitCode::from(4));
     assert!(rt; unread.writer.is_empty());
     let decode = words_of(alloc, "decode")?;
-    let unwritten = run_program(alloc, &decode, b"\xb0\x02\x00\x01".as_slice(), broken);
+    let unwritten = run_program(
+        alloc,
+        &decode,
+        b"\xb0\x02\x00\x01".as_slice(),
+        broken,
+        Vec::new(alloc),
+    );
     assert_eq!(rt; unwritten.code, ExitCode::from(5));
-    let refused = run_program(alloc, &decode, b"".as_slice(), broken);
+    let refused = run_program(alloc, &decode, b"".as_slice(), broken, Vec::new(alloc));
     assert_eq!(rt; refused.code, ExitCode::from(2));
     Ok(())
 }
@@ -81,7 +88,7 @@ fn an_output_of_several_pieces_is_written_whole_or_cut(rt: HostRuntime) -> Resul
     let alloc = rt.alloc();
     let words = words_of(alloc, "reference")?;
     let text = long_text(alloc)?;
-    let whole = run_program(alloc, &words, LONG, Vec::new(alloc));
+    let whole = run_program(alloc, &words, LONG, Vec::new(alloc), Vec::new(alloc));
     assert_eq!(rt; whole.code, ExitCode::from(0));
     assert!(rt; whole.writer == text);
 
@@ -91,8 +98,10 @@ fn an_output_of_several_pieces_is_written_whole_or_cut(rt: HostRuntime) -> Resul
         room.push(0)?;
     }
     let mut out = MemorySink::new(room, [2].to_vec(alloc)?);
+    let mut trace = MemorySink::new(Vec::new(alloc), Vec::new(alloc));
+    let mut net = MemoryNet::new(alloc);
     assert_eq!(rt;
-        run_words(alloc, &words, &mut source, &mut out),
+        run_words(alloc, &words, &mut source, &mut out, &mut trace, &mut net),
         Status::WriteFault
     );
     let written = out.written();

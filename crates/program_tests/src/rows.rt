@@ -3,6 +3,7 @@
 use crate::tables::{bytes_of, numbers_of};
 use commands::{Status, Words, run_words};
 use dcp_io::{MemorySink, MemorySource};
+use net_world::MemoryNet;
 use std::alloc::Global;
 use std::process::Abort;
 use std::test::Fail;
@@ -55,7 +56,9 @@ fn run(alloc: Global, row: &Row<'_>) -> Result<(Status, Vec<u8>), Fail> {
         room.push(0)?;
     }
     let mut out = MemorySink::new(room, numbers_of(alloc, row.failing_writes)?);
-    let status = run_words(alloc, &words, &mut source, &mut out);
+    let mut trace = MemorySink::new(Vec::new(alloc), Vec::new(alloc));
+    let mut net = MemoryNet::new(alloc);
+    let status = run_words(alloc, &words, &mut source, &mut out, &mut trace, &mut net);
     Ok((status, out.written().to_vec(alloc)?))
 }
 

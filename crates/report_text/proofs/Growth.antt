@@ -1,9 +1,17 @@
--- Rows that are put value by value, and row by row.
-use Rattle.std.proofs.Common.{◌≡◌, ℕ, ◌+◌, ◌<◌, List, [], ◌∷◌, ◌++◌, ℤ, pos, length, take, get_or, sym, ap, ◌∙◌, subst, append_assoc, zero, suc, Some, arith}
+-- Texts that are put piece by piece: a row value by value, and rows row by row.
+use Rattle.std.proofs.Common.{◌≡◌, ℕ, ◌+◌, ◌<◌, List, [], ◌∷◌, ◌++◌, ℤ, pos, length, take, get_or, sym, ap, ◌∙◌, subst, append_assoc, zero, suc, Option, Some, arith}
 use Rattle.std.specs.List.{flat_map}
 use Rattle.std.specs.Prelude.{slice_get}
 use Rattle.std.proofs.lemmas.List.{flat_map_more, take_more, append-nil}
-use Rattle.commands.specs.Rows.{spaced_value, row_text, rows_text}
+use Rattle.byte_spool.specs.Spools.{Spooled}
+use Rattle.byte_spool.specs.Unwritten.{Unwritten}
+use Rattle.report_text.specs.Puts.{Puts}
+use Rattle.report_text.specs.Rows.{spaced_value, row_text, rows_text}
+
+-- one piece behind another
+module _ (w0 w1 w2 : Option (List ℕ)) (f0 f1 f2 : ℕ) (s0 s1 s2 : Unwritten) (p q : List ℕ) where
+  pub Puts-then : Puts w0 w1 f0 f1 s0 s1 p → Puts w1 w2 f1 f2 s1 s2 q → Puts w0 w2 f0 f2 s0 s2 (p ++ q)
+  Puts-then a b = λ first none text h. let P : List ℕ → Type 0 = λ t. Spooled first w2 none f2 t s2 in subst P (append_assoc text p q) (b first none (text ++ p) (a first none text h))
 
 -- one value more
 pub value_more : (text number : List ℕ) (values : List ℤ) (i : ℕ) → i < length values

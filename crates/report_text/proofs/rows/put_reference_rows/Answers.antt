@@ -1,7 +1,7 @@
 use Rattle.std.proofs.Common.{List, ℕ, subst}
-use Rattle.commands.proofs.Rows.{row_more}
+use Rattle.report_text.proofs.Growth.{row_more}
 use Rattle.byte_spool.specs.Spools.{Spooled}
-use Rattle.commands.proofs.row_texts.put_rows.Goals as goal
+use Rattle.report_text.proofs.rows.put_reference_rows.Goals as goal
 
 pub loop-number-preserved : goal.loop-number-preserved
 loop-number-preserved g c = λ old before text spooled.

@@ -1,8 +1,8 @@
 use Rattle.std.proofs.Common.{List, ℕ, subst}
 use Rattle.std.specs.Prelude.{decimal}
-use Rattle.commands.proofs.Rows.{value_more}
+use Rattle.report_text.proofs.Growth.{value_more}
 use Rattle.byte_spool.specs.Spools.{Spooled}
-use Rattle.commands.proofs.row_texts.put_row.Goals as goal
+use Rattle.report_text.proofs.rows.put_row.Goals as goal
 
 pub loop-value-preserved : goal.loop-value-preserved
 loop-value-preserved g c = λ old before text spooled.

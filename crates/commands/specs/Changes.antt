@@ -1,0 +1,16 @@
+-- What happened to an object of the program in a call.
+use Rattle.std.specs.Prelude.{◌≡◌, ℕ, List, Option}
+use Rattle.dcp_io.specs.Faults.{Rose}
+
+-- The bytes that it told before and tells now, where it tells them: what a source had left and has left, or what a sink held and holds. And its counts of faults before and now.
+pub record Change : Type 0 where
+  pub was : Option (List ℕ)
+  pub is : Option (List ℕ)
+  pub before : ℕ
+  pub now : ℕ
+
+abbrev pub HasFailed : Change → Type 0
+HasFailed c = Rose c.before c.now
+
+abbrev pub HasNotFailed : Change → Type 0
+HasNotFailed c = c.now ≡ c.before

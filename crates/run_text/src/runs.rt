@@ -1,0 +1,59 @@
+//! What a run leaves for its two sinks.
+
+ghost use Rattle.std.specs.Prelude.{◌≡◌, ◌<◌, ◌^◌, All, List, length, reverse};
+ghost use Rattle.dcp_ends.specs.Events.{Event};
+ghost use Rattle.scenario.specs.Sound.{IsScenario};
+ghost use Rattle.byte_spool.specs.Outputs.{Delivers};
+ghost use Rattle.dcp_record.specs.Traces.{IsInRange, trace_bytes};
+ghost use Rattle.master_core.specs.Standing.{StandsAfter, setup_of};
+ghost use Rattle.run_text.specs.Runs.{DeliversBoth, all_bits, text_after};
+
+use crate::rows::put_rows;
+use crate::traces::write_trace;
+use byte_spool::{Delivery, Spool};
+use dcp_ends::LogEntry;
+use dcp_io::Sink;
+use master_core::{MasterCore, Report};
+use report_text::put_report_line;
+use scenario::Scenario;
+
+/// Writes the rows and the report to the one sink, and then the trace to the other, which is not begun
+/// where the first fails. `input` is the scenario's text as it was read, and the log is that of all ends.
+pub fn write_run<K: Sink, R: Sink>(
+    out: &mut K,
+    trace: &mut R,
+    scenario: &Scenario,
+    master: &MasterCore,
+    report: Report,
+    input: &[u8],
+    log: &[LogEntry],
+) -> Delivery
+    requires scenario { IsScenario scenario.now }
+    requires input { length input.now < 2 ^ 32 }
+    requires log { All IsInRange log.now }
+    ensures { (events : List Event) → StandsAfter master.now events → DeliversBoth (K.written out.old) (K.written out.new) (K.faults out.old) (K.faults out.new)
+        (R.written trace.old) (R.written trace.new) (R.faults trace.old) (R.faults trace.new)
+        (text_after scenario.now (setup_of master.now) (reverse events) report) (trace_bytes (all_bits (length scenario.now.slaves)) input.now log.now) result }
+{
+    match write_text(out, scenario, master, report) {
+        Delivery::Whole => write_trace(trace, scenario, input, log),
+        Delivery::Cut => Delivery::Cut,
+    }
+}
+
+/// Writes the rows and the line of the report.
+fn write_text<K: Sink>(
+    out: &mut K,
+    scenario: &Scenario,
+    master: &MasterCore,
+    report: Report,
+) -> Delivery
+    requires { IsScenario scenario.now }
+    ensures { (events : List Event) → StandsAfter master.now events → Delivers (K.written out.old) (K.written out.new) (K.faults out.old) (K.faults out.new)
+        (text_after scenario.now (setup_of master.now) (reverse events) report) result }
+{
+    let mut spool = Spool::new();
+    put_rows(&mut spool, out, scenario, master);
+    put_report_line(&mut spool, out, report);
+    spool.finish(out)
+}
