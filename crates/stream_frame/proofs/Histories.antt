@@ -145,7 +145,7 @@ stays_bad (Asked (Bad m) frame) calls n a r = ap Bad (one_length (held calls) m 
 
 -- ---- where more is wanted
 
-room_left : (b : Bool) (bytes : List ℕ) → (b ≡ true → ⊥) → length bytes < 1028 → 1 ≤ space_of b bytes
+pub room_left : (b : Bool) (bytes : List ℕ) → (b ≡ true → ⊥) → length bytes < 1028 → 1 ≤ space_of b bytes
 room_left true bytes never few = absurd (never refl)
 room_left false bytes never few = omega (arith, few)
 

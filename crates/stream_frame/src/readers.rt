@@ -27,14 +27,15 @@ pub struct FrameReader {
 }
 
 impl Model for FrameReader {
-    ghost use Rattle.std.specs.Prelude.{◌≡◌, ◌≤◌, take};
+    ghost use Rattle.std.specs.Prelude.{◌≡◌, ◌≤◌, take, true};
+    ghost use Rattle.stream_frame.specs.Frames.{IsBad};
     ghost use Rattle.stream_frame.specs.Framing.{Framing};
 
     ghost Value = { Framing };
 
     ghost view = { λ r. record { held = r.held.items; last = take r.size r.last; is_refused = r.is_refused } };
 
-    ghost invariant = { λ r. (r.held.capacity ≡ 1028) × (r.size ≤ 1024) };
+    ghost invariant = { λ r. (r.held.capacity ≡ 1028) × (r.size ≤ 1024) × (r.is_refused ≡ true → IsBad r.held.items) };
 }
 
 impl FrameReader {
@@ -124,6 +125,7 @@ impl FrameReader {
     fn hand_out(&mut self, size: usize)
         requires most { size ≤ 1024 }
         requires whole { 4 + size ≤ length self.old.held }
+        requires open { self.old.is_refused ≡ false }
         ensures { self.new ≡ record self.old { held = drop (4 + size) self.old.held; last = take size (drop 4 self.old.held) } }
     {
         move_frame(&mut self.held, size, &mut self.last);
