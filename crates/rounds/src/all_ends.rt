@@ -29,7 +29,9 @@ fn look_each<E: Seat, N: Net>(
     requires quiet { All (λ end. E.outs end ≡ []) ends.old }
     requires told { AllTold E.stands E.rules ends.old log.old.items }
     ensures is_open { IsTrue (N.is_open net.new) }
+    ensures opening { N.opening net.new ≡ N.opening net.old }
     ensures rules { map E.rules ends.new ≡ map E.rules ends.old }
+    ensures made { map E.made ends.new ≡ map E.made ends.old }
     ensures quiet { OnOk result (All (λ end. E.outs end ≡ []) ends.new) }
     ensures told { OnOk result (AllTold E.stands E.rules ends.new log.new.items) }
     ensures cut { OnErr result (AllToldUpTo E.stands E.rules ends.new log.new.items) }
@@ -55,7 +57,9 @@ fn turn_each<E: Seat, N: Net>(
     requires quiet { All (λ end. E.outs end ≡ []) ends.old }
     requires told { AllTold E.stands E.rules ends.old log.old.items }
     ensures is_open { IsTrue (N.is_open net.new) }
+    ensures opening { N.opening net.new ≡ N.opening net.old }
     ensures rules { map E.rules ends.new ≡ map E.rules ends.old }
+    ensures made { map E.made ends.new ≡ map E.made ends.old }
     ensures quiet { OnOk result (All (λ end. E.outs end ≡ []) ends.new) }
     ensures told { OnOk result (AllTold E.stands E.rules ends.new log.new.items) }
     ensures cut { OnErr result (AllToldUpTo E.stands E.rules ends.new log.new.items) }
@@ -81,7 +85,9 @@ fn look_first<E: Seat, N: Net>(
     requires quiet { IfSome first.old (λ end. E.outs end ≡ []) }
     requires told { IfSome first.old (λ end. IsTold E.stands (E.rules end) end log.old.items) }
     ensures is_open { IsTrue (N.is_open net.new) }
+    ensures opening { N.opening net.new ≡ N.opening net.old }
     ensures rules { option_map E.rules first.new ≡ option_map E.rules first.old }
+    ensures made { option_map E.made first.new ≡ option_map E.made first.old }
     ensures quiet { OnOk result (IfSome first.new (λ end. E.outs end ≡ [])) }
     ensures told { OnOk result (IfSome first.new (λ end. IsTold E.stands (E.rules end) end log.new.items)) }
     ensures cut { OnErr result (IfSome first.new (λ end. IsToldUpTo E.stands (E.rules end) end log.new.items)) }
@@ -107,7 +113,9 @@ fn turn_first<E: Seat, N: Net>(
     requires quiet { IfSome first.old (λ end. E.outs end ≡ []) }
     requires told { IfSome first.old (λ end. IsTold E.stands (E.rules end) end log.old.items) }
     ensures is_open { IsTrue (N.is_open net.new) }
+    ensures opening { N.opening net.new ≡ N.opening net.old }
     ensures rules { option_map E.rules first.new ≡ option_map E.rules first.old }
+    ensures made { option_map E.made first.new ≡ option_map E.made first.old }
     ensures quiet { OnOk result (IfSome first.new (λ end. E.outs end ≡ [])) }
     ensures told { OnOk result (IfSome first.new (λ end. IsTold E.stands (E.rules end) end log.new.items)) }
     ensures cut { OnErr result (IfSome first.new (λ end. IsToldUpTo E.stands (E.rules end) end log.new.items)) }
@@ -138,8 +146,11 @@ fn look_all<M: Seat, S: Seat, N: Net>(
     requires told_master { IfSome master.old (λ end. IsTold M.stands (M.rules end) end log.old.items) }
     requires told_slaves { AllTold S.stands S.rules slaves.old log.old.items }
     ensures is_open { IsTrue (N.is_open net.new) }
+    ensures opening { N.opening net.new ≡ N.opening net.old }
     ensures rules_master { option_map M.rules master.new ≡ option_map M.rules master.old }
     ensures rules_slaves { map S.rules slaves.new ≡ map S.rules slaves.old }
+    ensures made_master { option_map M.made master.new ≡ option_map M.made master.old }
+    ensures made_slaves { map S.made slaves.new ≡ map S.made slaves.old }
     ensures quiet_master { OnOk result (IfSome master.new (λ end. M.outs end ≡ [])) }
     ensures quiet_slaves { OnOk result (All (λ end. S.outs end ≡ []) slaves.new) }
     ensures told_master { OnOk result (IfSome master.new (λ end. IsTold M.stands (M.rules end) end log.new.items)) }
@@ -181,8 +192,11 @@ fn turn_all<M: Seat, S: Seat, N: Net>(
     requires told_master { IfSome master.old (λ end. IsTold M.stands (M.rules end) end log.old.items) }
     requires told_slaves { AllTold S.stands S.rules slaves.old log.old.items }
     ensures is_open { IsTrue (N.is_open net.new) }
+    ensures opening { N.opening net.new ≡ N.opening net.old }
     ensures rules_master { option_map M.rules master.new ≡ option_map M.rules master.old }
     ensures rules_slaves { map S.rules slaves.new ≡ map S.rules slaves.old }
+    ensures made_master { option_map M.made master.new ≡ option_map M.made master.old }
+    ensures made_slaves { map S.made slaves.new ≡ map S.made slaves.old }
     ensures quiet_master { OnOk result (IfSome master.new (λ end. M.outs end ≡ [])) }
     ensures quiet_slaves { OnOk result (All (λ end. S.outs end ≡ []) slaves.new) }
     ensures told_master { OnOk result (IfSome master.new (λ end. IsTold M.stands (M.rules end) end log.new.items)) }
@@ -220,8 +234,11 @@ pub fn run_round<M: Seat, S: Seat, N: Net>(
     requires told_master { IfSome master.old (λ end. IsTold M.stands (M.rules end) end log.old.items) }
     requires told_slaves { AllTold S.stands S.rules slaves.old log.old.items }
     ensures is_open { IsTrue (N.is_open net.new) }
+    ensures opening { N.opening net.new ≡ N.opening net.old }
     ensures rules_master { option_map M.rules master.new ≡ option_map M.rules master.old }
     ensures rules_slaves { map S.rules slaves.new ≡ map S.rules slaves.old }
+    ensures made_master { option_map M.made master.new ≡ option_map M.made master.old }
+    ensures made_slaves { map S.made slaves.new ≡ map S.made slaves.old }
     ensures quiet_master { OnOk result (IfSome master.new (λ end. M.outs end ≡ [])) }
     ensures quiet_slaves { OnOk result (All (λ end. S.outs end ≡ []) slaves.new) }
     ensures told_master { OnOk result (IfSome master.new (λ end. IsTold M.stands (M.rules end) end log.new.items)) }

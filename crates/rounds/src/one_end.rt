@@ -49,6 +49,7 @@ fn send_one<N: Net>(
     requires low { 1 ≤ length bytes.now }
     requires high { length bytes.now ≤ 1024 }
     ensures is_open { IsTrue (N.is_open net.new) }
+    ensures opening { N.opening net.new ≡ N.opening net.old }
     ensures ok { OnOk result (Added N.calls net.old net.new log.old.items log.new.items (Sent from to bytes.now ∷ [])) }
     ensures err { OnErr result (Added N.calls net.old net.new log.old.items log.new.items []) }
     ensures cause { Caused (N.count net.old) (N.count net.new) result }
@@ -80,6 +81,7 @@ fn send_outgoing<E: Seat, N: Net>(
 ) -> Result<(), HostFault>
     requires { IsTrue (N.is_open net.old) }
     ensures is_open { IsTrue (N.is_open net.new) }
+    ensures opening { N.opening net.new ≡ N.opening net.old }
     ensures ok { OnOk result (Added N.calls net.old net.new log.old.items log.new.items (sent_by (E.rules end.now).place (E.outs end.now))) }
     ensures err { OnErr result (SendsSome N.calls (E.rules end.now).place (E.outs end.now) net.old net.new log.old.items log.new.items) }
     ensures cause { Caused (N.count net.old) (N.count net.new) result }
@@ -102,11 +104,13 @@ fn answer<E: Seat, N: Net>(
 ) -> Result<(), HostFault>
     requires { IsTrue (N.is_open net.old) }
     ensures is_open { IsTrue (N.is_open net.new) }
+    ensures opening { N.opening net.new ≡ N.opening net.old }
     ensures ok { OnOk result (Added N.calls net.old net.new log.old.items log.new.items (sent_by (E.rules end.old).place (E.outs end.old))) }
     ensures err { OnErr result (SendsSome N.calls (E.rules end.old).place (E.outs end.old) net.old net.new log.old.items log.new.items) }
     ensures quiet { OnOk result (E.outs end.new ≡ []) }
     ensures stands { (events : List Event) → E.stands end.old events → E.stands end.new events }
     ensures rules { E.rules end.new ≡ E.rules end.old }
+    ensures made { E.made end.new ≡ E.made end.old }
     ensures cause { Caused (N.count net.old) (N.count net.new) result }
 {
     send_outgoing(alloc, end, net, log)?;
@@ -131,6 +135,7 @@ fn take_gram<N: Net>(
 ) -> Result<Option<Gram>, HostFault>
     requires { IsTrue (N.is_open net.old) }
     ensures is_open { IsTrue (N.is_open net.new) }
+    ensures opening { N.opening net.new ≡ N.opening net.old }
     ensures ok { IfOk result (λ gram. TookGram N.calls at gram room.new.bytes net.old net.new log.old.items log.new.items) }
     ensures err { OnErr result (Added N.calls net.old net.new log.old.items log.new.items []) }
     ensures cause { Caused (N.count net.old) (N.count net.new) result }
@@ -167,7 +172,9 @@ fn look_once<E: Seat, N: Net>(
     requires quiet { E.outs end.old ≡ [] }
     requires told { IsTold E.stands (E.rules end.old) end.old log.old.items }
     ensures is_open { IsTrue (N.is_open net.new) }
+    ensures opening { N.opening net.new ≡ N.opening net.old }
     ensures rules { E.rules end.new ≡ E.rules end.old }
+    ensures made { E.made end.new ≡ E.made end.old }
     ensures quiet { OnOk result (E.outs end.new ≡ []) }
     ensures told { OnOk result (IsTold E.stands (E.rules end.old) end.new log.new.items) }
     ensures cut { OnErr result (IsToldUpTo E.stands (E.rules end.old) end.new log.new.items) }
@@ -195,7 +202,9 @@ pub fn look<E: Seat, N: Net>(
     requires quiet { E.outs end.old ≡ [] }
     requires told { IsTold E.stands (E.rules end.old) end.old log.old.items }
     ensures is_open { IsTrue (N.is_open net.new) }
+    ensures opening { N.opening net.new ≡ N.opening net.old }
     ensures rules { E.rules end.new ≡ E.rules end.old }
+    ensures made { E.made end.new ≡ E.made end.old }
     ensures quiet { OnOk result (E.outs end.new ≡ []) }
     ensures told { OnOk result (IsTold E.stands (E.rules end.old) end.new log.new.items) }
     ensures cut { OnErr result (IsToldUpTo E.stands (E.rules end.old) end.new log.new.items) }
@@ -223,7 +232,9 @@ pub fn turn<E: Seat, N: Net>(
     requires quiet { E.outs end.old ≡ [] }
     requires told { IsTold E.stands (E.rules end.old) end.old log.old.items }
     ensures is_open { IsTrue (N.is_open net.new) }
+    ensures opening { N.opening net.new ≡ N.opening net.old }
     ensures rules { E.rules end.new ≡ E.rules end.old }
+    ensures made { E.made end.new ≡ E.made end.old }
     ensures quiet { OnOk result (E.outs end.new ≡ []) }
     ensures told { OnOk result (IsTold E.stands (E.rules end.old) end.new log.new.items) }
     ensures cut { OnErr result (IsToldUpTo E.stands (E.rules end.old) end.new log.new.items) }

@@ -10,7 +10,9 @@ invariant-loop-end g l =
     let rules = g.E.Seat.rules in
     record {
       is_open : IsTrue (g.N.Net.is_open l.net);
+      opening : g.N.Net.opening l.net ≡ g.N.Net.opening l.fn.net;
       same : map rules l.ends ≡ map rules l.fn.ends;
+      made : map g.E.Seat.made l.ends ≡ map g.E.Seat.made l.fn.ends;
       quiet : All (λ end. g.E.Seat.outs end ≡ []) l.ends;
       told : AllTold g.E.Seat.stands rules l.ends l.log.items;
       turns : AddsPart g.N.Net.calls (EachEnd IsTurn (take l.end-index (places_of (map rules l.fn.ends)))) l.fn.net l.net l.fn.log.items l.log.items;

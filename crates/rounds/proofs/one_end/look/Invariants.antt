@@ -9,6 +9,8 @@ invariant-looks g l =
     let rules = g.E.Seat.rules l.fn.end in
     record {
       is_open : IsTrue (g.N.Net.is_open l.net);
+      opening : g.N.Net.opening l.net ≡ g.N.Net.opening l.fn.net;
+      made : g.E.Seat.made l.end ≡ g.E.Seat.made l.fn.end;
       same : g.E.Seat.rules l.end ≡ rules;
       quiet : g.E.Seat.outs l.end ≡ [];
       told : IsTold g.E.Seat.stands rules l.end l.log.items;
