@@ -1,0 +1,6 @@
+pub mod Places
+pub mod Apart
+pub mod Fresh
+pub mod Follow
+pub mod AllOver
+pub mod Found

@@ -1,0 +1,5 @@
+pub mod Hosting
+pub mod Views
+
+pub mod Seats
+pub mod Hosts
