@@ -1,5 +1,5 @@
 -- From what a host's fields stand for to what its log shows.
-use Rattle.std.proofs.Common.{◌≡◌, ℕ, ◌<◌, List, [], ◌∷◌, ◌++◌, length, map, get_or, Option, None, Some, IfSome, MatchOption, ap, sym, ◌∙◌, subst}
+use Rattle.std.proofs.Common.{◌≡◌, ℕ, ◌<◌, List, [], ◌∷◌, ◌++◌, length, map, get_or, Option, None, Some, Result, Ok, Err, OnOk, OnErr, IfSome, MatchOption, ap, sym, ◌∙◌, subst}
 use Rattle.std.specs.List.{All}
 use Rattle.std.specs.Option.{option_map}
 use Rattle.std.proofs.lemmas.List.Elements.{All-map}
@@ -7,7 +7,7 @@ use Rattle.dcp_ends.specs.declared.entries.LogEntry.{LogEntry}
 use Rattle.dcp_ends.specs.Events.{Event, Rules}
 use Rattle.rounds.specs.declared.seats.Seat.{Ghosts}
 use Rattle.dcp_net.specs.Nets.{told_more}
-use Rattle.rounds.specs.Steps.{without_turns}
+use Rattle.rounds.specs.Steps.{AddsPart, without_turns}
 use Rattle.rounds.specs.Told.{IsTold, IsToldUpTo, AllTold, AllToldUpTo, Follows, FollowsUpTo}
 use Rattle.rounds.specs.declared.one_end.HostFault.{HostFault}
 use Rattle.rounds.proofs.Parts.{without_turns-append}
@@ -18,6 +18,12 @@ use Rattle.host.specs.Views.{Tells}
 pub tells_added : (t u : Option (List LogEntry)) (l m p : List LogEntry) → m ≡ l ++ p → u ≡ told_more t (without_turns p) → Tells t l → Tells u m
 tells_added None u l m p log told tells = rw told tells
 tells_added (Some calls) u l m p log told tells = rw (told, log, without_turns-append, tells)
+
+-- whether the part is a whole one or not
+pub told_either : {N T : Type 0} (calls : N → Option (List LogEntry)) (Whole Cut : List LogEntry → Type 0) (before now : N) (old new : List LogEntry) (result : Result T HostFault)
+    → OnOk result (AddsPart calls Whole before now old new) → OnErr result (AddsPart calls Cut before now old new) → Tells (calls before) old → Tells (calls now) new
+told_either calls Whole Cut before now old new (Ok x) whole cut = tells_added (calls before) (calls now) old new whole.part whole.added.log whole.added.told
+told_either calls Whole Cut before now old new (Err e) whole cut = tells_added (calls before) (calls now) old new cut.part cut.added.log cut.added.told
 
 module _ {M S : Type 0} (first : Ghosts M) (seat : Ghosts S) (own : Option Rules) (others : List Rules) (master : Option M) (slaves : List S) (log : List LogEntry) where
   pub slaves_cut : (fault : Option HostFault) → AreSound first seat own others master slaves log fault → AllToldUpTo seat.stands seat.rules slaves log

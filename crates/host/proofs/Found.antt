@@ -42,6 +42,12 @@ pub slave_read : {S Setup A : Type 0} (stands : S → List Event → Type 0) (ru
 slave_read stands rules_from setup_in sc log reading None end result found says = cc
 slave_read stands rules_from setup_in sc log reading (Some d) end result found says = (setup_in end, found.0, says (events_at d.address log) found.1)
 
+-- it stands for its own events
+pub stands_where : {S : Type 0} (stands : S → List Event → Type 0) (rules : S → Rules) (sc : Scenario) (log : List LogEntry) (slave : Option SlaveDesc) (end : S)
+    → IsFound stands rules sc log slave (Some end) → IfSome slave (λ d. stands end (events_at d.address log))
+stands_where stands rules sc log None end found = tt
+stands_where stands rules sc log (Some d) end found = found.1
+
 -- the master's end, where it is hosted
 module _ {M : Type 0} (stands : M → List Event → Type 0) (rules : M → Rules) (sc : Scenario) (log : List LogEntry) where
   pub first_found : (b : Bool) (end : Option M) → option_map rules end ≡ (if b then Some (master_rules sc) else None) → IfSome end (λ m. IsToldUpTo stands (rules m) m log)

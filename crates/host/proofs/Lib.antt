@@ -4,3 +4,4 @@ pub mod Fresh
 pub mod Follow
 pub mod AllOver
 pub mod Found
+pub mod TheEnds

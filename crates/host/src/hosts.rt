@@ -10,11 +10,11 @@ ghost use Rattle.host.specs.Views.{fault_of, is_done, master_in, progress_of, sl
 use crate::hosted::{Hosted, Progress};
 use crate::making::{MasterSeat, SlaveSeat, seated_master, seated_slaves};
 use crate::openings::opening_for;
-use crate::over::how_far;
+use crate::running::run;
 use dcp_ends::LogEntry;
 use dcp_net::{Done, Net, Opening};
 use dcp_types::OutOfMemory;
-use rounds::{HostFault, Room, Seat, run_round};
+use rounds::{HostFault, Room, Seat};
 use scenario::Scenario;
 use std::alloc::Global;
 use std::marker::Model;
@@ -116,20 +116,16 @@ impl Host {
         if let Some(fault) = self.fault {
             return Err(fault);
         }
-        match run_round(
+        let result = run(
             self.alloc,
             &mut self.master,
             &mut self.slaves,
             net,
             &mut self.log,
             &mut self.room,
-        ) {
-            Ok(reports) => Ok(how_far(&self.master, &self.slaves, reports)),
-            Err(fault) => {
-                self.fault = Some(fault);
-                Err(fault)
-            }
-        }
+        );
+        self.fault = result.err();
+        result
     }
 }
 

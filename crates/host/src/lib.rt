@@ -14,6 +14,7 @@ mod making;
 mod openings;
 mod over;
 mod readers;
+mod running;
 mod seated;
 
 pub use hosted::{Hosted, Progress};

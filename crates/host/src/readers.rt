@@ -72,10 +72,7 @@ impl Host {
     fn master_seat(&self) -> Option<&MasterSeat>
         ensures { IsFirstFound ⟦<MasterSeat as Seat>⟧.stands ⟦<MasterSeat as Seat>⟧.rules self.now.scenario self.now.log self.now.hosted.master (option_copied result) }
     {
-        match &self.master {
-            Some(seat) => Some(seat),
-            None => None,
-        }
+        self.master.as_ref()
     }
 
     /// How the run ended, once it has. None where no master is hosted.

@@ -1,7 +1,12 @@
 use Rattle.std.proofs.Common.{◌≡◌, ap, sym, ◌∙◌}
+use Rattle.master_core.specs.Standing.{StandsAfter, rules_of}
 use Rattle.host.proofs.Follow.{master_cut}
 use Rattle.host.proofs.Found.{first_found}
 use Rattle.host.proofs.hosts.Host.master_seat.Goals as goal
 
 pub returns : goal.returns
-returns c = ?
+returns c =
+    let h = c.self.inside in
+    let sound = c.self.invariant.1 in
+    rw (← c.self.view_is, c.as_ref.ensures.value)
+    (first_found StandsAfter rules_of h.scenario h.log.items h.hosted.master h.master sound.master_is (master_cut _ _ _ _ h.master h.slaves.items h.log.items h.fault sound))

@@ -1,13 +1,5 @@
-use Rattle.std.proofs.Common.{◌≡◌, ap, sym, ◌∙◌}
-use Rattle.host.proofs.Follow.{tells_added}
+use Rattle.host.proofs.Follow.{told_either}
 use Rattle.host.proofs.hosts.Host.round.Goals as goal
 
-pub returns-in-Ok-clause-told : goal.returns-in-Ok-clause-told
-returns-in-Ok-clause-told g c =
-    let part = c.in-Ok.ensures.ok in
-    λ tells. tells_added _ _ c.self.inside.log.items _ part.part part.added.log part.added.told (rw (← c.self.view_is) at tells)
-
-pub returns-in-Err-clause-told : goal.returns-in-Err-clause-told
-returns-in-Err-clause-told g c =
-    let part = c.in-Err.ensures.err in
-    λ tells. tells_added _ _ c.self.inside.log.items _ part.part part.added.log part.added.told (rw (← c.self.view_is) at tells)
+pub returns-clause-told : goal.returns-clause-told
+returns-clause-told g c = λ tells. told_either _ _ _ _ _ c.self.inside.log.items _ c.run-result.result c.run-result.ensures.ok c.run-result.ensures.err (rw (← c.self.view_is) at tells)

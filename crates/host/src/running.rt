@@ -1,0 +1,38 @@
+//! One round of ends, with how far they are after it.
+
+ghost use Rattle.std.specs.Prelude.{◌≡◌, None, Option, List, IsTrue, OnOk, OnErr, IfOk, map};
+ghost use Rattle.std.specs.Option.{option_map};
+ghost use Rattle.dcp_ends.specs.Events.{Rules};
+ghost use Rattle.rounds.specs.Rounds.{IsRound, IsRoundPart};
+ghost use Rattle.rounds.specs.Steps.{AddsPart, Caused};
+ghost use Rattle.host.specs.Views.{fault_of, is_done, progress_of};
+ghost use Rattle.host.specs.Hosts.{AreSound};
+
+use crate::hosted::Progress;
+use crate::over::how_far;
+use dcp_ends::LogEntry;
+use dcp_net::Net;
+use rounds::{HostFault, Room, Seat, run_round};
+use std::alloc::Global;
+
+/// Runs one round of these ends, the master first, and says how far they are.
+pub(crate) fn run<M: Seat, S: Seat, N: Net>(
+    alloc: Global,
+    master: &mut Option<M>,
+    slaves: &mut Vec<S>,
+    net: &mut N,
+    log: &mut Vec<LogEntry>,
+    room: &mut Room,
+) -> Result<Progress, HostFault>
+    requires is_open { IsTrue (N.is_open net.old) }
+    requires sound { AreSound M.Seat S.Seat (option_map M.rules master.old) (map S.rules slaves.old.items) master.old slaves.old.items log.old.items None }
+    ensures is_open { IsTrue (N.is_open net.new) }
+    ensures sound { AreSound M.Seat S.Seat (option_map M.rules master.old) (map S.rules slaves.old.items) master.new slaves.new.items log.new.items (fault_of result) }
+    ensures ok { OnOk result (AddsPart N.calls (IsRound (option_map M.rules master.old) (map S.rules slaves.old.items) log.old.items) net.old net.new log.old.items log.new.items) }
+    ensures err { OnErr result (AddsPart N.calls (IsRoundPart (option_map M.rules master.old) (map S.rules slaves.old.items) log.old.items) net.old net.new log.old.items log.new.items) }
+    ensures progress { IfOk result (λ progress. progress ≡ progress_of (is_done (option_map M.rules master.old) (map S.rules slaves.old.items) log.new.items)) }
+    ensures cause { Caused (N.count net.old) (N.count net.new) result }
+{
+    let reports = run_round(alloc, master, slaves, net, log, room)?;
+    Ok(how_far(master, slaves, reports))
+}
