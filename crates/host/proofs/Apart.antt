@@ -1,5 +1,5 @@
 -- The hosted ends of a scenario have addresses of their own.
-use Rattle.std.proofs.Common.{◌≡◌, ◌≢◌, ℕ, ◌+◌, ◌<◌, List, [], ◌∷◌, length, map, get_or, Bool, true, false, if◌then◌else◌, Option, Some, None, zero, suc, refl, sym, ap, ◌∙◌, inl, inr, arith, eq-eqb}
+use Rattle.std.proofs.Common.{◌≡◌, ◌≢◌, ℕ, ◌+◌, ◌<◌, List, [], ◌∷◌, length, map, get_or, Bool, true, false, if◌then◌else◌, Some, None, zero, suc, refl, sym, ap, ◌∙◌, inl, inr, arith}
 use Rattle.std.specs.List.{All, AllPairs}
 use Rattle.std.proofs.lemmas.Bool.{cases_Bool}
 use Rattle.std.proofs.lemmas.Bool.Decides.{nat_tests}
@@ -27,9 +27,9 @@ same_is_one a b h =
 
 differ : (a b : Address) → (a ≢ b) → same_address a b ≡ false
 differ a b ne = elim (cases_Bool (same_address a b)) [
-    | inl same ↦ absurd (ne (same_is_one a b same))
-    | inr other ↦ other
-  ]
+  | inl same ↦ absurd (ne (same_is_one a b same))
+  | inr other ↦ other
+]
 
 differ_back : (a b : Address) → (a ≢ b) → same_address b a ≡ false
 differ_back a b ne = differ b a (λ e. ne (sym e))

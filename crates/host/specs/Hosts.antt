@@ -1,5 +1,5 @@
 -- What a host's fields stand for.
-use Rattle.std.specs.Prelude.{◌≡◌, [], List, Option, None, Some, map, IfSome, MatchOption, All}
+use Rattle.std.specs.Prelude.{◌≡◌, [], List, Option, map, IfSome, MatchOption, All}
 use Rattle.std.specs.Option.{option_map}
 use Rattle.dcp_ends.specs.declared.entries.LogEntry.{LogEntry}
 use Rattle.dcp_ends.specs.Events.{Rules}

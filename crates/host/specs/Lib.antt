@@ -1,5 +1,4 @@
 pub mod Hosting
 pub mod Views
-
 pub mod Seats
 pub mod Hosts

@@ -1,9 +1,7 @@
 -- A host as contracts see it: its scenario, the ends that it hosts, its log and its fault. All else follows from these.
-use Rattle.std.specs.Prelude.{◌≡◌, ℕ, ℤ, IfSome, Bool, MatchBool, MatchOption, length, reverse, true, false, List, Option, None, Some, Result, Ok, Err, if◌then◌else◌}
+use Rattle.std.specs.Prelude.{◌≡◌, ℕ, ℤ, IfSome, Bool, MatchBool, MatchOption, length, reverse, List, Option, None, Some, Result, Ok, Err, if◌then◌else◌}
 use Rattle.std.specs.List.{list_all}
 use Rattle.dcp_ends.specs.declared.entries.LogEntry.{LogEntry}
-use Rattle.dcp_types.specs.declared.states.State.{State}
-use Rattle.dcp_types.specs.declared.fault_codes.FaultCode.{FaultCode}
 use Rattle.dcp_ends.specs.Events.{Event, Rules}
 use Rattle.dcp_ends.specs.Logs.{events_at}
 use Rattle.rounds.specs.Rounds.{has_report}

@@ -52,7 +52,7 @@ impl Model for Host {
 
     ghost invariant = { λ h. (h.opening ≡ opening_of h.scenario h.hosted)
         × AreSound ⟦<MasterSeat as Seat>⟧ ⟦<SlaveSeat as Seat>⟧
-            (master_of h.scenario h.hosted) (slaves_of h.scenario h.hosted) h.master h.slaves.items h.log.items h.fault };
+        (master_of h.scenario h.hosted) (slaves_of h.scenario h.hosted) h.master h.slaves.items h.log.items h.fault };
 }
 
 impl Host {

@@ -24,11 +24,7 @@ fn are_over<S: Seat>(slaves: &[S]) -> bool
 }
 
 /// How far these ends are, of which the master reports or not.
-pub(crate) fn how_far<M: Seat, S: Seat>(
-    master: &Option<M>,
-    slaves: &[S],
-    reports: bool,
-) -> Progress
+pub(crate) fn how_far<M: Seat, S: Seat>(master: &Option<M>, slaves: &[S], reports: bool) -> Progress
     ensures { (log : List LogEntry) → AllTold S.stands S.rules slaves.now log → reports ≡ has_report (option_map M.rules master.now) log
         → result ≡ progress_of (is_done (option_map M.rules master.now) (map S.rules slaves.now) log) }
 {

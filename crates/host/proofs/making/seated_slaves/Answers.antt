@@ -1,4 +1,4 @@
-use Rattle.std.proofs.Common.{◌≡◌, [], sym}
+use Rattle.std.proofs.Common.{[]}
 use Rattle.host.proofs.making.seated_slaves.Goals as goal
 
 pub returns : goal.returns

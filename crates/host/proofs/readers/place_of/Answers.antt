@@ -1,4 +1,4 @@
-use Rattle.std.proofs.Common.{◌∙◌, ap, sym}
+use Rattle.std.proofs.Common.{◌∙◌, sym}
 use Rattle.host.proofs.Places.{placed}
 use Rattle.host.proofs.readers.place_of.Goals as goal
 

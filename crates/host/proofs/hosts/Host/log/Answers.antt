@@ -1,4 +1,4 @@
-use Rattle.std.proofs.Common.{◌≡◌, ap, sym, ◌∙◌}
+use Rattle.std.proofs.Common.{ap, ◌∙◌}
 use Rattle.host.specs.Views.{HostView}
 use Rattle.host.proofs.Follow.{all_follow, all_follow_up, slaves_cut, slaves_run}
 use Rattle.host.proofs.hosts.Host.log.Goals as goal

@@ -1,4 +1,3 @@
-use Rattle.std.proofs.Common.{◌≡◌, ap, sym, ◌∙◌}
 use Rattle.master_core.specs.Standing.{StandsAfter, rules_of}
 use Rattle.host.proofs.Follow.{master_cut}
 use Rattle.host.proofs.Found.{first_found}

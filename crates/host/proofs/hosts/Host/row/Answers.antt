@@ -1,4 +1,4 @@
-use Rattle.std.proofs.Common.{◌≡◌, ap, reverse, None}
+use Rattle.std.proofs.Common.{reverse, None}
 use Rattle.master_spec.specs.Course.{course}
 use Rattle.master_spec.specs.Rules.{rules_from}
 use Rattle.master_core.specs.Columns.{value_at}

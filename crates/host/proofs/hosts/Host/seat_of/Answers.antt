@@ -1,4 +1,3 @@
-use Rattle.std.proofs.Common.{◌≡◌, ap, sym, ◌∙◌}
 use Rattle.host.proofs.Follow.{slaves_cut}
 use Rattle.host.proofs.Found.{found_at}
 use Rattle.host.proofs.hosts.Host.seat_of.Goals as goal

@@ -1,4 +1,4 @@
-use Rattle.std.proofs.Common.{◌≡◌, ap, Some}
+use Rattle.std.proofs.Common.{ap, Some}
 use Rattle.slave_spec.specs.Slaves.{rules_from, steps_after}
 use Rattle.host.specs.Hosting.{hosted_slave}
 use Rattle.host.proofs.Found.{slave_read}

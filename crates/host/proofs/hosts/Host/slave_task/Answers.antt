@@ -1,4 +1,3 @@
-use Rattle.std.proofs.Common.{◌≡◌}
 use Rattle.host.specs.Hosting.{hosted_slave}
 use Rattle.host.proofs.Found.{stands_where}
 use Rattle.host.proofs.TheEnds.{slave_stands, slave_rules_in}
