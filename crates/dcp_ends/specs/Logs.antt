@@ -1,9 +1,16 @@
 -- Logs of several ends.
-use Rattle.std.specs.Prelude.{◌==◌, ◌&&◌, List, [], ◌∷◌, ◌++◌, Bool, if◌then◌else◌}
+use Rattle.std.specs.Prelude.{◌==◌, ◌&&◌, ◌≤◌, List, [], ◌∷◌, ◌++◌, length, Bool, if◌then◌else◌}
 use Rattle.dcp_types.specs.declared.addresses.Address.{Address}
 use Rattle.dcp_ends.specs.declared.entries.LogEntry.{LogEntry}
 use Rattle.dcp_ends.specs.declared.entries.LogEntry.TheVariants.{Sent, Got, Idle, Turn}
 use Rattle.dcp_ends.specs.Events.{Event, Gram, Tick, Send, Rules}
+
+-- an end sends 1 to 1,024 bytes, and is given at most 1,025
+abbrev pub IsInRange : LogEntry → Type 0
+IsInRange (Sent from to bytes) = (1 ≤ length bytes) × (length bytes ≤ 1024)
+IsInRange (Got at from bytes) = length bytes ≤ 1025
+IsInRange (Idle at) = Unit {0}
+IsInRange (Turn at) = Unit {0}
 
 abbrev pub same_address : Address → Address → Bool
 same_address a b = (a.ip == b.ip) && (a.port == b.port)

@@ -14,6 +14,12 @@ pub trait End: Drop {
     ghost use Rattle.std.specs.Prelude.{List};
     ghost use Rattle.dcp_ends.specs.Events.{Event, Send, Rules};
 
+    /// What an end is made from, as a type.
+    ghost Made: { Type 0 };
+
+    /// What it was made from. No call changes it.
+    ghost made: { Self → Made };
+
     /// The events of which the end is in the middle of its life.
     ghost stands: { Self → List Event → Type 0 };
 
@@ -32,14 +38,16 @@ pub trait End: Drop {
         requires { outs self.old ≡ [] }
         ensures stands { (events : List Event) → stands self.old events → stands self.new (events ++ Gram from bytes.now ∷ []) }
         ensures sends { (events : List Event) → stands self.old events → outs self.new ≡ (rules self.old).sends events (Gram from bytes.now) }
-        ensures rules { rules self.new ≡ rules self.old };
+        ensures rules { rules self.new ≡ rules self.old }
+        ensures made { made self.new ≡ made self.old };
 
     /// The end has a turn. Nothing is outgoing.
     fn on_turn(&mut self)
         requires { outs self.old ≡ [] }
         ensures stands { (events : List Event) → stands self.old events → stands self.new (events ++ Tick ∷ []) }
         ensures sends { (events : List Event) → stands self.old events → outs self.new ≡ (rules self.old).sends events Tick }
-        ensures rules { rules self.new ≡ rules self.old };
+        ensures rules { rules self.new ≡ rules self.old }
+        ensures made { made self.new ≡ made self.old };
 
     /// The message with this number, from 0, of those that are to be sent: to whom, and 1 to 1,024
     /// bytes. None past the last.
@@ -53,7 +61,8 @@ pub trait End: Drop {
     fn clear_outgoing(&mut self)
         ensures outs { outs self.new ≡ [] }
         ensures stands { (events : List Event) → stands self.old events → stands self.new events }
-        ensures rules { rules self.new ≡ rules self.old };
+        ensures rules { rules self.new ≡ rules self.old }
+        ensures made { made self.new ≡ made self.old };
 
     /// Whether nothing more is to be expected of the end.
     fn is_over(&self) -> bool

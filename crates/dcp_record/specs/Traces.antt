@@ -3,6 +3,7 @@ use Rattle.std.specs.Prelude.{◌≡◌, ℕ, ◌<◌, ◌≤◌, ◌^◌, List,
 use Rattle.std.specs.List.{All}
 use Rattle.std.specs.Int.{to_le_bytes, w16, w32}
 use Rattle.dcp_types.specs.declared.addresses.Address.{Address}
+use Rattle.dcp_ends.specs.Logs.{IsInRange}
 use Rattle.dcp_ends.specs.declared.entries.LogEntry.{LogEntry}
 use Rattle.dcp_ends.specs.declared.entries.LogEntry.TheVariants.{Sent, Got, Idle, Turn}
 
@@ -36,13 +37,6 @@ header_bytes hosted len = form ++ to_le_bytes w32 hosted ++ to_le_bytes w32 len
 -- a trace: the header, the scenario's text, and the entries to the end
 abbrev pub trace_bytes : ℕ → List ℕ → List LogEntry → List ℕ
 trace_bytes hosted scenario entries = header_bytes hosted (length scenario) ++ scenario ++ all_entry_bytes entries
-
--- an end sends 1 to 1,024 bytes, and is given at most 1,025
-abbrev pub IsInRange : LogEntry → Type 0
-IsInRange (Sent from to bytes) = (1 ≤ length bytes) × (length bytes ≤ 1024)
-IsInRange (Got at from bytes) = length bytes ≤ 1025
-IsInRange (Idle at) = Unit {0}
-IsInRange (Turn at) = Unit {0}
 
 -- the numbers of an address fit their bytes
 pub record IsPlace (a : Address) : Type 0 where

@@ -3,7 +3,8 @@
 ghost use Rattle.std.specs.Prelude.{◌≡◌, ◌≤◌, ◌<◌, ◌^◌, ◌∷◌, ◌++◌, [], length};
 ghost use Rattle.std.specs.List.{All};
 ghost use Rattle.dcp_record.specs.Puts.{Puts, Records};
-ghost use Rattle.dcp_record.specs.Traces.{IsInRange, address_bytes, all_entry_bytes, log_entry_bytes, header_bytes, payload_bytes, trace_bytes};
+ghost use Rattle.dcp_ends.specs.Logs.{IsInRange};
+ghost use Rattle.dcp_record.specs.Traces.{address_bytes, all_entry_bytes, log_entry_bytes, header_bytes, payload_bytes, trace_bytes};
 
 use byte_spool::{Delivery, Spool};
 use dcp_ends::LogEntry;

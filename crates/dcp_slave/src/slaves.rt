@@ -22,6 +22,7 @@ pub fn new_slave(alloc: Global, desc: SlaveDesc, micro: u32) -> Result<SlaveEnd,
     requires micro { (1 ≤ micro) × (micro ≤ 1000) }
     ensures stands { IfOk result (λ s. ⟦<SlaveCore<Device<Wiring>> as End>⟧.stands s []) }
     ensures rules { IfOk result (λ s. ⟦<SlaveCore<Device<Wiring>> as End>⟧.rules s ≡ rules_from (record { desc = desc; micro = micro })) }
+    ensures made { IfOk result (λ s. ⟦<SlaveCore<Device<Wiring>> as End>⟧.made s ≡ record { desc = desc; micro = micro }) }
     ensures quiet { IfOk result (λ s. ⟦<SlaveCore<Device<Wiring>> as End>⟧.outs s ≡ []) }
 {
     let wiring = Wiring::new(alloc, &desc)?;

@@ -8,7 +8,12 @@ use dcp_ends::End;
 use dcp_types::Address;
 
 impl End for MasterCore {
-    ghost use Rattle.master_core.specs.Standing.{StandsAfter, rules_of};
+    ghost use Rattle.master_spec.specs.declared.setups.Setup.{Setup};
+    ghost use Rattle.master_core.specs.Standing.{StandsAfter, rules_of, setup_of};
+
+    ghost Made = { Setup };
+
+    ghost made = { setup_of };
 
     ghost stands = { StandsAfter };
 

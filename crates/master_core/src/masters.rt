@@ -8,6 +8,7 @@ ghost use Rattle.plan_spec.specs.Plans.{plan_of};
 ghost use Rattle.master_spec.specs.Course as course;
 ghost use Rattle.master_spec.specs.Course.{Course};
 ghost use Rattle.master_spec.specs.Rules.{master_rules, rules_from};
+ghost use Rattle.master_spec.specs.Setup.{setup_from};
 ghost use Rattle.master_core.specs.Columns.{value_at};
 ghost use Rattle.master_core.specs.Talking.{Now};
 ghost use Rattle.master_core.specs.Standing.{StandsIn, StandsFor, StandsAfter, Meets, IsBehind, setup_of, is_row_due, with_counted, with_talks_turned, with_gram_heard};
@@ -35,6 +36,7 @@ impl MasterCore {
         requires plan { plan.now ≡ plan_of scenario.now }
         ensures stands { IfOk result (λ m. StandsAfter m []) }
         ensures rules { IfOk result (λ m. rules_from (setup_of m) ≡ master_rules scenario.now) }
+        ensures made { IfOk result (λ m. setup_of m ≡ setup_from scenario.now) }
         ensures quiet { IfOk result (λ m. m.out ≡ []) }
     {
         let talks = talks_of(alloc, scenario, plan)?;

@@ -101,6 +101,7 @@ impl<E: End> EndTask<E> {
         ensures stands { (events : List Event) → E.stands self.old.end events → E.stands self.new.end (events ++ Tick ∷ []) }
         ensures sends { (events : List Event) → E.stands self.old.end events → E.outs self.new.end ≡ (E.rules self.old.end).sends events Tick }
         ensures rules { E.rules self.new.end ≡ E.rules self.old.end }
+        ensures made { E.made self.new.end ≡ E.made self.old.end }
         ensures same { (self.new.mail ≡ self.old.mail) × (self.new.source ≡ self.old.source) }
     {
         self.end.on_turn();
@@ -111,6 +112,7 @@ impl<E: End> EndTask<E> {
         ensures outs { E.outs self.new.end ≡ [] }
         ensures stands { (events : List Event) → E.stands self.old.end events → E.stands self.new.end events }
         ensures rules { E.rules self.new.end ≡ E.rules self.old.end }
+        ensures made { E.made self.new.end ≡ E.made self.old.end }
         ensures same { (self.new.mail ≡ self.old.mail) × (self.new.source ≡ self.old.source) }
     {
         self.end.clear_outgoing();
@@ -135,6 +137,7 @@ impl<E: End> Future for EndTask<E> {
         ensures sends { IfSome self.old.mail (λ mail. (events : List Event) → E.stands self.old.end events → E.outs self.new.end ≡ (E.rules self.old.end).sends events (Gram mail.from mail.bytes)) }
         ensures idle { IfNone self.old.mail (self.new.end ≡ self.old.end) }
         ensures rules { E.rules self.new.end ≡ E.rules self.old.end }
+        ensures made { E.made self.new.end ≡ E.made self.old.end }
         ensures over { (events : List Event) → E.stands self.new.end events → is_ready result ≡ (E.rules self.new.end).over events }
     {
         if self.has_mail {

@@ -84,6 +84,10 @@ module _ {E : Type 0} (stands : E → List Event → Type 0) (rules : Rules) (en
   pub IsTold-silent : IsTold stands rules end log → IsTold stands rules end (log ++ part)
   IsTold-silent told = record { stands_for = rw events_same told.stands_for; follows = own_same ∙ told.follows ∙ ap (answered rules []) (sym events_same) }
 
+-- what no call changes of the elements, where one is changed
+pub kept : {E A : Type 0} (f : E → A) (ends : List E) (i : ℕ) (w y : E) → f y ≡ f (get_or ends i w) → map f (set ends i y) ≡ map f ends
+kept f ends i w y same = map-set_same f ends i y w same
+
 -- the list with one element changed, read at the default w
 module _ {E : Type 0} (rules : E → Rules) (ends : List E) (i : ℕ) (w y : E) (here : i < length ends) where
   pub rules_kept : rules y ≡ rules (get_or ends i w) → map rules (set ends i y) ≡ map rules ends

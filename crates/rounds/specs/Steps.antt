@@ -1,5 +1,5 @@
 -- What one call of a host adds to its log, and to the list that the net tells.
-use Rattle.std.specs.Prelude.{◌≡◌, ℕ, ◌≤◌, List, [], ◌∷◌, ◌++◌, Option, None, Some, take, Bool, true, false, Result, Err}
+use Rattle.std.specs.Prelude.{◌≡◌, ℕ, ◌≤◌, List, [], ◌∷◌, ◌++◌, Option, None, Some, take, Bool, true, false, Result, Err, OnOk}
 use Rattle.dcp_types.specs.declared.addresses.Address.{Address}
 use Rattle.dcp_ends.specs.declared.entries.LogEntry.{LogEntry}
 use Rattle.dcp_ends.specs.declared.entries.LogEntry.TheVariants.{Sent, Got, Idle, Turn}
@@ -10,7 +10,7 @@ use Rattle.dcp_net.specs.Nets.{told_more}
 use Rattle.rounds.specs.Rounds.{IsGot}
 use Rattle.rounds.specs.declared.one_end.Gram.{Gram}
 use Rattle.rounds.specs.declared.one_end.HostFault.{HostFault}
-use Rattle.rounds.specs.declared.one_end.HostFault.TheVariants.{Net}
+use Rattle.rounds.specs.declared.one_end.HostFault.TheVariants.{Net, OutOfMemory}
 
 -- the entries that a net tells too
 abbrev pub without_turn : LogEntry → List LogEntry
@@ -36,11 +36,13 @@ pub record SendsSome {N : Type 0} (calls : N → Option (List LogEntry)) (place 
   pub split : gone ++ left ≡ sends
   pub added : Added calls before now old new (sent_by place gone)
 
--- a fault of the net is told only where its count rose, with the count that it rose to
+-- a fault of the net is told only where its count rose, with the count that it rose to; elsewhere the count stands still
 pub record Caused {T : Type 0} (before now : ℕ) (result : Result T HostFault) : Type 0 where
   pub later : before ≤ now
   pub rose : (count : ℕ) → result ≡ Err (Net count) → Rose before now
   pub named : (count : ℕ) → result ≡ Err (Net count) → count ≡ now
+  pub done : OnOk result (now ≡ before)
+  pub wanting : result ≡ Err OutOfMemory → now ≡ before
 
 -- what one take gave
 abbrev pub gram_entry : Address → Option Gram → List ℕ → LogEntry

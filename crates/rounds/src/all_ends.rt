@@ -4,6 +4,7 @@ ghost use Rattle.std.specs.Prelude.{◌≡◌, ◌≤◌, ◌<◌, ◌^◌, [], 
 ghost use Rattle.std.specs.List.{All};
 ghost use Rattle.std.specs.Option.{option_map};
 ghost use Rattle.dcp_ends.specs.Events.{Rules};
+ghost use Rattle.dcp_ends.specs.Logs.{IsInRange};
 ghost use Rattle.dcp_ends.specs.declared.entries.LogEntry.{LogEntry};
 ghost use Rattle.rounds.specs.Steps.{Added, Caused, AddsPart};
 ghost use Rattle.rounds.specs.Rounds.{IsLook, IsLookPart, IsTurn, IsTurnPart, EachEnd, EachPart, IfFirst, IsLooks, IsLooksPart, IsTurns, IsTurnsPart, IsRound, IsRoundPart, hosted, has_report, places_of};
@@ -29,13 +30,16 @@ fn look_each<E: Seat, N: Net>(
     requires quiet { All (λ end. E.outs end ≡ []) ends.old }
     requires told { AllTold E.stands E.rules ends.old log.old.items }
     ensures is_open { IsTrue (N.is_open net.new) }
+    ensures opening { N.opening net.new ≡ N.opening net.old }
     ensures rules { map E.rules ends.new ≡ map E.rules ends.old }
+    ensures made { map E.made ends.new ≡ map E.made ends.old }
     ensures quiet { OnOk result (All (λ end. E.outs end ≡ []) ends.new) }
     ensures told { OnOk result (AllTold E.stands E.rules ends.new log.new.items) }
     ensures cut { OnErr result (AllToldUpTo E.stands E.rules ends.new log.new.items) }
     ensures ok { OnOk result (AddsPart N.calls (EachEnd IsLook (places_of (map E.rules ends.old))) net.old net.new log.old.items log.new.items) }
     ensures err { OnErr result (AddsPart N.calls (EachPart IsLook IsLookPart (places_of (map E.rules ends.old))) net.old net.new log.old.items log.new.items) }
     ensures cause { Caused (N.count net.old) (N.count net.new) result }
+    ensures range { All IsInRange log.old.items → All IsInRange log.new.items }
 {
     for end in ends.iter_mut() {
         look(alloc, end, net, log, room)?;
@@ -55,13 +59,16 @@ fn turn_each<E: Seat, N: Net>(
     requires quiet { All (λ end. E.outs end ≡ []) ends.old }
     requires told { AllTold E.stands E.rules ends.old log.old.items }
     ensures is_open { IsTrue (N.is_open net.new) }
+    ensures opening { N.opening net.new ≡ N.opening net.old }
     ensures rules { map E.rules ends.new ≡ map E.rules ends.old }
+    ensures made { map E.made ends.new ≡ map E.made ends.old }
     ensures quiet { OnOk result (All (λ end. E.outs end ≡ []) ends.new) }
     ensures told { OnOk result (AllTold E.stands E.rules ends.new log.new.items) }
     ensures cut { OnErr result (AllToldUpTo E.stands E.rules ends.new log.new.items) }
     ensures ok { OnOk result (AddsPart N.calls (EachEnd IsTurn (places_of (map E.rules ends.old))) net.old net.new log.old.items log.new.items) }
     ensures err { OnErr result (AddsPart N.calls (EachPart IsTurn IsTurnPart (places_of (map E.rules ends.old))) net.old net.new log.old.items log.new.items) }
     ensures cause { Caused (N.count net.old) (N.count net.new) result }
+    ensures range { All IsInRange log.old.items → All IsInRange log.new.items }
 {
     for end in ends.iter_mut() {
         turn(alloc, end, net, log)?;
@@ -81,13 +88,16 @@ fn look_first<E: Seat, N: Net>(
     requires quiet { IfSome first.old (λ end. E.outs end ≡ []) }
     requires told { IfSome first.old (λ end. IsTold E.stands (E.rules end) end log.old.items) }
     ensures is_open { IsTrue (N.is_open net.new) }
+    ensures opening { N.opening net.new ≡ N.opening net.old }
     ensures rules { option_map E.rules first.new ≡ option_map E.rules first.old }
+    ensures made { option_map E.made first.new ≡ option_map E.made first.old }
     ensures quiet { OnOk result (IfSome first.new (λ end. E.outs end ≡ [])) }
     ensures told { OnOk result (IfSome first.new (λ end. IsTold E.stands (E.rules end) end log.new.items)) }
     ensures cut { OnErr result (IfSome first.new (λ end. IsToldUpTo E.stands (E.rules end) end log.new.items)) }
     ensures ok { OnOk result (AddsPart N.calls (IfFirst IsLook (option_map E.rules first.old)) net.old net.new log.old.items log.new.items) }
     ensures err { OnErr result (AddsPart N.calls (IfFirst IsLookPart (option_map E.rules first.old)) net.old net.new log.old.items log.new.items) }
     ensures cause { Caused (N.count net.old) (N.count net.new) result }
+    ensures range { All IsInRange log.old.items → All IsInRange log.new.items }
 {
     let Some(end) = first else {
         return Ok(());
@@ -107,13 +117,16 @@ fn turn_first<E: Seat, N: Net>(
     requires quiet { IfSome first.old (λ end. E.outs end ≡ []) }
     requires told { IfSome first.old (λ end. IsTold E.stands (E.rules end) end log.old.items) }
     ensures is_open { IsTrue (N.is_open net.new) }
+    ensures opening { N.opening net.new ≡ N.opening net.old }
     ensures rules { option_map E.rules first.new ≡ option_map E.rules first.old }
+    ensures made { option_map E.made first.new ≡ option_map E.made first.old }
     ensures quiet { OnOk result (IfSome first.new (λ end. E.outs end ≡ [])) }
     ensures told { OnOk result (IfSome first.new (λ end. IsTold E.stands (E.rules end) end log.new.items)) }
     ensures cut { OnErr result (IfSome first.new (λ end. IsToldUpTo E.stands (E.rules end) end log.new.items)) }
     ensures ok { OnOk result (AddsPart N.calls (IfFirst IsTurn (option_map E.rules first.old)) net.old net.new log.old.items log.new.items) }
     ensures err { OnErr result (AddsPart N.calls (IfFirst IsTurnPart (option_map E.rules first.old)) net.old net.new log.old.items log.new.items) }
     ensures cause { Caused (N.count net.old) (N.count net.new) result }
+    ensures range { All IsInRange log.old.items → All IsInRange log.new.items }
 {
     let Some(end) = first else {
         return Ok(());
@@ -138,8 +151,11 @@ fn look_all<M: Seat, S: Seat, N: Net>(
     requires told_master { IfSome master.old (λ end. IsTold M.stands (M.rules end) end log.old.items) }
     requires told_slaves { AllTold S.stands S.rules slaves.old log.old.items }
     ensures is_open { IsTrue (N.is_open net.new) }
+    ensures opening { N.opening net.new ≡ N.opening net.old }
     ensures rules_master { option_map M.rules master.new ≡ option_map M.rules master.old }
     ensures rules_slaves { map S.rules slaves.new ≡ map S.rules slaves.old }
+    ensures made_master { option_map M.made master.new ≡ option_map M.made master.old }
+    ensures made_slaves { map S.made slaves.new ≡ map S.made slaves.old }
     ensures quiet_master { OnOk result (IfSome master.new (λ end. M.outs end ≡ [])) }
     ensures quiet_slaves { OnOk result (All (λ end. S.outs end ≡ []) slaves.new) }
     ensures told_master { OnOk result (IfSome master.new (λ end. IsTold M.stands (M.rules end) end log.new.items)) }
@@ -149,6 +165,7 @@ fn look_all<M: Seat, S: Seat, N: Net>(
     ensures ok { OnOk result (AddsPart N.calls (IsLooks (option_map M.rules master.old) (map S.rules slaves.old)) net.old net.new log.old.items log.new.items) }
     ensures err { OnErr result (AddsPart N.calls (IsLooksPart (option_map M.rules master.old) (map S.rules slaves.old)) net.old net.new log.old.items log.new.items) }
     ensures cause { Caused (N.count net.old) (N.count net.new) result }
+    ensures range { All IsInRange log.old.items → All IsInRange log.new.items }
 {
     look_first(alloc, master, net, log, room)?;
     look_each(alloc, slaves, net, log, room)?;
@@ -181,8 +198,11 @@ fn turn_all<M: Seat, S: Seat, N: Net>(
     requires told_master { IfSome master.old (λ end. IsTold M.stands (M.rules end) end log.old.items) }
     requires told_slaves { AllTold S.stands S.rules slaves.old log.old.items }
     ensures is_open { IsTrue (N.is_open net.new) }
+    ensures opening { N.opening net.new ≡ N.opening net.old }
     ensures rules_master { option_map M.rules master.new ≡ option_map M.rules master.old }
     ensures rules_slaves { map S.rules slaves.new ≡ map S.rules slaves.old }
+    ensures made_master { option_map M.made master.new ≡ option_map M.made master.old }
+    ensures made_slaves { map S.made slaves.new ≡ map S.made slaves.old }
     ensures quiet_master { OnOk result (IfSome master.new (λ end. M.outs end ≡ [])) }
     ensures quiet_slaves { OnOk result (All (λ end. S.outs end ≡ []) slaves.new) }
     ensures told_master { OnOk result (IfSome master.new (λ end. IsTold M.stands (M.rules end) end log.new.items)) }
@@ -193,6 +213,7 @@ fn turn_all<M: Seat, S: Seat, N: Net>(
     ensures report { IfOk result (λ over. over ≡ has_report (option_map M.rules master.old) log.new.items) }
     ensures err { OnErr result (AddsPart N.calls (IsTurnsPart (option_map M.rules master.old) (map S.rules slaves.old) log.old.items) net.old net.new log.old.items log.new.items) }
     ensures cause { Caused (N.count net.old) (N.count net.new) result }
+    ensures range { All IsInRange log.old.items → All IsInRange log.new.items }
 {
     turn_first(alloc, master, net, log)?;
     if reports(master) {
@@ -220,8 +241,11 @@ pub fn run_round<M: Seat, S: Seat, N: Net>(
     requires told_master { IfSome master.old (λ end. IsTold M.stands (M.rules end) end log.old.items) }
     requires told_slaves { AllTold S.stands S.rules slaves.old log.old.items }
     ensures is_open { IsTrue (N.is_open net.new) }
+    ensures opening { N.opening net.new ≡ N.opening net.old }
     ensures rules_master { option_map M.rules master.new ≡ option_map M.rules master.old }
     ensures rules_slaves { map S.rules slaves.new ≡ map S.rules slaves.old }
+    ensures made_master { option_map M.made master.new ≡ option_map M.made master.old }
+    ensures made_slaves { map S.made slaves.new ≡ map S.made slaves.old }
     ensures quiet_master { OnOk result (IfSome master.new (λ end. M.outs end ≡ [])) }
     ensures quiet_slaves { OnOk result (All (λ end. S.outs end ≡ []) slaves.new) }
     ensures told_master { OnOk result (IfSome master.new (λ end. IsTold M.stands (M.rules end) end log.new.items)) }
@@ -232,6 +256,7 @@ pub fn run_round<M: Seat, S: Seat, N: Net>(
     ensures report { IfOk result (λ over. over ≡ has_report (option_map M.rules master.old) log.new.items) }
     ensures err { OnErr result (AddsPart N.calls (IsRoundPart (option_map M.rules master.old) (map S.rules slaves.old) log.old.items) net.old net.new log.old.items log.new.items) }
     ensures cause { Caused (N.count net.old) (N.count net.new) result }
+    ensures range { All IsInRange log.old.items → All IsInRange log.new.items }
 {
     look_all(alloc, master, slaves, net, log, room)?;
     let over = turn_all(alloc, master, slaves, net, log)?;

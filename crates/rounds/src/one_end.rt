@@ -1,9 +1,9 @@
 //! One end in a round: what it sends, a look for its datagrams, and its turn.
 
-ghost use Rattle.std.specs.Prelude.{◌≡◌, ◌≤◌, [], ◌∷◌, length, take, IsTrue, OnOk, OnErr, IfOk, List, ℕ, ◌<◌, ◌^◌};
+ghost use Rattle.std.specs.Prelude.{◌≡◌, ◌≤◌, [], ◌∷◌, All, length, take, IsTrue, OnOk, OnErr, IfOk, List, ℕ, ◌<◌, ◌^◌};
 ghost use Rattle.dcp_ends.specs.Events.{Event};
 ghost use Rattle.dcp_ends.specs.declared.entries.LogEntry.TheVariants.{Sent, Got, Idle, Turn};
-ghost use Rattle.dcp_ends.specs.Logs.{sent_by};
+ghost use Rattle.dcp_ends.specs.Logs.{IsInRange, sent_by};
 ghost use Rattle.rounds.specs.declared.one_end.HostFault.TheVariants.{OutOfMemory};
 ghost use Rattle.rounds.specs.Steps.{Added, SendsSome, Caused, TookGram, LookForm, AddsPart};
 ghost use Rattle.rounds.specs.Rounds.{IsGotPart, IsLook, IsLookPart, IsTurn, IsTurnPart};
@@ -49,9 +49,11 @@ fn send_one<N: Net>(
     requires low { 1 ≤ length bytes.now }
     requires high { length bytes.now ≤ 1024 }
     ensures is_open { IsTrue (N.is_open net.new) }
+    ensures opening { N.opening net.new ≡ N.opening net.old }
     ensures ok { OnOk result (Added N.calls net.old net.new log.old.items log.new.items (Sent from to bytes.now ∷ [])) }
     ensures err { OnErr result (Added N.calls net.old net.new log.old.items log.new.items []) }
     ensures cause { Caused (N.count net.old) (N.count net.new) result }
+    ensures range { All IsInRange log.old.items → All IsInRange log.new.items }
 {
     log.reserve(1)?;
     let kept = Bytes::copied(alloc, bytes)?;
@@ -80,9 +82,11 @@ fn send_outgoing<E: Seat, N: Net>(
 ) -> Result<(), HostFault>
     requires { IsTrue (N.is_open net.old) }
     ensures is_open { IsTrue (N.is_open net.new) }
+    ensures opening { N.opening net.new ≡ N.opening net.old }
     ensures ok { OnOk result (Added N.calls net.old net.new log.old.items log.new.items (sent_by (E.rules end.now).place (E.outs end.now))) }
     ensures err { OnErr result (SendsSome N.calls (E.rules end.now).place (E.outs end.now) net.old net.new log.old.items log.new.items) }
     ensures cause { Caused (N.count net.old) (N.count net.new) result }
+    ensures range { All IsInRange log.old.items → All IsInRange log.new.items }
 {
     let place = end.address();
     let mut i = 0;
@@ -102,12 +106,15 @@ fn answer<E: Seat, N: Net>(
 ) -> Result<(), HostFault>
     requires { IsTrue (N.is_open net.old) }
     ensures is_open { IsTrue (N.is_open net.new) }
+    ensures opening { N.opening net.new ≡ N.opening net.old }
     ensures ok { OnOk result (Added N.calls net.old net.new log.old.items log.new.items (sent_by (E.rules end.old).place (E.outs end.old))) }
     ensures err { OnErr result (SendsSome N.calls (E.rules end.old).place (E.outs end.old) net.old net.new log.old.items log.new.items) }
     ensures quiet { OnOk result (E.outs end.new ≡ []) }
     ensures stands { (events : List Event) → E.stands end.old events → E.stands end.new events }
     ensures rules { E.rules end.new ≡ E.rules end.old }
+    ensures made { E.made end.new ≡ E.made end.old }
     ensures cause { Caused (N.count net.old) (N.count net.new) result }
+    ensures range { All IsInRange log.old.items → All IsInRange log.new.items }
 {
     send_outgoing(alloc, end, net, log)?;
     end.clear_outgoing();
@@ -131,9 +138,11 @@ fn take_gram<N: Net>(
 ) -> Result<Option<Gram>, HostFault>
     requires { IsTrue (N.is_open net.old) }
     ensures is_open { IsTrue (N.is_open net.new) }
+    ensures opening { N.opening net.new ≡ N.opening net.old }
     ensures ok { IfOk result (λ gram. TookGram N.calls at gram room.new.bytes net.old net.new log.old.items log.new.items) }
     ensures err { OnErr result (Added N.calls net.old net.new log.old.items log.new.items []) }
     ensures cause { Caused (N.count net.old) (N.count net.new) result }
+    ensures range { All IsInRange log.old.items → All IsInRange log.new.items }
 {
     log.reserve(1)?;
     room.make_spare()?;
@@ -167,13 +176,16 @@ fn look_once<E: Seat, N: Net>(
     requires quiet { E.outs end.old ≡ [] }
     requires told { IsTold E.stands (E.rules end.old) end.old log.old.items }
     ensures is_open { IsTrue (N.is_open net.new) }
+    ensures opening { N.opening net.new ≡ N.opening net.old }
     ensures rules { E.rules end.new ≡ E.rules end.old }
+    ensures made { E.made end.new ≡ E.made end.old }
     ensures quiet { OnOk result (E.outs end.new ≡ []) }
     ensures told { OnOk result (IsTold E.stands (E.rules end.old) end.new log.new.items) }
     ensures cut { OnErr result (IsToldUpTo E.stands (E.rules end.old) end.new log.new.items) }
     ensures ok { IfOk result (λ more. AddsPart N.calls (LookForm (E.rules end.old).place more) net.old net.new log.old.items log.new.items) }
     ensures err { OnErr result (AddsPart N.calls (IsGotPart (E.rules end.old).place) net.old net.new log.old.items log.new.items) }
     ensures cause { Caused (N.count net.old) (N.count net.new) result }
+    ensures range { All IsInRange log.old.items → All IsInRange log.new.items }
 {
     let Some(gram) = take_gram(alloc, net, log, end.address(), room)? else {
         return Ok(false);
@@ -195,13 +207,16 @@ pub fn look<E: Seat, N: Net>(
     requires quiet { E.outs end.old ≡ [] }
     requires told { IsTold E.stands (E.rules end.old) end.old log.old.items }
     ensures is_open { IsTrue (N.is_open net.new) }
+    ensures opening { N.opening net.new ≡ N.opening net.old }
     ensures rules { E.rules end.new ≡ E.rules end.old }
+    ensures made { E.made end.new ≡ E.made end.old }
     ensures quiet { OnOk result (E.outs end.new ≡ []) }
     ensures told { OnOk result (IsTold E.stands (E.rules end.old) end.new log.new.items) }
     ensures cut { OnErr result (IsToldUpTo E.stands (E.rules end.old) end.new log.new.items) }
     ensures ok { OnOk result (AddsPart N.calls (IsLook (E.rules end.old).place) net.old net.new log.old.items log.new.items) }
     ensures err { OnErr result (AddsPart N.calls (IsLookPart (E.rules end.old).place) net.old net.new log.old.items log.new.items) }
     ensures cause { Caused (N.count net.old) (N.count net.new) result }
+    ensures range { All IsInRange log.old.items → All IsInRange log.new.items }
 {
     'looks: for _got in 0..MOST {
         let more = look_once(alloc, end, net, log, room)?;
@@ -223,13 +238,16 @@ pub fn turn<E: Seat, N: Net>(
     requires quiet { E.outs end.old ≡ [] }
     requires told { IsTold E.stands (E.rules end.old) end.old log.old.items }
     ensures is_open { IsTrue (N.is_open net.new) }
+    ensures opening { N.opening net.new ≡ N.opening net.old }
     ensures rules { E.rules end.new ≡ E.rules end.old }
+    ensures made { E.made end.new ≡ E.made end.old }
     ensures quiet { OnOk result (E.outs end.new ≡ []) }
     ensures told { OnOk result (IsTold E.stands (E.rules end.old) end.new log.new.items) }
     ensures cut { OnErr result (IsToldUpTo E.stands (E.rules end.old) end.new log.new.items) }
     ensures ok { OnOk result (AddsPart N.calls (IsTurn (E.rules end.old).place) net.old net.new log.old.items log.new.items) }
     ensures err { OnErr result (AddsPart N.calls (IsTurnPart (E.rules end.old).place) net.old net.new log.old.items log.new.items) }
     ensures cause { Caused (N.count net.old) (N.count net.new) result }
+    ensures range { All IsInRange log.old.items → All IsInRange log.new.items }
 {
     log.reserve(1)?;
     log.push_reserved(LogEntry::Turn { at: end.address() });

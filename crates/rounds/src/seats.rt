@@ -9,6 +9,12 @@ use dcp_types::Address;
 /// An end as a round calls it, whichever way it is held: directly, or as a task with an inbox. It is given
 /// datagrams of at most 1,025 bytes, and else promises what an end promises.
 pub trait Seat: Drop {
+    /// What an end is made from, as a type.
+    ghost Made: { Type 0 };
+
+    /// What the end in it was made from. No call changes it.
+    ghost made: { Self → Made };
+
     /// It stands for this list of events.
     ghost stands: { Self → List Event → Type 0 };
 
@@ -28,14 +34,16 @@ pub trait Seat: Drop {
         requires fits { length bytes.now ≤ 1025 }
         ensures stands { (events : List Event) → stands self.old events → stands self.new (events ++ Gram from bytes.now ∷ []) }
         ensures sends { (events : List Event) → stands self.old events → outs self.new ≡ (rules self.old).sends events (Gram from bytes.now) }
-        ensures rules { rules self.new ≡ rules self.old };
+        ensures rules { rules self.new ≡ rules self.old }
+        ensures made { made self.new ≡ made self.old };
 
     /// The end has a turn. Nothing is outgoing.
     fn on_turn(&mut self)
         requires { outs self.old ≡ [] }
         ensures stands { (events : List Event) → stands self.old events → stands self.new (events ++ Tick ∷ []) }
         ensures sends { (events : List Event) → stands self.old events → outs self.new ≡ (rules self.old).sends events Tick }
-        ensures rules { rules self.new ≡ rules self.old };
+        ensures rules { rules self.new ≡ rules self.old }
+        ensures made { made self.new ≡ made self.old };
 
     /// The message with this number, from 0, of those that are to be sent. None past the last.
     fn outgoing(&self, i: usize) -> Option<(Address, &[u8])>
@@ -48,7 +56,8 @@ pub trait Seat: Drop {
     fn clear_outgoing(&mut self)
         ensures outs { outs self.new ≡ [] }
         ensures stands { (events : List Event) → stands self.old events → stands self.new events }
-        ensures rules { rules self.new ≡ rules self.old };
+        ensures rules { rules self.new ≡ rules self.old }
+        ensures made { made self.new ≡ made self.old };
 
     /// Whether nothing more is to be expected of the end.
     fn is_over(&self) -> bool

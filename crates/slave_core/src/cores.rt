@@ -222,8 +222,13 @@ impl<M: Inner> SlaveCore<M> {
 }
 
 impl<M: Inner> End for SlaveCore<M> {
+    ghost use Rattle.slave_spec.specs.declared.words.Setup.{Setup};
     ghost use Rattle.slave_spec.specs.Slaves.{rules_from};
     ghost use Rattle.slave_core.specs.Core.{StandsFor};
+
+    ghost Made = { Setup };
+
+    ghost made = { λ s. M.setup s.inner };
 
     ghost stands = { StandsFor M.setup M.stands };
 

@@ -26,6 +26,7 @@ pub fn slave_over<W: Wired>(
     requires wiring { W.stands wiring desc bare }
     ensures stands { IfOk result (λ s. ⟦<SlaveCore<Device<W>> as End>⟧.stands s []) }
     ensures rules { IfOk result (λ s. ⟦<SlaveCore<Device<W>> as End>⟧.rules s ≡ rules_from (record { desc = desc; micro = micro })) }
+    ensures made { IfOk result (λ s. ⟦<SlaveCore<Device<W>> as End>⟧.made s ≡ record { desc = desc; micro = micro }) }
     ensures quiet { IfOk result (λ s. ⟦<SlaveCore<Device<W>> as End>⟧.outs s ≡ []) }
 {
     let device = Device::from_description(alloc, desc, micro, wiring)?;

@@ -1,5 +1,6 @@
 use Rattle.std.proofs.lemmas.List.Elements.{All-weaker, All-same}
-use Rattle.dcp_record.specs.Traces.{IsInRange, IsRecordable}
+use Rattle.dcp_ends.specs.Logs.{IsInRange}
+use Rattle.dcp_record.specs.Traces.{IsRecordable}
 use Rattle.net_tests.proofs.traces.is_written.Goals as goal
 
 pub write_record-written-requires-clause-hosted : goal.write_record-written-requires-clause-hosted

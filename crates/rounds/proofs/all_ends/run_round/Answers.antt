@@ -20,3 +20,6 @@ pub returns-clause-ok : goal.returns-clause-ok
 returns-clause-ok g c =
     let turns = rw (c.look_all.ensures.rules_master, c.look_all.ensures.rules_slaves) at c.in_ok-over.ensures.ok in
     round_all _ _ _ _ _ _ _ _ _ c.in_ok-look_all.ensures.ok turns
+
+pub returns-clause-range : goal.returns-clause-range
+returns-clause-range g c = λ before. c.turn_all.ensures.range (c.look_all.ensures.range before)

@@ -19,9 +19,12 @@ looks-preserved g c =
     let once = rw (c.looks.invariant.same, c.if-not-more.false) at c.in_ok-more.ensures.ok in
     record {
       is_open = c.in_ok-more.ensures.is_open;
+      opening = c.look_once.ensures.opening ∙ c.looks.invariant.opening;
+      made = c.look_once.ensures.made ∙ c.looks.invariant.made;
       same = c.look_once.ensures.rules ∙ c.looks.invariant.same;
       quiet = c.in_ok-more.ensures.quiet;
       told = rw c.looks.invariant.same at c.in_ok-more.ensures.told;
       gots = GotsSoFar-more _ _ _ _ _ _ _ _ _ c.looks.invariant.gots once;
-      later = omega (arith, c.look_once.ensures.cause.later);
+      still = c.in_ok-more.ensures.cause.done ∙ c.looks.invariant.still;
+      range = λ before. c.look_once.ensures.range (c.looks.invariant.range before);
     }

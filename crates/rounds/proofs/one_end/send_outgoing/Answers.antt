@@ -1,4 +1,4 @@
-use Rattle.std.proofs.Common.{◌<◌, length, arith, sym}
+use Rattle.std.proofs.Common.{◌∙◌, ◌<◌, length, arith, sym}
 use Rattle.std.proofs.lemmas.Result.{err_from_is_err_and}
 use Rattle.std.proofs.lemmas.Option.{slice_get_within}
 use Rattle.rounds.proofs.Parts.{SendsSome-stop, Added-send, Added-all, slice_get_none}
@@ -16,8 +16,10 @@ sends-preserved g c =
     record {
       in_range = omega arith;
       is_open = c.in_ok-send_one.ensures.is_open;
+      opening = c.in_ok-send_one.ensures.opening ∙ c.sends.invariant.opening;
       added = Added-send _ _ _ _ _ _ _ _ _ _ _ found c.sends.invariant.added (rw c.address-place.ensures at c.in_ok-send_one.ensures.ok);
-      later = omega (arith, c.send_one.ensures.cause.later);
+      still = c.in_ok-send_one.ensures.cause.done ∙ c.sends.invariant.still;
+      range = λ before. c.send_one.ensures.range (c.sends.invariant.range before);
     }
 
 pub returns-clause-ok : goal.returns-clause-ok

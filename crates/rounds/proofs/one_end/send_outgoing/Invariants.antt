@@ -1,5 +1,6 @@
-use Rattle.std.proofs.Common.{◌-◌, ◌≤◌, take, length, IsTrue}
-use Rattle.dcp_ends.specs.Logs.{sent_by}
+use Rattle.std.proofs.Common.{◌≡◌, ◌-◌, ◌≤◌, take, length, IsTrue}
+use Rattle.dcp_ends.specs.Logs.{IsInRange, sent_by}
+use Rattle.std.specs.List.{All}
 use Rattle.rounds.specs.Steps.{Added}
 use Rattle.rounds.proofs.one_end.send_outgoing.Given as goal
 
@@ -8,8 +9,10 @@ invariant-sends g l =
     record {
       in_range : l.i ≤ length (g.E.Seat.outs l.end);
       is_open : IsTrue (g.N.Net.is_open l.net);
+      opening : g.N.Net.opening l.net ≡ g.N.Net.opening l.fn.net;
       added : Added g.N.Net.calls l.fn.net l.net l.fn.log.items l.log.items (sent_by (g.E.Seat.rules l.end).place (take l.i (g.E.Seat.outs l.end)));
-      later : g.N.Net.count l.fn.net ≤ g.N.Net.count l.net;
+      still : g.N.Net.count l.net ≡ g.N.Net.count l.fn.net;
+      range : All IsInRange l.fn.log.items → All IsInRange l.log.items;
     }
 
 abbrev pub decreases-sends : goal.decreases-sends
