@@ -13,4 +13,3 @@ mod traces;
 
 pub use laws::tables_are_rows;
 pub use runs::write_run;
-pub use traces::fits_trace;

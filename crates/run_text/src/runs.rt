@@ -4,7 +4,8 @@ ghost use Rattle.std.specs.Prelude.{◌≡◌, ◌<◌, ◌^◌, All, List, leng
 ghost use Rattle.dcp_ends.specs.Events.{Event};
 ghost use Rattle.scenario.specs.Sound.{IsScenario};
 ghost use Rattle.byte_spool.specs.Outputs.{Delivers};
-ghost use Rattle.dcp_record.specs.Traces.{IsInRange, trace_bytes};
+ghost use Rattle.dcp_ends.specs.Logs.{IsInRange};
+ghost use Rattle.dcp_record.specs.Traces.{trace_bytes};
 ghost use Rattle.master_core.specs.Standing.{StandsAfter, setup_of};
 ghost use Rattle.run_text.specs.Runs.{DeliversBoth, all_bits, text_after};
 

@@ -1,9 +1,10 @@
 //! The trace of a run of all ends.
 
-ghost use Rattle.std.specs.Prelude.{◌≡◌, ◌≤◌, ◌<◌, ◌^◌, true, All, length};
+ghost use Rattle.std.specs.Prelude.{◌≡◌, ◌≤◌, ◌<◌, ◌^◌, All, length};
 ghost use Rattle.scenario.specs.Sound.{IsScenario};
 ghost use Rattle.byte_spool.specs.Outputs.{Delivers};
-ghost use Rattle.dcp_record.specs.Traces.{IsInRange, trace_bytes};
+ghost use Rattle.dcp_ends.specs.Logs.{IsInRange};
+ghost use Rattle.dcp_record.specs.Traces.{trace_bytes};
 ghost use Rattle.run_text.specs.Runs.{all_bits};
 
 use byte_spool::Delivery;
@@ -11,33 +12,6 @@ use dcp_ends::LogEntry;
 use dcp_io::Sink;
 use dcp_record::write_record;
 use scenario::Scenario;
-
-/// Whether each entry of a log has a form in a trace: an end sends 1 to 1,024 bytes, and is given at most
-/// 1,025.
-pub fn fits_trace(log: &[LogEntry]) -> bool
-    ensures { result ≡ true → All IsInRange log.now }
-{
-    for entry in log {
-        if !is_in_range(entry) {
-            return false;
-        }
-    }
-    true
-}
-
-/// Whether an entry has a form in a trace.
-fn is_in_range(entry: &LogEntry) -> bool
-    ensures { result ≡ true → IsInRange entry.now }
-{
-    match entry {
-        LogEntry::Sent { bytes, .. } => {
-            let size = bytes.as_slice().len();
-            1 <= size && size <= 1_024
-        }
-        LogEntry::Got { bytes, .. } => bytes.as_slice().len() <= 1_025,
-        LogEntry::Idle { .. } | LogEntry::Turn { .. } => true,
-    }
-}
 
 /// All ends of a scenario of so many slaves as bits: bit 0 for the master, and bit s for slave s.
 fn bits_of(slaves: usize) -> u32
