@@ -25,20 +25,20 @@ pub told_either : {N T : Type 0} (calls : N → Option (List LogEntry)) (Whole C
 told_either calls Whole Cut before now old new (Ok x) whole cut = tells_added (calls before) (calls now) old new whole.part whole.added.log whole.added.told
 told_either calls Whole Cut before now old new (Err e) whole cut = tells_added (calls before) (calls now) old new cut.part cut.added.log cut.added.told
 
-module _ {M S : Type 0} (first : Ghosts M) (seat : Ghosts S) (own : Option Rules) (others : List Rules) (master : Option M) (slaves : List S) (log : List LogEntry) where
-  pub slaves_cut : (fault : Option HostFault) → AreSound first seat own others master slaves log fault → AllToldUpTo seat.stands seat.rules slaves log
+module _ {M S : Type 0} (first : Ghosts M) (seat : Ghosts S) (own : Option Rules) (others : List Rules) (setup : Option first.Made) (setups : List seat.Made) (master : Option M) (slaves : List S) (log : List LogEntry) where
+  pub slaves_cut : (fault : Option HostFault) → AreSound first seat own others setup setups master slaves log fault → AllToldUpTo seat.stands seat.rules slaves log
   slaves_cut None sound = AllCut-told seat.stands seat.rules slaves log sound.state.told_slaves
   slaves_cut (Some fault) sound = sound.state.cut_slaves
 
-  pub master_cut : (fault : Option HostFault) → AreSound first seat own others master slaves log fault → IfSome master (λ end. IsToldUpTo first.stands (first.rules end) end log)
+  pub master_cut : (fault : Option HostFault) → AreSound first seat own others setup setups master slaves log fault → IfSome master (λ end. IsToldUpTo first.stands (first.rules end) end log)
   master_cut None sound = first_cut first.stands first.rules log master sound.state.told_master
   master_cut (Some fault) sound = sound.state.cut_master
 
-  pub slaves_run : (fault : Option HostFault) → fault ≡ None → AreSound first seat own others master slaves log fault → AllTold seat.stands seat.rules slaves log
+  pub slaves_run : (fault : Option HostFault) → fault ≡ None → AreSound first seat own others setup setups master slaves log fault → AllTold seat.stands seat.rules slaves log
   slaves_run None none sound = sound.state.told_slaves
   slaves_run (Some fault) none sound = cc
 
-  pub master_run : (fault : Option HostFault) → fault ≡ None → AreSound first seat own others master slaves log fault → IfSome master (λ end. IsTold first.stands (first.rules end) end log)
+  pub master_run : (fault : Option HostFault) → fault ≡ None → AreSound first seat own others setup setups master slaves log fault → IfSome master (λ end. IsTold first.stands (first.rules end) end log)
   master_run None none sound = sound.state.told_master
   master_run (Some fault) none sound = cc
 

@@ -9,6 +9,8 @@ use Rattle.scenario.specs.Lookups.{slave_at}
 use Rattle.slave_spec.specs.declared.words.Setup.{Setup}
 use Rattle.slave_spec.specs.Slaves.{rules_from}
 use Rattle.master_spec.specs.Rules.{master_rules}
+use Rattle.master_spec.specs.Setup.{setup_from}
+use Rattle.master_spec.specs.declared.setups.Setup as master
 use Rattle.host.specs.declared.hosted.Hosted.{Hosted}
 
 -- bit s - 1 stands for slave s, from 1
@@ -48,6 +50,14 @@ master_of sc hosted = if hosted.master then Some (master_rules sc) else None
 -- the rules of the hosted slaves, in the order of their numbers
 abbrev pub slaves_of : Scenario → Hosted → List Rules
 slaves_of sc hosted = map (slave_rules sc) (hosted_slaves sc hosted)
+
+-- what the master is made from, where it is hosted
+abbrev pub master_setup_of : Scenario → Hosted → Option master.Setup
+master_setup_of sc hosted = if hosted.master then Some (setup_from sc) else None
+
+-- what the hosted slaves are made from, in the order of their numbers
+abbrev pub slave_setups_of : Scenario → Hosted → List Setup
+slave_setups_of sc hosted = map (slave_setup sc) (hosted_slaves sc hosted)
 
 -- ---- the network
 

@@ -12,13 +12,12 @@ use Rattle.host.specs.declared.hosted.Hosted.{Hosted}
 use Rattle.host.specs.declared.hosted.Progress.{Progress}
 use Rattle.host.specs.declared.hosted.Progress.TheVariants.{Going, Done}
 use Rattle.slave_spec.specs.declared.words.Setup as slave
-use Rattle.slave_spec.specs.Slaves as slaves
-use Rattle.master_spec.specs.declared.setups.Setup as master
 use Rattle.master_spec.specs.declared.reports.Report.{Report}
 use Rattle.master_spec.specs.Course.{Course, course}
-use Rattle.master_spec.specs.Rules as masters
+use Rattle.master_spec.specs.Setup.{setup_from}
 use Rattle.master_core.specs.Columns.{value_at}
-use Rattle.host.specs.Hosting.{hosted_slave, master_of, slave_rules, slaves_of}
+use Rattle.slave_desc.specs.declared.descriptions.SlaveDesc.{SlaveDesc}
+use Rattle.host.specs.Hosting.{hosted_slave, master_of, slave_setup, slaves_of}
 
 pub record HostView : Type 0 where
   pub scenario : Scenario
@@ -56,24 +55,23 @@ progress_of done = if done then Done else Going
 -- ---- what is read of the ends
 
 -- what happened to the master, the newest first
-abbrev pub course_in : HostView → master.Setup → Course
-course_in host setup = course setup (reverse (events_at host.scenario.master host.log))
+abbrev pub course_in : HostView → Course
+course_in host = course (setup_from host.scenario) (reverse (events_at host.scenario.master host.log))
 
--- where the master is hosted, a master of the scenario's rules gives this; else it is this other
-abbrev pub IsMasters : {A : Type 0} → HostView → (other : A) → (master.Setup → A) → A → Type 0
-IsMasters host other reading result =
-    MatchBool host.hosted.master ((setup : master.Setup) × (masters.rules_from setup ≡ masters.master_rules host.scenario) × (result ≡ reading setup)) (result ≡ other)
+abbrev pub report_in : HostView → Option Report
+report_in host = if host.hosted.master then (course_in host).report else None
 
-abbrev pub IsReport : HostView → Option Report → Type 0
-IsReport host result = IsMasters host None (λ setup. (course_in host setup).report) result
+abbrev pub row_count_in : HostView → ℕ
+row_count_in host = if host.hosted.master then length (course_in host).rows else 0
 
-abbrev pub IsRowCount : HostView → ℕ → Type 0
-IsRowCount host result = IsMasters host 0 (λ setup. length (course_in host setup).rows) result
+abbrev pub value_in : HostView → (k slave port : ℕ) → Option ℤ
+value_in host k slave port = if host.hosted.master then value_at (setup_from host.scenario).slaves (course_in host).rows k slave port else None
 
-abbrev pub IsValue : HostView → (k slave port : ℕ) → Option ℤ → Type 0
-IsValue host k slave port result = IsMasters host None (λ setup. value_at setup.slaves (course_in host setup).rows k slave port) result
+-- what this gives of a slave and of all that happened to it
+abbrev pub of_slave : {A : Type 0} → HostView → (slave.Setup → List Event → Option A) → Option SlaveDesc → Option A
+of_slave host reading None = None
+of_slave host reading (Some d) = reading (slave_setup host.scenario d) (events_at d.address host.log)
 
--- where this slave of the scenario is hosted, a slave of its rules gives this; else there is none
-abbrev pub IsSlaves : {A : Type 0} → HostView → (s : ℕ) → (slave.Setup → List Event → Option A) → Option A → Type 0
-IsSlaves host s reading result = MatchOption (hosted_slave host.scenario host.hosted s) (result ≡ None)
-    (λ d. (setup : slave.Setup) × (slaves.rules_from setup ≡ slave_rules host.scenario d) × (result ≡ reading setup (events_at d.address host.log)))
+-- the same of the slave of a number, where it is hosted
+abbrev pub slave_in : {A : Type 0} → HostView → (s : ℕ) → (slave.Setup → List Event → Option A) → Option A
+slave_in host s reading = of_slave host reading (hosted_slave host.scenario host.hosted s)

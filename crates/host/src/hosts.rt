@@ -42,7 +42,7 @@ pub struct Host {
 
 impl Model for Host {
     ghost use Rattle.std.specs.Prelude.{◌≡◌};
-    ghost use Rattle.host.specs.Hosting.{master_of, slaves_of, opening_of};
+    ghost use Rattle.host.specs.Hosting.{master_of, slaves_of, master_setup_of, slave_setups_of, opening_of};
     ghost use Rattle.host.specs.Views.{HostView};
     ghost use Rattle.host.specs.Hosts.{AreSound};
 
@@ -52,7 +52,7 @@ impl Model for Host {
 
     ghost invariant = { λ h. (h.opening ≡ opening_of h.scenario h.hosted)
         × AreSound ⟦<MasterSeat as Seat>⟧ ⟦<SlaveSeat as Seat>⟧
-        (master_of h.scenario h.hosted) (slaves_of h.scenario h.hosted) h.master h.slaves.items h.log.items h.fault };
+        (master_of h.scenario h.hosted) (slaves_of h.scenario h.hosted) (master_setup_of h.scenario h.hosted) (slave_setups_of h.scenario h.hosted) h.master h.slaves.items h.log.items h.fault };
 }
 
 impl Host {
@@ -105,6 +105,7 @@ impl Host {
         ensures kept { IfSome self.old.fault (λ fault. (result ≡ Err fault) × (self.new ≡ self.old) × (net.new ≡ net.old)) }
         ensures setup { (self.new.scenario ≡ self.old.scenario) × (self.new.hosted ≡ self.old.hosted) }
         ensures is_open { self.old.fault ≡ None → IsTrue (N.is_open net.new) }
+        ensures opening { N.opening net.new ≡ N.opening net.old }
         ensures ok { self.old.fault ≡ None → OnOk result (AddsPart N.calls (IsRound (master_in self.old) (slaves_in self.old) self.old.log) net.old net.new self.old.log self.new.log) }
         ensures err { self.old.fault ≡ None → OnErr result (AddsPart N.calls (IsRoundPart (master_in self.old) (slaves_in self.old) self.old.log) net.old net.new self.old.log self.new.log) }
         ensures progress { IfOk result (λ progress. progress ≡ progress_of (is_done (master_in self.old) (slaves_in self.old) self.new.log)) }

@@ -1,12 +1,12 @@
 //! How the hosted ends are made.
 
-ghost use Rattle.std.specs.Prelude.{◌≡◌, ◌≤◌, ◌+◌, ◌++◌, List, All, length, map, IfOk, OnOk};
+ghost use Rattle.std.specs.Prelude.{◌≡◌, ◌≤◌, ◌+◌, ◌++◌, List, Some, None, if◌then◌else◌, All, length, map, IfOk, OnOk};
 ghost use Rattle.std.specs.List.{AllZip};
-ghost use Rattle.dcp_ends.specs.Events.{Rules};
 ghost use Rattle.slave_desc.specs.Descriptions.{IsDesc};
 ghost use Rattle.scenario.specs.Sound.{IsScenario};
-ghost use Rattle.host.specs.Hosting.{hosted_from, master_of, slave_rules, slaves_of};
-ghost use Rattle.host.specs.Seats.{IsFresh, IsFirstFresh};
+ghost use Rattle.slave_spec.specs.declared.words.Setup.{Setup};
+ghost use Rattle.host.specs.Hosting.{hosted_from, hosted_slaves};
+ghost use Rattle.host.specs.Seats.{IsFresh, IsFirstFresh, Making, master_making, slave_making};
 
 use crate::copies::copied_desc;
 use crate::hosted::Hosted;
@@ -34,7 +34,7 @@ fn seated_slave(
 ) -> Result<SlaveSeat, OutOfMemory>
     requires desc { IsDesc desc.now }
     requires micro { (1 ≤ scenario.now.micro) × (scenario.now.micro ≤ 1000) }
-    ensures { IfOk result (λ seat. IsFresh ⟦<SlaveSeat as Seat>⟧ seat (slave_rules scenario.now desc.now)) }
+    ensures { IfOk result (λ seat. IsFresh ⟦<SlaveSeat as Seat>⟧ seat (slave_making scenario.now desc.now)) }
 {
     let end = new_slave(alloc, copied_desc(alloc, desc)?, scenario.micro)?;
     Seated::new(alloc, end)
@@ -53,8 +53,8 @@ fn seat_hosted(
     requires micro { (1 ≤ scenario.now.micro) × (scenario.now.micro ≤ 1000) }
     requires descs { All (λ d. IsDesc d) descs.now }
     requires number { (1 ≤ slave) × (slave + length descs.now ≤ 17) }
-    ensures { OnOk result ((all : List Rules) → AllZip (IsFresh ⟦<SlaveSeat as Seat>⟧) seats.old.items all
-        → AllZip (IsFresh ⟦<SlaveSeat as Seat>⟧) seats.new.items (all ++ map (slave_rules scenario.now) (hosted_from hosted slave descs.now))) }
+    ensures { OnOk result ((all : List (Making Setup)) → AllZip (IsFresh ⟦<SlaveSeat as Seat>⟧) seats.old.items all
+        → AllZip (IsFresh ⟦<SlaveSeat as Seat>⟧) seats.new.items (all ++ map (slave_making scenario.now) (hosted_from hosted slave descs.now))) }
 {
     let [desc, rest @ ..] = descs else {
         return Ok(());
@@ -73,7 +73,7 @@ pub(crate) fn seated_slaves(
     hosted: Hosted,
 ) -> Result<Vec<SlaveSeat>, OutOfMemory>
     requires { IsScenario scenario.now }
-    ensures { IfOk result (λ seats. AllZip (IsFresh ⟦<SlaveSeat as Seat>⟧) seats.items (slaves_of scenario.now hosted)) }
+    ensures { IfOk result (λ seats. AllZip (IsFresh ⟦<SlaveSeat as Seat>⟧) seats.items (map (slave_making scenario.now) (hosted_slaves scenario.now hosted))) }
 {
     let mut seats = Vec::new(alloc);
     let descs = scenario.slaves.as_slice();
@@ -88,7 +88,7 @@ pub(crate) fn seated_master(
     hosted: Hosted,
 ) -> Result<Option<MasterSeat>, OutOfMemory>
     requires { IsScenario scenario.now }
-    ensures { IfOk result (λ seat. IsFirstFresh (IsFresh ⟦<MasterSeat as Seat>⟧) seat (master_of scenario.now hosted)) }
+    ensures { IfOk result (λ seat. IsFirstFresh (IsFresh ⟦<MasterSeat as Seat>⟧) seat (if hosted.master then Some (master_making scenario.now) else None)) }
 {
     if !hosted.master {
         return Ok(None);

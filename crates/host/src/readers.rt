@@ -1,13 +1,13 @@
 //! What is read of a host, at any time.
 
 ghost use Rattle.std.specs.Prelude.{◌≡◌, Some, None, is_some, option_copied, slice_get, All, IfSome};
-ghost use Rattle.dcp_ends.specs.Logs.{events_at};
+ghost use Rattle.dcp_ends.specs.Logs.{IsInRange, events_at};
 ghost use Rattle.rounds.specs.Told.{Follows, FollowsUpTo};
-ghost use Rattle.master_spec.specs.Rules.{master_rules};
+ghost use Rattle.master_spec.specs.Setup.{setup_from};
 ghost use Rattle.slave_spec.specs.Slaves.{state_after, steps_after, fault_after};
-ghost use Rattle.host.specs.Hosting.{hosted_slave, hosted_slaves, slave_rules};
+ghost use Rattle.host.specs.Hosting.{hosted_slave, hosted_slaves, slave_setup};
 ghost use Rattle.host.specs.Seats.{IsFirstFound, IsFound, IsPlace};
-ghost use Rattle.host.specs.Views.{IsReport, IsRowCount, IsValue, IsSlaves, master_in, slaves_in};
+ghost use Rattle.host.specs.Views.{master_in, report_in, row_count_in, slave_in, slaves_in, value_in};
 
 use crate::hosted::Hosted;
 use crate::hosts::Host;
@@ -17,7 +17,7 @@ use dcp_slave::SlaveEnd;
 use dcp_types::{FaultCode, State};
 use master_core::{MasterCore, Report};
 use poll_loop::EndTask;
-use rounds::Seat;
+use rounds::{HostFault, Seat};
 use scenario::{Scenario, slave_at};
 
 /// The place of a hosted slave among those that are hosted, from 0.
@@ -64,20 +64,28 @@ impl Host {
         ensures follows { self.now.fault ≡ None → All (λ rules. Follows rules self.now.log) (slaves_in self.now) }
         ensures cut_master { IfSome (master_in self.now) (λ rules. FollowsUpTo rules self.now.log) }
         ensures cut { All (λ rules. FollowsUpTo rules self.now.log) (slaves_in self.now) }
+        ensures range { All IsInRange self.now.log }
     {
         &self.log
     }
 
+    /// The fault that stopped the rounds, if one did.
+    pub fn fault(&self) -> Option<HostFault>
+        ensures { result ≡ self.now.fault }
+    {
+        self.fault
+    }
+
     /// The seat of the master, where it is hosted.
     fn master_seat(&self) -> Option<&MasterSeat>
-        ensures { IsFirstFound ⟦<MasterSeat as Seat>⟧.stands ⟦<MasterSeat as Seat>⟧.rules self.now.scenario self.now.log self.now.hosted.master (option_copied result) }
+        ensures { IsFirstFound ⟦<MasterSeat as Seat>⟧.stands ⟦<MasterSeat as Seat>⟧.made self.now.scenario self.now.log self.now.hosted.master (option_copied result) }
     {
         self.master.as_ref()
     }
 
     /// How the run ended, once it has. None where no master is hosted.
     pub fn report(&self) -> Option<Report>
-        ensures { IsReport self.now result }
+        ensures { result ≡ report_in self.now }
     {
         match self.master_seat() {
             Some(seat) => seat.end().report(),
@@ -87,7 +95,7 @@ impl Host {
 
     /// How many rows are whole. 0 where no master is hosted.
     pub fn rows(&self) -> u32
-        ensures { IsRowCount self.now result }
+        ensures { result ≡ row_count_in self.now }
     {
         match self.master_seat() {
             Some(seat) => seat.end().rows(),
@@ -98,7 +106,7 @@ impl Host {
     /// The value of a port in row k, which counts over all runs; slaves count from 1, ports from 0. None
     /// where there is no such row, slave or port, or no master is hosted.
     pub fn row(&self, k: u32, slave: u8, port: u8) -> Option<i128>
-        ensures { IsValue self.now k slave port result }
+        ensures { result ≡ value_in self.now k slave port }
     {
         match self.master_seat() {
             Some(seat) => seat.end().row(k, slave, port),
@@ -109,7 +117,7 @@ impl Host {
     /// The task of the master, whose end stands for its events in the log. None where it is not hosted.
     pub fn master_task(&self) -> Option<&EndTask<MasterCore>>
         ensures hosted { is_some result ≡ self.now.hosted.master }
-        ensures rules { IfSome result (λ task. ⟦<MasterCore as End>⟧.rules task.now.end ≡ master_rules self.now.scenario) }
+        ensures made { IfSome result (λ task. ⟦<MasterCore as End>⟧.made task.now.end ≡ setup_from self.now.scenario) }
         ensures stands { IfSome result (λ task. ⟦<MasterCore as End>⟧.stands task.now.end (events_at self.now.scenario.master self.now.log)) }
     {
         match self.master_seat() {
@@ -120,7 +128,7 @@ impl Host {
 
     /// The seat of a hosted slave.
     fn seat_of(&self, slave: u8) -> Option<&SlaveSeat>
-        ensures { IsFound ⟦<SlaveSeat as Seat>⟧.stands ⟦<SlaveSeat as Seat>⟧.rules self.now.scenario self.now.log (hosted_slave self.now.scenario self.now.hosted slave) (option_copied result) }
+        ensures { IsFound ⟦<SlaveSeat as Seat>⟧.stands ⟦<SlaveSeat as Seat>⟧.made self.now.scenario self.now.log (hosted_slave self.now.scenario self.now.hosted slave) (option_copied result) }
     {
         match place_of(&self.scenario, self.hosted, slave) {
             Some(place) => seat_at(&self.slaves, place),
@@ -131,7 +139,7 @@ impl Host {
     /// The task of a slave, whose end stands for its events in the log. None where it is not hosted.
     pub fn slave_task(&self, slave: u8) -> Option<&EndTask<SlaveEnd>>
         ensures hosted { is_some result ≡ is_some (hosted_slave self.now.scenario self.now.hosted slave) }
-        ensures rules { IfSome (hosted_slave self.now.scenario self.now.hosted slave) (λ d. IfSome result (λ task. ⟦<SlaveEnd as End>⟧.rules task.now.end ≡ slave_rules self.now.scenario d)) }
+        ensures made { IfSome (hosted_slave self.now.scenario self.now.hosted slave) (λ d. IfSome result (λ task. ⟦<SlaveEnd as End>⟧.made task.now.end ≡ slave_setup self.now.scenario d)) }
         ensures stands { IfSome (hosted_slave self.now.scenario self.now.hosted slave) (λ d. IfSome result (λ task. ⟦<SlaveEnd as End>⟧.stands task.now.end (events_at d.address self.now.log))) }
     {
         match self.seat_of(slave) {
@@ -142,7 +150,7 @@ impl Host {
 
     /// The steps that a hosted slave has taken since the last reset.
     pub fn slave_steps(&self, slave: u8) -> Option<u32>
-        ensures { IsSlaves self.now slave (λ setup events. Some (steps_after setup events)) result }
+        ensures { result ≡ slave_in self.now slave (λ setup events. Some (steps_after setup events)) }
     {
         match self.seat_of(slave) {
             Some(seat) => Some(seat.end().steps_taken()),
@@ -152,7 +160,7 @@ impl Host {
 
     /// The state of a hosted slave.
     pub fn slave_state(&self, slave: u8) -> Option<State>
-        ensures { IsSlaves self.now slave (λ setup events. Some (state_after setup events)) result }
+        ensures { result ≡ slave_in self.now slave (λ setup events. Some (state_after setup events)) }
     {
         match self.seat_of(slave) {
             Some(seat) => Some(seat.end().state()),
@@ -162,7 +170,7 @@ impl Host {
 
     /// The newest fault of a hosted slave. None where there was none, or it is not hosted.
     pub fn slave_fault(&self, slave: u8) -> Option<FaultCode>
-        ensures { IsSlaves self.now slave fault_after result }
+        ensures { result ≡ slave_in self.now slave fault_after }
     {
         match self.seat_of(slave) {
             Some(seat) => seat.end().fault(),

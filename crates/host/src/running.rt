@@ -25,9 +25,10 @@ pub(crate) fn run<M: Seat, S: Seat, N: Net>(
     room: &mut Room,
 ) -> Result<Progress, HostFault>
     requires is_open { IsTrue (N.is_open net.old) }
-    requires sound { AreSound M.Seat S.Seat (option_map M.rules master.old) (map S.rules slaves.old.items) master.old slaves.old.items log.old.items None }
+    requires sound { AreSound M.Seat S.Seat (option_map M.rules master.old) (map S.rules slaves.old.items) (option_map M.made master.old) (map S.made slaves.old.items) master.old slaves.old.items log.old.items None }
     ensures is_open { IsTrue (N.is_open net.new) }
-    ensures sound { AreSound M.Seat S.Seat (option_map M.rules master.old) (map S.rules slaves.old.items) master.new slaves.new.items log.new.items (fault_of result) }
+    ensures opening { N.opening net.new ≡ N.opening net.old }
+    ensures sound { AreSound M.Seat S.Seat (option_map M.rules master.old) (map S.rules slaves.old.items) (option_map M.made master.old) (map S.made slaves.old.items) master.new slaves.new.items log.new.items (fault_of result) }
     ensures ok { OnOk result (AddsPart N.calls (IsRound (option_map M.rules master.old) (map S.rules slaves.old.items) log.old.items) net.old net.new log.old.items log.new.items) }
     ensures err { OnErr result (AddsPart N.calls (IsRoundPart (option_map M.rules master.old) (map S.rules slaves.old.items) log.old.items) net.old net.new log.old.items log.new.items) }
     ensures progress { IfOk result (λ progress. progress ≡ progress_of (is_done (option_map M.rules master.old) (map S.rules slaves.old.items) log.new.items)) }

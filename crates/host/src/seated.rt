@@ -81,6 +81,10 @@ impl<E: End> Seated<E> {
 }
 
 impl<E: End> Seat for Seated<E> {
+    ghost Made = { E.Made };
+
+    ghost made = { E.made };
+
     ghost stands = { E.stands };
 
     ghost rules = { E.rules };

@@ -1,5 +1,5 @@
 use Rattle.std.proofs.Common.{◌∙◌, sym, refl}
-use Rattle.host.specs.Hosting.{slave_rules}
+use Rattle.host.specs.Seats.{slave_making}
 use Rattle.host.proofs.Fresh.{first_with, first_without}
 use Rattle.host.proofs.making.+seat_hosted.Goals.{then-has+in_ok-seated_slave+in_ok-push, else-has}
 use Rattle.host.proofs.making.+seat_hosted.Goals as goal
@@ -7,9 +7,9 @@ use Rattle.host.proofs.making.+seat_hosted.Goals as goal
 pub returns : goal.returns
 returns t c = elim c.if-has.branch [
   | then-has+in_ok-seated_slave+in_ok-push w ↦
-      first_with _ (slave_rules c.args.scenario.now) c.args.hosted c.args.slave c.args.seats.now.items c.if-has.seats.items _ c.args.descs.now _ c.desc-item.result refl c.in-len1-up.len_at_least c.desc-item.is
+      first_with _ (slave_making c.args.scenario.now) c.args.hosted c.args.slave c.args.seats.now.items c.if-has.seats.items _ c.args.descs.now _ c.desc-item.result refl c.in-len1-up.len_at_least c.desc-item.is
       w.in_ok-seated_slave.field-0 (sym c.has.ensures ∙ w.if-has.true) (rw w.seats-is w.in_ok-push.ensures.items) w.in_ok-seated_slave.ensures c.in_ok-seat_hosted.ensures
   | else-has w ↦
-      first_without _ (slave_rules c.args.scenario.now) c.args.hosted c.args.slave c.args.seats.now.items c.if-has.seats.items _ c.args.descs.now _ refl c.in-len1-up.len_at_least
+      first_without _ (slave_making c.args.scenario.now) c.args.hosted c.args.slave c.args.seats.now.items c.if-has.seats.items _ c.args.descs.now _ refl c.in-len1-up.len_at_least
       (sym c.has.ensures ∙ w.if-has.false) (rw w.seats-is refl) c.in_ok-seat_hosted.ensures
 ]

@@ -1,4 +1,4 @@
-use Rattle.slave_spec.specs.Slaves.{rules_from, fault_after}
+use Rattle.slave_spec.specs.Slaves.{fault_after}
 use Rattle.host.specs.Hosting.{hosted_slave}
 use Rattle.host.proofs.Found.{slave_read}
 use Rattle.host.proofs.TheEnds.{slave_stands, slave_setup_in}
@@ -9,5 +9,5 @@ returns-in-Some c =
     let host = c.args.self.now in
     let found = rw c.in-Some.is at c.seat_of.ensures in
     let says = rw c.end.ensures at c.fault.ensures in
-    slave_read slave_stands rules_from slave_setup_in host.scenario host.log (fault_after) (hosted_slave host.scenario host.hosted c.args.slave) c.in-Some.seat.now (c.fault.result) found
+    slave_read slave_stands slave_setup_in host (fault_after) (hosted_slave host.scenario host.hosted c.args.slave) c.in-Some.seat.now (c.fault.result) found
     (λ events stands. says events stands)

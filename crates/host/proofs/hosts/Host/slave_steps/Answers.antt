@@ -1,5 +1,5 @@
 use Rattle.std.proofs.Common.{ap, Some}
-use Rattle.slave_spec.specs.Slaves.{rules_from, steps_after}
+use Rattle.slave_spec.specs.Slaves.{steps_after}
 use Rattle.host.specs.Hosting.{hosted_slave}
 use Rattle.host.proofs.Found.{slave_read}
 use Rattle.host.proofs.TheEnds.{slave_stands, slave_setup_in}
@@ -10,5 +10,5 @@ returns-in-Some c =
     let host = c.args.self.now in
     let found = rw c.in-Some.is at c.seat_of.ensures in
     let says = rw c.end.ensures at c.steps_taken.ensures in
-    slave_read slave_stands rules_from slave_setup_in host.scenario host.log (λ setup events. Some (steps_after setup events)) (hosted_slave host.scenario host.hosted c.args.slave) c.in-Some.seat.now (Some c.steps_taken.result) found
+    slave_read slave_stands slave_setup_in host (λ setup events. Some (steps_after setup events)) (hosted_slave host.scenario host.hosted c.args.slave) c.in-Some.seat.now (Some c.steps_taken.result) found
     (λ events stands. ap (λ x. Some x) (says events stands))
