@@ -1,19 +1,112 @@
 -- What was made of an input and written is the outcome of its status.
-use Rattle.std.proofs.Common.{◌≡◌, ℕ, List, Option, refl, ap, ◌∙◌}
-use Rattle.commands.specs.declared.statuses.Judgement.{Judgement}
-use Rattle.commands.specs.declared.statuses.Judgement.TheVariants.{Good, Refused}
+use Rattle.std.proofs.Common.{◌≡◌, ◌⊎◌, ◌≤◌, inl, inr, ℕ, List, [], length, Option, refl, sym, ap, subst, ◌∙◌}
+use Rattle.dcp_io.specs.Faults.{Rose}
 use Rattle.byte_spool.specs.declared.outputs.Delivery.{Delivery}
 use Rattle.byte_spool.specs.declared.outputs.Delivery.TheVariants.{Whole, Cut}
-use Rattle.commands.specs.Changes.{Change}
-use Rattle.commands.specs.Outcomes.{Answered, Outcome}
+use Rattle.byte_spool.specs.Outputs.{Delivers}
+use Rattle.byte_spool.proofs.Pieces.{nothing_added}
+use Rattle.host.specs.Views.{HostView}
+use Rattle.master_spec.specs.declared.reports.Report.{Report}
+use Rattle.master_spec.specs.declared.reports.Report.TheVariants as reports
+use Rattle.run_text.specs.Runs.{DeliversBoth}
+use Rattle.commands.specs.declared.command_words.Command.{Command}
+use Rattle.commands.specs.declared.command_words.Command.TheVariants.{Decode, Encode, Describe, Reference, Talk, Run}
+use Rattle.commands.specs.declared.answers.Unsaid.{Unsaid}
+use Rattle.commands.specs.declared.answers.Unsaid.TheVariants as unsaid
+use Rattle.commands.specs.declared.statuses.Judgement.{Judgement}
+use Rattle.commands.specs.declared.statuses.Judgement.TheVariants.{Good, Failed, Refused}
+use Rattle.commands.specs.declared.statuses.Status.{Status}
+use Rattle.commands.specs.declared.statuses.Status.TheVariants.{Done, Usage, BadInput, RunFailed, ReadFault, WriteFault, NetFault, OutOfMemory, Differs}
+use Rattle.text_lines.specs.Readings.{IsFirstBad}
+use Rattle.text_lines.specs.declared.reasons.TextRefused.{TextRefused}
+use Rattle.text_lines.specs.declared.reasons.TextRefused.TheVariants as refusals
+use Rattle.scenario_text.specs.Judging.{scenario_why_at}
+use Rattle.commands.specs.Answers.{Delivered, RunDelivered, judgement_of_report}
+use Rattle.commands.specs.declared.said.Said.{Said}
+use Rattle.commands.specs.Changes.{Change, NetChange}
+use Rattle.commands.specs.Refusals.{RefusesText}
+use Rattle.commands.specs.Said.{text_of}
+use Rattle.commands.specs.CommandWords.{IsCommand}
+use Rattle.commands.specs.Outcomes.{Answered, IsFree, Outcome}
+use Rattle.commands.specs.Says.{Stops}
+use Rattle.commands.specs.SaysRun.{HasEnded, NetTold, RunsTo, SaysRun, StopsRun, run_text, run_trace}
 use Rattle.commands.specs.Statuses.{status_after}
 
-module _ (words : List (List ℕ)) (source out : Change) where
-  pub outcome_is : (judgement : Judgement) (delivery : Delivery) → Answered words source out judgement delivery → Outcome words source out (status_after judgement delivery)
+-- a text that was written to the one sink, with nothing for the other
+pub text_alone : (held holds : Option (List ℕ)) (before now : ℕ) (kept : Option (List ℕ)) (count : ℕ) (text : List ℕ) (delivery : Delivery)
+    → Delivers held holds before now text delivery → DeliversBoth held holds before now kept kept count count text [] delivery
+text_alone held holds before now kept count text Whole written = (written, (nothing_added kept, refl))
+text_alone held holds before now kept count text Cut written = inl (written, refl, refl)
+
+wrong : unsaid.NetFault ≡ unsaid.OutOfMemory → ⊥
+wrong same = absurd cc
+
+-- only a run is stopped by a fault of the network
+pub stops_run : (command : Command) (input : List ℕ) (before now : ℕ) → Stops command input before now unsaid.NetFault → (command ≡ Run) × StopsRun input before now unsaid.NetFault
+stops_run Decode input before now stopped = absurd (wrong stopped.0)
+stops_run Encode input before now stopped = absurd (wrong stopped.0)
+stops_run Describe input before now stopped = absurd (wrong stopped.0)
+stops_run Reference input before now stopped = absurd (wrong stopped.0)
+stops_run Talk input before now stopped = absurd (wrong stopped.0)
+stops_run Run input before now stopped = (refl, stopped)
+
+-- where memory was wanting, the network has not failed
+pub stops_still : (command : Command) (input : List ℕ) (before now : ℕ) → Stops command input before now unsaid.OutOfMemory → now ≡ before
+stops_still Decode input before now stopped = stopped.1
+stops_still Encode input before now stopped = stopped.1
+stops_still Describe input before now stopped = stopped.1
+stops_still Reference input before now stopped = stopped.1
+stops_still Talk input before now stopped = stopped.1
+stops_still Run input before now stopped = stopped
+
+-- a text that no scenario is, refused at its first line that is refused
+pub refused_run : (net : NetTold) (input : List ℕ) (refusal : TextRefused) (said : Said) → length input ≤ 1048576 → IsFirstBad scenario_why_at input refusal → RefusesText refusal said
+    → SaysRun net input said.judgement (text_of said.text) []
+refused_run net input (refusals.Fault fault) said short bad refuses =
+    let Judged : Judgement → Type 0 = λ judgement. SaysRun net input judgement (text_of said.text) [] in
+    subst Judged (sym refuses.0) (inl (short, (fault.line, fault.why, bad, refuses.1)), refl)
+refused_run net input refusals.OutOfMemory said short bad refuses = absurd refuses
+
+-- what is delivered of a run is what the command says of its text
+pub run_says : (held holds : Option (List ℕ)) (before now : ℕ) (kept keeps : Option (List ℕ)) (began ends : ℕ) (net : NetTold) (input : List ℕ) (host : HostView) (status : Status)
+    → HasEnded net input host → RunDelivered held holds before now kept keeps began ends input host status → Delivered held holds before now kept keeps began ends Run net input status
+run_says held holds before now kept keeps began ends net input host status ended run =
+    let text = run_text host run.report in
+    let traced = run_trace input host in
+    let runs : RunsTo net input run.report text traced =
+        record { host = host; ended = ended; master = run.master; slaves = run.slaves; reported = run.reported; text_is = refl; trace_is = refl } in
+    (judgement_of_report run.report, run.delivery, text, traced, says run.report text traced runs, run.delivered, run.status_is)
+  where
+    says : (report : Report) (text traced : List ℕ) → RunsTo net input report text traced → SaysRun net input (judgement_of_report report) text traced
+    says (reports.Finished steps) text traced runs = (steps, runs)
+    says (reports.Failed slave phase cause) text traced runs = (slave, phase, cause, runs)
+
+module _ (words : List (List ℕ)) (source out trace : Change) (net : NetChange) where
+  pub outcome_is : (judgement : Judgement) (delivery : Delivery) → Answered words source out trace net judgement delivery → Outcome words source out trace net (status_after judgement delivery)
   outcome_is Good Whole answered = answered
-  outcome_is Good Cut answered = answered
+  outcome_is Good Cut answered = inl answered
+  outcome_is Failed Whole answered = answered
+  outcome_is Failed Cut answered = inr answered
   outcome_is Refused Whole answered = (Whole, answered)
   outcome_is Refused Cut answered = (Cut, answered)
+
+  -- of an answer that was cut off, one of the sinks failed
+  cut_failed : (judgement : Judgement) → Answered words source out trace net judgement Cut → Rose out.before out.now ⊎ Rose trace.before trace.now
+  cut_failed judgement answered = elim answered.8 [ inl first ↦ inl first.0.4 | inr second ↦ inr second.1.4 ]
+
+  -- where nothing failed, the status is free
+  pub outcome_free : (status : Status) → Outcome words source out trace net status → IsCommand words → (Rose source.before source.now → ⊥) → (Rose out.before out.now → ⊥)
+      → (Rose trace.before trace.now → ⊥) → (Rose net.before net.now → ⊥) → IsFree status
+  outcome_free Done outcome named read written traced called = tt
+  outcome_free RunFailed outcome named read written traced called = tt
+  outcome_free BadInput outcome named read written traced called = tt
+  outcome_free OutOfMemory outcome named read written traced called = tt
+  outcome_free Usage outcome named read written traced called = outcome.1 named
+  outcome_free ReadFault outcome named read written traced called = read outcome.2
+  outcome_free NetFault outcome named read written traced called = called outcome.4.1
+  outcome_free Differs outcome named read written traced called = outcome
+  outcome_free WriteFault (inl good) named read written traced called = elim (cut_failed Good good) [ inl first ↦ written first | inr second ↦ traced second ]
+  outcome_free WriteFault (inr failed) named read written traced called = elim (cut_failed Failed failed) [ inl first ↦ written first | inr second ↦ traced second ]
 
 abbrev pub change : Option (List ℕ) → Option (List ℕ) → (before now : ℕ) → Change
 change was is before now = record { was = was; is = is; before = before; now = now }

@@ -1,6 +1,7 @@
--- What happened to an object of the program in a call.
+-- What happened to the objects of the program in a call.
 use Rattle.std.specs.Prelude.{◌≡◌, ℕ, List, Option}
 use Rattle.dcp_io.specs.Faults.{Rose}
+use Rattle.commands.specs.SaysRun.{NetTold}
 
 -- The bytes that it told before and tells now, where it tells them: what a source had left and has left, or what a sink held and holds. And its counts of faults before and now.
 pub record Change : Type 0 where
@@ -14,3 +15,9 @@ HasFailed c = Rose c.before c.now
 
 abbrev pub HasNotFailed : Change → Type 0
 HasNotFailed c = c.now ≡ c.before
+
+-- what the network tells now, and its counts of faults before and now
+pub record NetChange : Type 0 where
+  pub told : NetTold
+  pub before : ℕ
+  pub now : ℕ

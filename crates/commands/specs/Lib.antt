@@ -9,7 +9,9 @@ pub mod SaysEncoded
 pub mod SaysDescribed
 pub mod SaysReference
 pub mod SaysTalk
+pub mod SaysRun
 pub mod Says
+pub mod Answers
 pub mod Changes
 pub mod Outcomes
 pub mod Programs

@@ -1,51 +1,55 @@
 -- What a call of the program answers, by its status: why, what of the source was taken, and what was written.
-use Rattle.std.specs.Prelude.{◌≡◌, ℕ, List, codes}
+use Rattle.std.specs.Prelude.{◌≡◌, ◌⊎◌, ℕ, List, [], codes}
 use Rattle.commands.specs.declared.command_words.Command.{Command}
+use Rattle.commands.specs.declared.command_words.Command.TheVariants.{Run}
+use Rattle.commands.specs.declared.answers.Unsaid.TheVariants as unsaid
 use Rattle.commands.specs.declared.statuses.Status.{Status}
 use Rattle.commands.specs.declared.statuses.Status.TheVariants.{Done, Usage, BadInput, RunFailed, ReadFault, WriteFault, NetFault, OutOfMemory, Differs}
 use Rattle.commands.specs.declared.statuses.Judgement.{Judgement}
-use Rattle.commands.specs.declared.statuses.Judgement.TheVariants.{Good, Refused}
+use Rattle.commands.specs.declared.statuses.Judgement.TheVariants.{Good, Failed, Refused}
 use Rattle.byte_spool.specs.declared.outputs.Delivery.{Delivery}
 use Rattle.byte_spool.specs.declared.outputs.Delivery.TheVariants.{Whole, Cut}
-use Rattle.byte_spool.specs.Outputs.{Delivers}
-use Rattle.commands.specs.Changes.{Change, HasFailed, HasNotFailed}
+use Rattle.run_text.specs.Runs.{DeliversBoth}
+use Rattle.commands.specs.Changes.{Change, NetChange, HasFailed, HasNotFailed}
 use Rattle.commands.specs.CommandWords.{Names, IsCommand}
 use Rattle.commands.specs.Inputs.{TakesInput, TakesSome}
 use Rattle.commands.specs.Says.{Says}
+use Rattle.commands.specs.SaysRun.{StopsRun}
 
--- these words were given, and this happened to the source and the sink
-module _ (words : List (List ℕ)) (source out : Change) where
-  -- the text was written so
-  abbrev pub Wrote : List ℕ → Delivery → Type 0
-  Wrote = Delivers out.was out.is out.before out.now
+-- these words were given, and this happened to the source, the two sinks and the network
+module _ (words : List (List ℕ)) (source out trace : Change) (net : NetChange) where
+  -- the text was written to the one sink, and then the trace to the other
+  abbrev pub Wrote : (text traced : List ℕ) → Delivery → Type 0
+  Wrote = DeliversBoth out.was out.is out.before out.now trace.was trace.is trace.before trace.now
 
-  -- the words name a command, the whole input was taken and no read failed, the command judged it so, and what it says of it was written so
+  -- no write failed
+  abbrev pub WritesNothing : Type 0
+  WritesNothing = HasNotFailed out × HasNotFailed trace
+
+  -- the words name a command, the whole input was taken and neither a read nor the network failed, the command judged it so, and what it says of it was written so
   abbrev pub Answered : Judgement → Delivery → Type 0
   Answered judgement delivery =
-      (command : Command) × (input : List ℕ) × (text : List ℕ)
+      (command : Command) × (input : List ℕ) × (text : List ℕ) × (traced : List ℕ)
       × Names words command × TakesInput source.was source.is input × HasNotFailed source
-      × Says command input judgement text × Wrote text delivery
+      × Says command net.told input judgement text traced × Wrote text traced delivery × (net.now ≡ net.before)
 
   abbrev pub Outcome : Status → Type 0
   Outcome Done = Answered Good Whole
-  Outcome WriteFault = Answered Good Cut
+  Outcome RunFailed = Answered Failed Whole
+  Outcome WriteFault = Answered Good Cut ⊎ Answered Failed Cut
   Outcome BadInput = (delivery : Delivery) × Answered Refused delivery
-  Outcome Usage = (delivery : Delivery) × (IsCommand words → ⊥) × HasNotFailed source × Wrote (codes "usage\n") delivery
-  Outcome ReadFault = IsCommand words × TakesSome source.was source.is × HasFailed source × HasNotFailed out
-  Outcome OutOfMemory = IsCommand words × TakesSome source.was source.is × HasNotFailed source × HasNotFailed out
-  Outcome RunFailed = ⊥
-  Outcome NetFault = ⊥
+  Outcome Usage = (delivery : Delivery) × (IsCommand words → ⊥) × HasNotFailed source × Wrote (codes "usage\n") [] delivery
+  Outcome ReadFault = IsCommand words × TakesSome source.was source.is × HasFailed source × WritesNothing
+  Outcome NetFault =
+      (input : List ℕ) × Names words Run × TakesInput source.was source.is input × HasNotFailed source
+      × StopsRun input net.before net.now unsaid.NetFault × WritesNothing
+  Outcome OutOfMemory = IsCommand words × TakesSome source.was source.is × HasNotFailed source × WritesNothing × (net.now ≡ net.before)
   Outcome Differs = ⊥
-
--- the answers that come before anything is written
-abbrev pub ComesBeforeWriting : Status → Type 0
-ComesBeforeWriting ReadFault = Unit {0}
-ComesBeforeWriting OutOfMemory = Unit {0}
-ComesBeforeWriting _ = ⊥
 
 -- the answers to a command whose objects do not fail
 abbrev pub IsFree : Status → Type 0
 IsFree Done = Unit {0}
+IsFree RunFailed = Unit {0}
 IsFree BadInput = Unit {0}
 IsFree OutOfMemory = Unit {0}
 IsFree _ = ⊥

@@ -23,3 +23,4 @@ decode_word TooLong = codes "TOO_LONG"
 abbrev pub SaysDecoded : List ℕ → Judgement → List ℕ → Type 0
 SaysDecoded input judged.Good text = (message : Message) × Spells message input × (text ≡ line_of message)
 SaysDecoded input judged.Refused text = (at : ℕ) × (why : DecodeWhy) × Refusal input at why × (text ≡ byte_refusal at (decode_word why))
+SaysDecoded input judged.Failed text = ⊥

@@ -19,3 +19,4 @@ SaysReference input judged.Good text =
     (scenario : Scenario) × (rows : List (List ℤ)) × (fault : Option RefFault)
     × ReadsAsScenario input scenario × IsReference scenario rows fault × (text ≡ reference_text scenario.steps rows fault)
 SaysReference input judged.Refused text = (line : ℕ) × (why : TextWhy) × FirstBad scenario_why_at input line why × (text ≡ line_refusal line (cause_word why))
+SaysReference input judged.Failed text = ⊥

@@ -1,9 +1,9 @@
--- The exit status of each answer, and which answer follows a judgement and its delivery.
+-- The exit status of each answer, which answer follows a judgement and its delivery, and when it comes.
 use Rattle.std.specs.Prelude.{ℕ}
 use Rattle.commands.specs.declared.statuses.Status.{Status}
 use Rattle.commands.specs.declared.statuses.Status.TheVariants.{Done, Usage, BadInput, RunFailed, ReadFault, WriteFault, NetFault, OutOfMemory, Differs}
 use Rattle.commands.specs.declared.statuses.Judgement.{Judgement}
-use Rattle.commands.specs.declared.statuses.Judgement.TheVariants.{Good, Refused}
+use Rattle.commands.specs.declared.statuses.Judgement.TheVariants.{Good, Failed, Refused}
 use Rattle.byte_spool.specs.declared.outputs.Delivery.{Delivery}
 use Rattle.byte_spool.specs.declared.outputs.Delivery.TheVariants.{Whole, Cut}
 
@@ -22,5 +22,21 @@ status_code Differs = 8
 abbrev pub status_after : Judgement → Delivery → Status
 status_after Good Whole = Done
 status_after Good Cut = WriteFault
+status_after Failed Whole = RunFailed
+status_after Failed Cut = WriteFault
 status_after Refused Whole = BadInput
 status_after Refused Cut = BadInput
+
+-- the answers that come before anything is written
+abbrev pub ComesBeforeWriting : Status → Type 0
+ComesBeforeWriting ReadFault = Unit {0}
+ComesBeforeWriting NetFault = Unit {0}
+ComesBeforeWriting OutOfMemory = Unit {0}
+ComesBeforeWriting _ = ⊥
+
+-- the answers for which the network is not called
+abbrev pub ComesWithoutNet : Status → Type 0
+ComesWithoutNet Usage = Unit {0}
+ComesWithoutNet BadInput = Unit {0}
+ComesWithoutNet ReadFault = Unit {0}
+ComesWithoutNet _ = ⊥

@@ -16,6 +16,8 @@ pub enum Command {
     Reference,
     /// Prints what one slave says to the events of a talk.
     Talk,
+    /// Runs a scenario over the network, and prints its rows and its report.
+    Run,
 }
 
 impl Command {
@@ -37,6 +39,9 @@ impl Command {
         }
         if word == "talk" {
             return Some(Command::Talk);
+        }
+        if word == "run" {
+            return Some(Command::Run);
         }
         None
     }

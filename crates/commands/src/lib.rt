@@ -6,6 +6,7 @@
 //! library, and gives the exit status.
 #![tactic(auto)]
 
+mod answers;
 mod command_words;
 mod inputs;
 mod programs;

@@ -1,7 +1,9 @@
 //! The program over readers and writers of the standard library.
 
-ghost use Rattle.std.specs.Prelude.{◌≡◌};
+ghost use Rattle.std.specs.Prelude.{◌≡◌, ◌⊎◌};
 ghost use Rattle.std.specs.Process.{exit_status};
+ghost use Rattle.commands.specs.declared.command_words.Command.TheVariants.{Run};
+ghost use Rattle.commands.specs.CommandWords.{Names};
 ghost use Rattle.commands.specs.Programs.{ExitsWith};
 
 use crate::top_calls::run_words;
@@ -34,10 +36,11 @@ pub fn run_program<R: io::Read + Drop, W: io::Write + Drop, E: io::Write + Drop>
     writer: W,
     errors: E,
 ) -> Ended<R, W, E>
-    ensures outcome { ExitsWith words.now (R.remaining reader) (R.remaining result.reader) (W.contents writer) (W.contents result.writer) (exit_status result.code) }
+    ensures outcome { ExitsWith words.now (R.remaining reader) (R.remaining result.reader) (W.contents writer) (W.contents result.writer)
+        (E.contents errors) (E.contents result.errors) (exit_status result.code) }
     ensures unread { exit_status result.code ≡ 1 → result.reader ≡ reader }
-    ensures unwritten { exit_status result.code ≡ 4 → result.writer ≡ writer }
-    ensures untouched { result.errors ≡ errors }
+    ensures unwritten { exit_status result.code ≡ 4 → (result.writer ≡ writer) × (result.errors ≡ errors) }
+    ensures untouched { Names words.now Run ⊎ (result.errors ≡ errors) }
 {
     let mut source = StdSource::new(reader);
     let mut out = StdSink::new(writer);

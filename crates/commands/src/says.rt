@@ -1,29 +1,42 @@
 //! What each command says of an input.
 
-ghost use Rattle.std.specs.Prelude.{IfOk};
-ghost use Rattle.commands.specs.Said.{text_of};
-ghost use Rattle.commands.specs.Says.{Says};
+ghost use Rattle.std.specs.Prelude.{◌≡◌, ◌⊎◌, IfErr, IfOk};
+ghost use Rattle.commands.specs.Answers.{Gives, IsRefusal, IsText, IsWritableAnswer};
+ghost use Rattle.commands.specs.Says.{Stops};
 
 mod decode;
 mod describe;
 mod encode;
 mod reference;
+mod run;
 mod talk;
 
+use crate::answers::{Answer, Unsaid};
 use crate::command_words::Command;
-use crate::said::Said;
-use dcp_types::OutOfMemory;
+use dcp_net::Net;
 use std::alloc::Global;
 
-/// What the command says of an input that was read.
-pub fn say(alloc: Global, command: Command, input: &[u8]) -> Result<Said, OutOfMemory>
-    ensures { IfOk result (λ said. Says command input.now said.judgement (text_of said.text)) }
+/// What the command says of an input that was read. Only `run` calls the network, and only where its text
+/// reads.
+pub fn say<N: Net>(
+    alloc: Global,
+    command: Command,
+    input: &[u8],
+    net: &mut N,
+) -> Result<Answer, Unsaid>
+    ensures says { IfOk result (Gives command (record { calls = N.calls net.new; opening = N.opening net.new }) input.now) }
+    ensures writable { IfOk result (IsWritableAnswer input.now) }
+    ensures refused { IfOk result (λ answer. IsRefusal answer → net.new ≡ net.old) }
+    ensures still { IfOk result (λ answer. N.count net.new ≡ N.count net.old) }
+    ensures stopped { IfErr result (Stops command input.now (N.count net.old) (N.count net.new)) }
+    ensures alone { (command ≡ Command.Run) ⊎ (IfOk result IsText × (net.new ≡ net.old)) }
 {
     match command {
-        Command::Decode => decode::say_decoded(alloc, input),
-        Command::Encode => encode::say_encoded(alloc, input),
-        Command::Describe => describe::say_described(alloc, input),
-        Command::Reference => reference::say_reference(alloc, input),
-        Command::Talk => talk::say_talk(alloc, input),
+        Command::Decode => Ok(Answer::Said(decode::say_decoded(alloc, input)?)),
+        Command::Encode => Ok(Answer::Said(encode::say_encoded(alloc, input)?)),
+        Command::Describe => Ok(Answer::Said(describe::say_described(alloc, input)?)),
+        Command::Reference => Ok(Answer::Said(reference::say_reference(alloc, input)?)),
+        Command::Talk => Ok(Answer::Said(talk::say_talk(alloc, input)?)),
+        Command::Run => run::say_run(alloc, input, net),
     }
 }

@@ -62,6 +62,8 @@ impl Status {
 pub enum Judgement {
     /// The form of the input is good, and what is said is the command's result.
     Good,
+    /// The form of the input is good, and what is said is how the simulation failed.
+    Failed,
     /// The form of the input is refused, and what is said is the line that names the place and the
     /// reason.
     Refused,
@@ -75,7 +77,8 @@ impl Judgement {
     {
         match (self, delivery) {
             (Judgement::Good, Delivery::Whole) => Status::Done,
-            (Judgement::Good, Delivery::Cut) => Status::WriteFault,
+            (Judgement::Failed, Delivery::Whole) => Status::RunFailed,
+            (Judgement::Good | Judgement::Failed, Delivery::Cut) => Status::WriteFault,
             (Judgement::Refused, _) => Status::BadInput,
         }
     }

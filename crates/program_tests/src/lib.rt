@@ -11,4 +11,6 @@ mod programs;
 #[cfg(test)]
 mod rows;
 #[cfg(test)]
+mod runs;
+#[cfg(test)]
 mod tables;

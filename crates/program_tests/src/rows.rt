@@ -140,6 +140,28 @@ talk|slave count/uuid 00000000-0000-0000-0000-000000000001/address 127.0.0.1 900
 talk|slave count/uuid 00000000-0000-0000-0000-000000000001/address 127.0.0.1 9001/model counter 1000/output 1 uint32/begin now/|2|input: line 6 WORDS/
 talk|slave count/uuid 00000000-0000-0000-0000-000000000001/address 127.0.0.1 9001/model counter 1000/output 1 uint32/|2|input: line 6 MISSING/";
 
+/// Runs over a network in memory: whole ones, with messages that come twice, late or not at all; runs that
+/// fail for each cause that a network can bring about; intervals, and several runs of one registration.
+const RUNS: &str = "\
+run|steps 3/master 127.0.0.1 9000/slave count/uuid 00000000-0000-0000-0000-000000000001/address 127.0.0.1 9001/model counter 1000/output 1 uint32/|0|0 0/1 1/2 2/3 3/finished 3/
+run|steps 0/master 127.0.0.1 9000/slave count/uuid 00000000-0000-0000-0000-000000000001/address 127.0.0.1 9001/model counter 1000/output 1 uint32/|0|0 0/finished 0/
+run|steps 5/master 127.0.0.1 9000/slave amp/uuid 00000000-0000-0000-0000-000000000001/address 127.0.0.1 9001/model gain 131072/input 1 int32/output 2 int32/slave acc/uuid 00000000-0000-0000-0000-000000000002/address 127.0.0.1 9002/model integrator 10 32768/input 1 int32/output 2 int32/wire amp 0 acc 0/wire acc 0 amp 0/|0|0 0 10/1 20 10/2 20 20/3 40 30/4 60 50/5 100 80/finished 5/
+run|steps 5/master 127.0.0.1 9000/slave amp/uuid 00000000-0000-0000-0000-000000000001/address 127.0.0.1 9001/model gain 131072/input 1 int32/output 2 int32/slave acc/uuid 00000000-0000-0000-0000-000000000002/address 127.0.0.1 9002/model integrator 10 32768/input 1 int32/output 2 int32/wire amp 0 acc 0/wire acc 0 amp 0/chaos 1 0 1000 0/|0|0 0 10/1 20 10/2 20 20/3 40 30/4 60 50/5 100 80/finished 5/
+run|steps 5/master 127.0.0.1 9000/slave amp/uuid 00000000-0000-0000-0000-000000000001/address 127.0.0.1 9001/model gain 131072/input 1 int32/output 2 int32/slave acc/uuid 00000000-0000-0000-0000-000000000002/address 127.0.0.1 9002/model integrator 10 32768/input 1 int32/output 2 int32/wire amp 0 acc 0/wire acc 0 amp 0/copy 1 e0 6 20/|0|0 0 10/1 20 10/2 20 20/3 40 30/4 60 50/5 100 80/finished 5/
+run|steps 5/master 127.0.0.1 9000/slave amp/uuid 00000000-0000-0000-0000-000000000001/address 127.0.0.1 9001/model gain 131072/input 1 int32/output 2 int32/slave acc/uuid 00000000-0000-0000-0000-000000000002/address 127.0.0.1 9002/model integrator 10 32768/input 1 int32/output 2 int32/wire amp 0 acc 0/wire acc 0 amp 0/drop 1 f0 4/|3|0 0 10/1 20 10/failed slave 2 phase 10 InputsMissing seq 26 step 2/
+run|steps 5/master 127.0.0.1 9000/slave amp/uuid 00000000-0000-0000-0000-000000000001/address 127.0.0.1 9001/model gain 131072/input 1 int32/output 2 int32/slave acc/uuid 00000000-0000-0000-0000-000000000002/address 127.0.0.1 9002/model integrator 10 32768/input 1 int32/output 2 int32/wire amp 0 acc 0/wire acc 0 amp 0/drop 1 f0 3/|3|0 0 10/failed slave 1 phase 9 DataMissing step 1/
+run|tries 3/steps 3/master 127.0.0.1 9000/slave count/uuid 00000000-0000-0000-0000-000000000001/address 127.0.0.1 9001/model counter 1000/output 1 uint32/drop 1 b0 0/|3|failed slave 1 phase 1 NoAnswer seq 0/
+run|steps 6/master 127.0.0.1 9000/slave fall/uuid 00000000-0000-0000-0000-000000000001/address 127.0.0.1 9001/model ramp 3 -1/output 1 int32/slave da/uuid 00000000-0000-0000-0000-000000000002/address 127.0.0.1 9002/model divider 12/input 1 int32/output 2 int32/slave db/uuid 00000000-0000-0000-0000-000000000003/address 127.0.0.1 9003/model divider -7/input 1 int32/output 2 int32/wire fall 0 da 0/wire fall 0 db 0/|3|0 3 0 0/1 2 262144 -152918/2 1 393216 -229376/3 0 786432 -458752/failed slave 2 phase 14 Faulted seq 32 code 33/
+run|steps 3/master 127.0.0.1 9000/slave count/uuid 00000000-0000-0000-0000-000000000001/address 127.0.0.1 9001/model counter 1000/output 1 uint32/drop 1 b0 11/|0|0 0/1 1/2 2/3 3/finished 3/
+run|steps 3/master 127.0.0.1 9000/slave count/uuid 00000000-0000-0000-0000-000000000001/address 127.0.0.1 9001/model const 300/output 1 uint8/|3|failed slave 1 phase 5 Faulted seq 12 code 34/
+run|state_limit 4/steps 3/master 127.0.0.1 9000/slave count/uuid 00000000-0000-0000-0000-000000000001/address 127.0.0.1 9001/model counter 1000/busy 50/output 1 uint32/|3|0 0/failed slave 1 phase 8 Stuck seq 17 state 12/
+run|steps 3/master 127.0.0.1 9000/slave count/uuid 00000000-0000-0000-0000-000000000001/address 127.0.0.1 9001/model counter 1000/busy 50/output 1 uint32/|0|0 0/1 1/2 2/3 3/finished 3/
+run|steps 5/master 127.0.0.1 9000/slave amp/uuid 00000000-0000-0000-0000-000000000001/address 127.0.0.1 9001/model gain 131072/input 1 int32/output 2 int32/slave acc/uuid 00000000-0000-0000-0000-000000000002/address 127.0.0.1 9002/model integrator 10 32768/input 1 int32/output 2 int32/wire amp 0 acc 0/wire acc 0 amp 0/every amp acc 2/|0|0 0 10/1 20 10/2 20 10/3 20 20/4 40 30/5 60 50/finished 5/
+run|steps 5/master 127.0.0.1 9000/slave amp/uuid 00000000-0000-0000-0000-000000000001/address 127.0.0.1 9001/model gain 131072/input 1 int32/output 2 int32/slave acc/uuid 00000000-0000-0000-0000-000000000002/address 127.0.0.1 9002/model integrator 10 32768/input 1 int32/output 2 int32/wire amp 0 acc 0/wire acc 0 amp 0/every amp acc 2/drop 1 f0 5/|3|0 0 10/1 20 10/2 20 10/failed slave 2 phase 12 InputsMissing seq 31 step 3/
+run|runs 2/steps 3/master 127.0.0.1 9000/slave count/uuid 00000000-0000-0000-0000-000000000001/address 127.0.0.1 9001/model counter 1000/output 1 uint32/rerun_set 2 count 0 2/|0|0 0/1 1/2 2/3 3/4 0/5 1/6 0/7 1/finished 3/
+run|runs 2/steps 3/master 127.0.0.1 9000/slave count/uuid 00000000-0000-0000-0000-000000000001/address 127.0.0.1 9001/model ramp 0 1/output 1 uint32/rerun_set 2 count 0 100/copy 1 f0 1 69/|0|0 0/1 1/2 2/3 3/4 100/5 101/6 102/7 103/finished 3/
+run|runs 2/steps 3/master 127.0.0.1 9000/slave fall/uuid 00000000-0000-0000-0000-000000000001/address 127.0.0.1 9001/model ramp 3 -1/output 1 int32/slave da/uuid 00000000-0000-0000-0000-000000000002/address 127.0.0.1 9002/model divider 12/input 1 int32/output 2 int32/slave db/uuid 00000000-0000-0000-0000-000000000003/address 127.0.0.1 9003/model divider -7/input 1 int32/output 2 int32/wire fall 0 da 0/wire fall 0 db 0/rerun_set 2 fall 0 1/|3|0 3 0 0/1 2 262144 -152918/2 1 393216 -229376/3 0 786432 -458752/4 1 0 0/5 0 786432 -458752/failed slave 2 phase 24 Faulted seq 50 code 33/";
+
 /// Reads and writes that fail, and sinks with little room.
 const FAULTS: &str = "\
 describe|slave count/uuid 00000000-0000-0000-0000-000000000001/address 127.0.0.1 9001/model counter 1000/output 1 uint32/|4||2
@@ -193,6 +215,11 @@ fn reference_writes_the_rows_and_the_line_after_them(rt: HostRuntime) -> Result<
 #[test]
 fn talk_writes_what_the_slave_says_or_the_first_refused_line(rt: HostRuntime) -> Result<(), Fail> {
     run_all(&rt, rt.alloc(), TALKS)
+}
+
+#[test]
+fn run_writes_the_rows_and_the_report(rt: HostRuntime) -> Result<(), Fail> {
+    run_all(&rt, rt.alloc(), RUNS)
 }
 
 #[test]

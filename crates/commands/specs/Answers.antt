@@ -1,0 +1,71 @@
+-- What an answer holds, and what is delivered of it.
+use Rattle.std.specs.Prelude.{◌≡◌, ◌≢◌, ℕ, ◌≤◌, List, [], length, Option, Some, None, IfSome, All}
+use Rattle.byte_spool.specs.declared.outputs.Delivery.{Delivery}
+use Rattle.scenario.specs.Sound.{IsScenario}
+use Rattle.master_spec.specs.declared.reports.Report.{Report}
+use Rattle.master_spec.specs.declared.reports.Report.TheVariants.{Finished}
+use Rattle.master_spec.specs.declared.reports.Report.TheVariants as reports
+use Rattle.rounds.specs.Told.{Follows}
+use Rattle.host.specs.Views.{HostView, master_in, slaves_in}
+use Rattle.scenario_runs.specs.Runs.{all_ends}
+use Rattle.run_text.specs.Runs.{DeliversBoth}
+use Rattle.commands.specs.declared.answers.Answer.{Answer}
+use Rattle.commands.specs.declared.answers.Answer.TheVariants.{Said, Ran}
+use Rattle.commands.specs.declared.command_words.Command.{Command}
+use Rattle.commands.specs.declared.command_words.Command.TheVariants.{Run}
+use Rattle.commands.specs.declared.statuses.Judgement.{Judgement}
+use Rattle.commands.specs.declared.statuses.Judgement.TheVariants.{Good, Failed, Refused}
+use Rattle.commands.specs.declared.statuses.Status.{Status}
+use Rattle.commands.specs.Inputs.{input_limit}
+use Rattle.commands.specs.Said.{text_of}
+use Rattle.commands.specs.Says.{Says}
+use Rattle.commands.specs.SaysRun.{HasEnded, NetTold, report_after, run_text, run_trace}
+use Rattle.commands.specs.Statuses.{status_after}
+
+-- a run that finished is good
+abbrev pub judgement_of_report : Report → Judgement
+judgement_of_report (Finished steps) = Good
+judgement_of_report (reports.Failed slave phase cause) = Failed
+
+-- what the command says of the input is in this answer
+abbrev pub Gives : Command → NetTold → (input : List ℕ) → Answer → Type 0
+Gives command net input (Said said) = Says command net input said.judgement (text_of said.text) []
+Gives command net input (Ran host) = (command ≡ Run) × HasEnded net input host
+
+-- the scenario is sound, all its ends are hosted, no fault stopped them, and the master has its report
+pub record IsWritable (input : List ℕ) (host : HostView) : Type 0 where
+  pub sound : IsScenario host.scenario
+  pub hosted : host.hosted ≡ all_ends
+  pub unfaulted : host.fault ≡ None
+  pub reported : report_after host ≢ None
+  pub short : length input ≤ input_limit
+
+abbrev pub IsWritableAnswer : (input : List ℕ) → Answer → Type 0
+IsWritableAnswer input (Said said) = Unit {0}
+IsWritableAnswer input (Ran host) = IsWritable input host
+
+abbrev pub IsText : Answer → Type 0
+IsText (Said said) = Unit {0}
+IsText (Ran host) = ⊥
+
+abbrev pub IsRefusal : Answer → Type 0
+IsRefusal (Said said) = said.judgement ≡ Refused
+IsRefusal (Ran host) = ⊥
+
+-- the two sinks told and tell this, with their counts of faults
+module _ (held holds : Option (List ℕ)) (before now : ℕ) (kept keeps : Option (List ℕ)) (began ends : ℕ) where
+  -- what the command says of the input was delivered, and the status follows from it
+  abbrev pub Delivered : Command → NetTold → (input : List ℕ) → Status → Type 0
+  Delivered command net input status =
+      (judgement : Judgement) × (delivery : Delivery) × (text : List ℕ) × (traced : List ℕ)
+      × Says command net input judgement text traced × DeliversBoth held holds before now kept keeps began ends text traced delivery × (status ≡ status_after judgement delivery)
+
+  -- what a run leaves was delivered: the rows and the report of the scenario's master, and the trace of ends that followed their rules
+  pub record RunDelivered (input : List ℕ) (host : HostView) (status : Status) : Type 0 where
+    pub report : Report
+    pub delivery : Delivery
+    pub master : IfSome (master_in host) (λ rules. Follows rules host.log)
+    pub slaves : All (λ rules. Follows rules host.log) (slaves_in host)
+    pub reported : report_after host ≡ Some report
+    pub delivered : DeliversBoth held holds before now kept keeps began ends (run_text host report) (run_trace input host) delivery
+    pub status_is : status ≡ status_after (judgement_of_report report) delivery

@@ -1,0 +1,82 @@
+-- What `run` says of a text.
+use Rattle.std.specs.Prelude.{◌≡◌, ℕ, ◌≤◌, List, [], length, reverse, Option, Some, IfSome, All}
+use Rattle.dcp_io.specs.Faults.{Rose}
+use Rattle.dcp_ends.specs.Events.{Event}
+use Rattle.dcp_ends.specs.Logs.{events_at}
+use Rattle.dcp_ends.specs.declared.entries.LogEntry.{LogEntry}
+use Rattle.dcp_net.specs.declared.openings.Opening.{Opening}
+use Rattle.dcp_record.specs.Traces.{trace_bytes}
+use Rattle.scenario.specs.declared.scenarios.Scenario.{Scenario}
+use Rattle.scenario_text.specs.Reads.{ReadsAsScenario}
+use Rattle.master_spec.specs.declared.causes.Cause.{Cause}
+use Rattle.master_spec.specs.declared.reports.Report.{Report}
+use Rattle.master_spec.specs.declared.reports.Report.TheVariants as reports
+use Rattle.master_spec.specs.Course.{course}
+use Rattle.master_spec.specs.Setup.{setup_from}
+use Rattle.run_text.specs.Runs.{all_bits, text_after}
+use Rattle.rounds.specs.Told.{Follows}
+use Rattle.host.specs.Hosting.{opening_of}
+use Rattle.host.specs.Views.{HostView, Tells, master_in, slaves_in}
+use Rattle.scenario_runs.specs.Runs.{IsWhole, all_ends}
+use Rattle.commands.specs.declared.answers.Unsaid.{Unsaid}
+use Rattle.commands.specs.declared.answers.Unsaid.TheVariants.{NetFault, OutOfMemory}
+use Rattle.commands.specs.declared.statuses.Judgement.{Judgement}
+use Rattle.commands.specs.declared.statuses.Judgement.TheVariants as judged
+use Rattle.commands.specs.Inputs.{input_limit}
+use Rattle.commands.specs.Refusals.{OfText}
+use Rattle.commands.specs.SaysReference.{SaysReference}
+
+-- what a network tells after a call, where it tells it: the sends and takes since it was opened, and what it was opened with
+pub record NetTold : Type 0 where
+  pub calls : Option (List LogEntry)
+  pub opening : Option Opening
+
+-- The host of all ends of a scenario has run whole rounds to the master's report. Where the network tells them, it was opened for these ends with the scenario's plan, and its calls are the host's log without its turns.
+pub record IsRun (net : NetTold) (host : HostView) : Type 0 where
+  pub hosted : host.hosted ≡ all_ends
+  pub whole : IsWhole host
+  pub opened : IfSome net.opening (λ opening. opening ≡ opening_of host.scenario all_ends)
+  pub told : Tells net.calls host.log
+
+-- the run of the scenario that this text is
+pub record HasEnded (net : NetTold) (input : List ℕ) (host : HostView) : Type 0 where
+  pub short : length input ≤ input_limit
+  pub reads : ReadsAsScenario input host.scenario
+  pub run : IsRun net host
+
+-- what happened to the master of a run, the newest first
+abbrev pub master_events : HostView → List Event
+master_events host = reverse (events_at host.scenario.master host.log)
+
+-- the report of the scenario's master after its events in the log
+abbrev pub report_after : HostView → Option Report
+report_after host = (course (setup_from host.scenario) (master_events host)).report
+
+-- the rows of the scenario's master after its events in the log, and the line of this report
+abbrev pub run_text : HostView → Report → List ℕ
+run_text host report = text_after host.scenario (setup_from host.scenario) (master_events host) report
+
+-- the trace of all ends, the input and the log
+abbrev pub run_trace : (input : List ℕ) → HostView → List ℕ
+run_trace input host = trace_bytes (all_bits (length host.scenario.slaves)) input host.log
+
+-- There is a run of the scenario that the text is, in whose log each end follows its rules, and after which its master has this report. The text is its rows and the report, and the trace is that of the run.
+pub record RunsTo (net : NetTold) (input : List ℕ) (report : Report) (text trace : List ℕ) : Type 0 where
+  pub host : HostView
+  pub ended : HasEnded net input host
+  pub master : IfSome (master_in host) (λ rules. Follows rules host.log)
+  pub slaves : All (λ rules. Follows rules host.log) (slaves_in host)
+  pub reported : report_after host ≡ Some report
+  pub text_is : text ≡ run_text host report
+  pub trace_is : trace ≡ run_trace input host
+
+-- a run that finished is good; a text that is no scenario is refused as `reference` refuses it
+abbrev pub SaysRun : NetTold → List ℕ → Judgement → (text trace : List ℕ) → Type 0
+SaysRun net input judged.Good text trace = (steps : ℕ) × RunsTo net input (reports.Finished steps) text trace
+SaysRun net input judged.Failed text trace = (slave : ℕ) × (phase : ℕ) × (cause : Cause) × RunsTo net input (reports.Failed slave phase cause) text trace
+SaysRun net input judged.Refused text trace = OfText SaysReference input judged.Refused text × (trace ≡ [])
+
+-- a run has no end only for want of memory, or where the network's count of faults rose; its text is a scenario then
+abbrev pub StopsRun : (input : List ℕ) → (before now : ℕ) → Unsaid → Type 0
+StopsRun input before now NetFault = ((scenario : Scenario) × ReadsAsScenario input scenario) × Rose before now
+StopsRun input before now OutOfMemory = now ≡ before

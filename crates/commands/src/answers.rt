@@ -1,0 +1,96 @@
+//! What a command answers to an input, and the writing of it.
+
+ghost use Rattle.std.specs.Prelude.{◌≡◌};
+ghost use Rattle.commands.specs.Answers.{Delivered, Gives, IsRefusal, IsText, IsWritable, IsWritableAnswer, RunDelivered, judgement_of_report};
+ghost use Rattle.commands.specs.Statuses.{ComesBeforeWriting, ComesWithoutNet};
+ghost use Rattle.commands.specs.SaysRun.{NetTold};
+ghost use Rattle.commands.specs.declared.command_words.Command.{Command};
+
+use crate::said::{Said, write_text};
+use crate::statuses::{Judgement, Status};
+use dcp_io::Sink;
+use dcp_types::OutOfMemory;
+use host::Host;
+use master_spec::Report;
+use run_text::write_run;
+
+/// What a command answers to an input.
+#[derive(Drop)]
+pub enum Answer {
+    /// A text.
+    Said(Said),
+    /// The host of all ends of a scenario, which have run until the master had its report.
+    Ran(Host),
+}
+
+/// Why a command has no answer.
+#[derive(Clone, Copy, Debug, PartialEq, Eq)]
+pub enum Unsaid {
+    /// The network failed.
+    NetFault,
+    /// Memory was refused.
+    OutOfMemory,
+}
+
+impl From<OutOfMemory> for Unsaid {
+    ghost use Rattle.commands.specs.declared.answers.Unsaid.TheVariants as unsaid;
+
+    ghost from_gives = { λ _ reason. reason ≡ unsaid.OutOfMemory };
+
+    fn from(_error: OutOfMemory) -> Unsaid {
+        Unsaid::OutOfMemory
+    }
+}
+
+/// What a report makes of a run.
+fn judgement_of(report: Report) -> Judgement
+    ensures { result ≡ judgement_of_report report }
+{
+    match report {
+        Report::Finished { .. } => Judgement::Good,
+        Report::Failed { .. } => Judgement::Failed,
+    }
+}
+
+/// Writes the rows and the report of a run to the one sink, and then its trace to the other, which is not
+/// begun where the first fails. `input` is the scenario's text as it was read.
+fn deliver_run<K: Sink, R: Sink>(
+    out: &mut K,
+    trace: &mut R,
+    host: &Host,
+    input: &[u8],
+) -> Status
+    requires { IsWritable input.now host.now }
+    ensures { RunDelivered (K.written out.old) (K.written out.new) (K.faults out.old) (K.faults out.new)
+        (R.written trace.old) (R.written trace.new) (R.faults trace.old) (R.faults trace.new) input.now host.now result }
+{
+    let Some(task) = host.master_task() else {
+        unreachable!()
+    };
+    let Some(report) = host.report() else {
+        unreachable!()
+    };
+    let delivery = write_run(out, trace, host.scenario(), task.end(), report, input, host.log());
+    judgement_of(report).status(delivery)
+}
+
+/// Writes a text to the one sink and nothing to the other; or what a run leaves to both.
+pub fn deliver<K: Sink, R: Sink>(
+    out: &mut K,
+    trace: &mut R,
+    answer: Answer,
+    input: &[u8],
+) -> Status
+    requires { IsWritableAnswer input.now answer }
+    ensures delivered { (command : Command) (net : NetTold) → Gives command net input.now answer
+        → Delivered (K.written out.old) (K.written out.new) (K.faults out.old) (K.faults out.new) (R.written trace.old) (R.written trace.new) (R.faults trace.old) (R.faults trace.new) command net input.now result }
+    ensures untouched { IsText answer → trace.new ≡ trace.old }
+    ensures written { ComesBeforeWriting result → ⊥ }
+    ensures used { result ≡ Status.Usage → ⊥ }
+    ensures refused { ComesWithoutNet result → IsRefusal answer }
+{
+    match answer {
+        Answer::Said(said) => said.judgement.status(write_text(out, &said.text)),
+        Answer::Ran(host) => deliver_run(out, trace, &host, input),
+    }
+}
