@@ -74,7 +74,7 @@ run_says held holds before now kept keeps began ends net input host status ended
     let text = run_text host run.report in
     let traced = run_trace input host in
     let runs : RunsTo net input run.report text traced =
-        record { host = host; ended = ended; master = run.master; slaves = run.slaves; reported = run.reported; text_is = refl; trace_is = refl } in
+    record { host = host; ended = ended; master = run.master; slaves = run.slaves; reported = run.reported; text_is = refl; trace_is = refl } in
     (judgement_of_report run.report, run.delivery, text, traced, says run.report text traced runs, run.delivered, run.status_is)
   where
     says : (report : Report) (text traced : List ℕ) → RunsTo net input report text traced → SaysRun net input (judgement_of_report report) text traced

@@ -54,12 +54,7 @@ fn judgement_of(report: Report) -> Judgement
 
 /// Writes the rows and the report of a run to the one sink, and then its trace to the other, which is not
 /// begun where the first fails. `input` is the scenario's text as it was read.
-fn deliver_run<K: Sink, R: Sink>(
-    out: &mut K,
-    trace: &mut R,
-    host: &Host,
-    input: &[u8],
-) -> Status
+fn deliver_run<K: Sink, R: Sink>(out: &mut K, trace: &mut R, host: &Host, input: &[u8]) -> Status
     requires { IsWritable input.now host.now }
     ensures { RunDelivered (K.written out.old) (K.written out.new) (K.faults out.old) (K.faults out.new)
         (R.written trace.old) (R.written trace.new) (R.faults trace.old) (R.faults trace.new) input.now host.now result }
@@ -70,17 +65,20 @@ fn deliver_run<K: Sink, R: Sink>(
     let Some(report) = host.report() else {
         unreachable!()
     };
-    let delivery = write_run(out, trace, host.scenario(), task.end(), report, input, host.log());
+    let delivery = write_run(
+        out,
+        trace,
+        host.scenario(),
+        task.end(),
+        report,
+        input,
+        host.log(),
+    );
     judgement_of(report).status(delivery)
 }
 
 /// Writes a text to the one sink and nothing to the other; or what a run leaves to both.
-pub fn deliver<K: Sink, R: Sink>(
-    out: &mut K,
-    trace: &mut R,
-    answer: Answer,
-    input: &[u8],
-) -> Status
+pub fn deliver<K: Sink, R: Sink>(out: &mut K, trace: &mut R, answer: Answer, input: &[u8]) -> Status
     requires { IsWritableAnswer input.now answer }
     ensures delivered { (command : Command) (net : NetTold) → Gives command net input.now answer
         → Delivered (K.written out.old) (K.written out.new) (K.faults out.old) (K.faults out.new) (R.written trace.old) (R.written trace.new) (R.faults trace.old) (R.faults trace.new) command net input.now result }

@@ -95,7 +95,10 @@ fn refusals(alloc: Global, port: u16) -> Result<Vec<ScriptGram>, Fail>
 #[test]
 fn only_the_slave_is_answered_for(rt: HostRuntime) -> Result<(), Fail> {
     let cases = [
-        (9_001, b"failed slave 1 phase 1 Refused seq 0 code 2\n".as_slice()),
+        (
+            9_001,
+            b"failed slave 1 phase 1 Refused seq 0 code 2\n".as_slice(),
+        ),
         (9_100, b"failed slave 1 phase 1 NoAnswer seq 0\n".as_slice()),
     ];
     for (port, text) in cases {

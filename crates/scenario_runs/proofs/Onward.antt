@@ -1,5 +1,5 @@
 -- One round more.
-use Rattle.std.proofs.Common.{◌≡◌, ◌≢◌, ℕ, zero, suc, ◌+◌, ◌-◌, ◌<◌, ◌≤◌, ◌==◌, Bool, true, false, Option, Some, None, Result, Err, List, [], ◌∷◌, ◌++◌, refl, ap, sym, ◌∙◌, subst, arith, inl, inr, if◌then◌else◌, reverse}
+use Rattle.std.proofs.Common.{◌≡◌, ℕ, ◌+◌, ◌-◌, ◌<◌, ◌≤◌, ◌==◌, Bool, true, false, Option, Some, None, Result, Err, List, [], ◌∷◌, ◌++◌, refl, ap, sym, ◌∙◌, arith, inr, if◌then◌else◌}
 use Rattle.std.specs.Prelude.{count_by}
 use Rattle.std.proofs.lemmas.List.Sums.{sum_by-cons, sum_by-append}
 use Rattle.std.proofs.lemmas.Bool.{eq-eqb, and_from}
@@ -7,7 +7,7 @@ use Rattle.dcp_types.specs.declared.addresses.Address.{Address}
 use Rattle.dcp_ends.specs.declared.entries.LogEntry.{LogEntry}
 use Rattle.dcp_ends.specs.declared.entries.LogEntry.TheVariants.{Turn}
 use Rattle.dcp_ends.specs.Events.{Rules}
-use Rattle.dcp_ends.specs.Logs.{same_address, events_at}
+use Rattle.dcp_ends.specs.Logs.{same_address}
 use Rattle.rounds.specs.Rounds.{IsTurn, IsTurns, IsRound, IsRoundPart, Rounds, has_report}
 use Rattle.scenario.specs.declared.scenarios.Scenario.{Scenario}
 use Rattle.scenario.specs.Sound.{IsScenario}

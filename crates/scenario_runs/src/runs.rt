@@ -50,11 +50,7 @@ fn run_on<N: Net>(host: &mut Host, net: &mut N) -> Result<(), HostFault>
 
 /// Runs all ends of a scenario over this network until the master has its report. The host that is
 /// answered has the log, the rows and the report.
-pub fn run_scenario<N: Net>(
-    alloc: Global,
-    scenario: Scenario,
-    net: &mut N,
-) -> Result<Host, Stopped>
+pub fn run_scenario<N: Net>(alloc: Global, scenario: Scenario, net: &mut N) -> Result<Host, Stopped>
     requires { IsScenario scenario }
     ensures setup { IfOk result (λ host. (host.scenario ≡ scenario) × (host.hosted ≡ all_ends)) }
     ensures whole { IfOk result (λ host. IsWhole host) }

@@ -11,5 +11,5 @@ returns-in-Ran-clause-delivered g c = λ command net gives.
     let after = c.deliver_run.new in
     let trace = c.args.trace.now in
     let Said : Command → Type 0 = λ word. Delivered (g.K.Sink.written out) (g.K.Sink.written after.out) (g.K.Sink.faults out) (g.K.Sink.faults after.out)
-        (g.R.Sink.written trace) (g.R.Sink.written after.trace) (g.R.Sink.faults trace) (g.R.Sink.faults after.trace) word net c.args.input.now c.deliver_run.result in
+    (g.R.Sink.written trace) (g.R.Sink.written after.trace) (g.R.Sink.faults trace) (g.R.Sink.faults after.trace) word net c.args.input.now c.deliver_run.result in
     subst Said (sym given.0) (run_says _ _ _ _ _ _ _ _ net c.args.input.now c.in-Ran.host c.deliver_run.result given.1 c.deliver_run.ensures)

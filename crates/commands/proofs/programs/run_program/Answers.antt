@@ -22,9 +22,9 @@ returns-clause-outcome g c =
     let run = c.run_words-status.new.net in
     let net : NetChange = record { told = record { calls = calls_of run.traffic; opening = opening_of run.traffic }; before = opened.faults; now = run.faults } in
     let Read : Change → Type 0 = λ read. Outcome c.args.words.now read (change (contents c.new-out.result.inner) (contents out.inner) c.new-out.result.faults out.faults)
-        (change (texts c.new-trace.result.inner) (texts trace.inner) c.new-trace.result.faults trace.faults) net status in
+    (change (texts c.new-trace.result.inner) (texts trace.inner) c.new-trace.result.faults trace.faults) net status in
     let Written : Change → Type 0 = λ written. Outcome c.args.words.now (change_of (remaining c.args.reader) (remaining c.into_inner.result) source.faults) written
-        (change (texts c.new-trace.result.inner) (texts trace.inner) c.new-trace.result.faults trace.faults) net status in
+    (change (texts c.new-trace.result.inner) (texts trace.inner) c.new-trace.result.faults trace.faults) net status in
     let Traced : Change → Type 0 = λ traced. Outcome c.args.words.now (change_of (remaining c.args.reader) (remaining c.into_inner.result) source.faults)
-        (change_of (contents c.args.writer) (contents c.into_inner-2.result) out.faults) traced net status in
+    (change_of (contents c.args.writer) (contents c.into_inner-2.result) out.faults) traced net status in
     (status, source.faults, out.faults, trace.faults, net, c.exit_code.ensures, subst Traced traced (subst Written written (subst Read read c.run_words-status.ensures.outcome)))

@@ -15,9 +15,11 @@ pub returns-in-Ok-run_scenario-clause-says : goal.returns-in-Ok-run_scenario-cla
 returns-in-Ok-run_scenario-clause-says g c =
     let e = c.in-Ok-run_scenario.ensures in
     let Read : Scenario → Type 0 = λ sc. ReadsAsScenario c.args.input.now sc in
-    let Opened : Scenario → Type 0 = λ sc. IfSome (g.N.Net.opening c.run_scenario.new.net) (λ opening. opening ≡ opening_of sc all_ends) in
-    (refl, record {
-      short = c.if-input-gt-LIMIT.false;
-      reads = subst Read (sym e.setup.0) c.in-Ok.ensures.ok;
-      run = record { hosted = e.setup.1; whole = e.whole; opened = subst Opened (sym e.setup.0) e.opening; told = e.told };
-    })
+    let Opened : Scenario → Type 0 = λ sc. IfSome (g.N.Net.opening c.run_scenario.new.net) (λ opening. opening ≡ opening_of sc all_ends) in (
+      refl,
+      record {
+        short = c.if-input-gt-LIMIT.false;
+        reads = subst Read (sym e.setup.0) c.in-Ok.ensures.ok;
+        run = record { hosted = e.setup.1; whole = e.whole; opened = subst Opened (sym e.setup.0) e.opening; told = e.told };
+      },
+    )
