@@ -1,12 +1,6 @@
 //! The scenarios of the tests.
 
-ghost use Rattle.std.specs.Prelude.{IfOk};
-ghost use Rattle.scenario.specs.Sound.{IsScenario};
-
-use scenario::Scenario;
-use scenario_text::read_scenario;
 use std::alloc::{AllocError, Global};
-use std::test::Fail;
 
 /// One slave, which counts the steps.
 const COUNT: &[u8] =
@@ -20,9 +14,9 @@ const RING: &[u8] =
 const FAN: &[u8] =
     b"steps 6\nmaster 127.0.0.1 9000\nslave fall\nuuid 00000000-0000-0000-0000-000000000001\naddress 127.0.0.1 9001\nmodel ramp 3 -1\noutput 1 int32\nslave da\nuuid 00000000-0000-0000-0000-000000000002\naddress 127.0.0.1 9002\nmodel divider 12\ninput 1 int32\noutput 2 int32\nslave db\nuuid 00000000-0000-0000-0000-000000000003\naddress 127.0.0.1 9003\nmodel divider -7\ninput 1 int32\noutput 2 int32\nwire fall 0 da 0\nwire fall 0 db 0\n";
 
-/// The text that a cell writes on one line: `;` is a line feed, and `$`, `&` and `%` are the texts
-/// `COUNT`, `RING` and `FAN`.
-fn unfolded(alloc: Global, cell: &str) -> Result<Vec<u8>, AllocError> {
+/// The text of the scenario that a cell writes on one line: `;` is a line feed, and `$`, `&` and `%`
+/// are the texts `COUNT`, `RING` and `FAN`.
+pub fn unfolded(alloc: Global, cell: &str) -> Result<Vec<u8>, AllocError> {
     let mut text = Vec::new(alloc);
     for byte in cell.as_bytes() {
         match *byte {
@@ -30,16 +24,8 @@ fn unfolded(alloc: Global, cell: &str) -> Result<Vec<u8>, AllocError> {
             b'$' => text.extend_from_slice(COUNT)?,
             b'&' => text.extend_from_slice(RING)?,
             b'%' => text.extend_from_slice(FAN)?,
-            byte => text.push(byte)?,
+            byte => text.extend_from_slice(&[byte])?,
         }
     }
     Ok(text)
-}
-
-/// The scenario that a cell writes on one line.
-pub fn scenario_of(alloc: Global, cell: &str) -> Result<Scenario, Fail>
-    ensures { IfOk result (λ s. IsScenario s) }
-{
-    let text = unfolded(alloc, cell)?;
-    Ok(read_scenario(alloc, &text)?)
 }
