@@ -1,17 +1,15 @@
 //! Tests of the models, the texts and the reference: steps of each kind, lines and words, descriptions,
 //! scenarios, and what a correct run prints, with values from an independent model. They stand here, so
-//! that the crates below are proved once.
+//! that the crates below are proved once. `tools/text_tables` makes the values again.
 #![tactic(auto)]
 
 #[cfg(test)]
-mod descriptions;
-#[cfg(test)]
-mod lines;
-#[cfg(test)]
 mod models;
 #[cfg(test)]
-mod references;
-#[cfg(test)]
-mod scenarios;
+mod rows;
 #[cfg(test)]
 mod tables;
+#[cfg(test)]
+mod texts;
+#[cfg(test)]
+mod words;

@@ -2,19 +2,13 @@
 
 #![tactic(auto, using(crate::proofs::Inputs::few_inputs))]
 
-ghost use Rattle.std.specs.Prelude.{◌≡◌, ◌<◌, ◌≤◌, length};
+ghost use Rattle.std.specs.Prelude.{◌≡◌, ◌≤◌, length};
 ghost use Rattle.fixed_models.specs.Domains.{IsInput};
 
-use crate::tables::parted;
 use dcp_types::{DataType, FaultCode};
-use fixed_models::{BadParameters, Kind, Model, ModelRefused, has_ports};
+use fixed_models::{Kind, Model, has_ports};
 use std::alloc::Global;
-use std::process::Abort;
 use std::test::Fail;
-use text_lines::{
-    LineRefused, TextWhy, four_words, int64, lines, number, number_from, signed_number,
-    three_words, two_words, words,
-};
 
 const KINDS: [Kind; 14] = [
     Kind::Const,
@@ -33,185 +27,157 @@ const KINDS: [Kind; 14] = [
     Kind::Switch,
 ];
 
-const TYPES: [DataType; 2] = [DataType::I64, DataType::I64];
+/// What is done with a model, the model, and what comes of each act. A model is a kind with its
+/// parameters, the types of its outputs, the micro steps, its inputs (a third one is 2), and the index
+/// and the value of a change. The acts are, by their letters: `s` a step, and then the first output; `S`
+/// a step, and then the second output; `o` and `O` these outputs alone; `r` a restart, and then the
+/// first output; `c` the change, and then the first output. Behind `!` stands the code of a fault; 0 is
+/// a refusal of the parameters. `model ports` tells the kind's word, and with how many inputs and
+/// outputs it goes.
+pub const MODELS: &str = "\
+model osssrsss|const -7/int64/1/0|-7 -7 -7 -7 -7 -7 -7 -7 
+model osssrsss|ramp 5 -3/int64/1/0|5 2 -1 -4 5 2 -1 -4 
+model osssrsss|ramp 9223372036854775806 1/int64/1/0|9223372036854775806 9223372036854775807 !32 !32 9223372036854775806 9223372036854775807 !32 !32 
+model osssrsss|ramp 0 1/int64/1000/0|0 1000 2000 3000 0 1000 2000 3000 
+model osssrsss|counter 3/int64/1/0|0 1 2 0 0 1 2 0 
+model osssrsss|counter 7/int64/10/0|0 3 6 2 0 3 6 2 
+model osssrsss|gain -1/int64/1/1|0 -1 -1 -1 0 -1 -1 -1 
+model osssrsss|gain -65536/int64/1/-9223372036854775807|0 9223372036854775807 9223372036854775807 9223372036854775807 0 9223372036854775807 9223372036854775807 9223372036854775807 
+model osssrsss|gain 9223372036854775807/int64/1/65537|0 !32 !32 !32 0 !32 !32 !32 
+model osssrsss|sum/int64/1/-4|0 -3 -3 -3 0 -3 -3 -3 
+model osssrsss|integrator 10 32768/int64/1/-3|10 8 6 4 10 8 6 4 
+model osssrsss|integrator -9223372036854775808 65536/int64/1/-1|-9223372036854775808 !32 !32 !32 -9223372036854775808 !32 !32 !32 
+model osssrsss|lag -1 1/int64/1/0|-1 -1 -1 -1 -1 -1 -1 -1 
+model osssrsss|lag -9223372036854775808 65536/int64/1/9223372036854775807|-9223372036854775808 9223372036854775807 9223372036854775807 9223372036854775807 -9223372036854775808 9223372036854775807 9223372036854775807 9223372036854775807 
+model osssrsss|delay 7 2/int64/1/-9|7 7 -9 -9 7 7 -9 -9 
+model osssrsss|delay 7 5/int64/3/3|7 7 3 3 7 7 3 3 
+model osssrsss|limiter 3 9/int64/1/-2|3 3 3 3 3 3 3 3 
+model osssrsss|limiter -9 -3/int64/1/50|-3 -3 -3 -3 -3 -3 -3 -3 
+model osssrsss|deadband 5/int64/1/-8|0 -3 -3 -3 0 -3 -3 -3 
+model osssrsss|deadband 5/int64/1/-5|0 0 0 0 0 0 0 0 
+model osssrsss|divider -3/int64/1/2|0 -98304 -98304 -98304 0 -98304 -98304 -98304 
+model osssrsss|divider 1/int64/1/-3|0 -21846 -21846 -21846 0 -21846 -21846 -21846 
+model osssrsss|divider 1/int64/1/0|0 !33 !33 !33 0 !33 !33 !33 
+model osssrsss|divider -9223372036854775808/int64/1/-1|0 !32 !32 !32 0 !32 !32 !32 
+model osssrsss|oscillator 1000 0 6554 6554/int64 int64/1/0|1000 1000 989 969 1000 1000 989 969 
+model osssrsss|oscillator -1000 7 65536 65536/int64 int64/2/0|-1000 7 993 -1000 -1000 7 993 -1000 
+model osssrsss|tank 10 65536 6554/int64 int64/1/-3|10 6 3 0 10 6 3 0 
+model osssrsss|tank 1 -1 0/int64 int64/1/5|1 0 0 0 1 0 0 0 
+model osssrsss|switch 5/int64/1/5|0 -1 -1 -1 0 -1 -1 -1 
+model osssrsss|switch 6/int64/1/5|0 2 2 2 0 2 2 2 
+model osssrsss|gain -1/int64/1/18446744073709551615|0 -281474976710656 -281474976710656 -281474976710656 0 -281474976710656 -281474976710656 -281474976710656 
+model osssrsss|sum/int64/1/18446744073709551615|0 !32 !32 !32 0 !32 !32 !32 
+model osssrsss|integrator -9223372036854775808 32768/int64/1/18446744073709551615|-9223372036854775808 -1 9223372036854775806 !32 -9223372036854775808 -1 9223372036854775806 !32 
+model osssrsss|lag 0 1/int64/1/9223372036854775808|0 140737488355328 281472829227008 422206022647808 0 140737488355328 281472829227008 422206022647808 
+model osssrsss|delay 4 1/int64/1/9223372036854775808|4 !32 !32 !32 4 !32 !32 !32 
+model osssrsss|limiter -9 9223372036854775807/int64/1/9223372036854775808|0 9223372036854775807 9223372036854775807 9223372036854775807 0 9223372036854775807 9223372036854775807 9223372036854775807 
+model osssrsss|deadband 9223372036854775807/int64/1/18446744073709551615|0 !32 !32 !32 0 !32 !32 !32 
+model osssrsss|deadband 9223372036854775807/int64/1/18446744073709551614|0 9223372036854775807 9223372036854775807 9223372036854775807 0 9223372036854775807 9223372036854775807 9223372036854775807 
+model osssrsss|divider 9223372036854775807/int64/1/18446744073709551615|0 32767 32767 32767 0 32767 32767 32767 
+model osssrsss|divider -1/int64/1/18446744073709551615|0 -1 -1 -1 0 -1 -1 -1 
+model osssrsss|tank 0 1 0/int64 int64/1/18446744073709551615|0 281474976710655 562949953421310 844424930131965 0 281474976710655 562949953421310 844424930131965 
+model osssrsss|switch 9223372036854775807/int64/1/9223372036854775808|0 -1 -1 -1 0 -1 -1 -1 
+model osssrsss|counter 9223372036854775807/int64/1/0|0 1 2 3 0 1 2 3 
+model osssrsss|sum/int64/1/9223372036854775807|0 !32 !32 !32 0 !32 !32 !32 
+model osssrsss|sum/int64/1/-9223372036854775808|0 -9223372036854775807 -9223372036854775807 -9223372036854775807 0 -9223372036854775807 -9223372036854775807 -9223372036854775807 
+model osssrsss|delay -9223372036854775808 2/int64/1/9223372036854775807|-9223372036854775808 -9223372036854775808 9223372036854775807 9223372036854775807 -9223372036854775808 -9223372036854775808 9223372036854775807 9223372036854775807 
+model osssrsss|limiter -9223372036854775808 9223372036854775807/int64/1/-9223372036854775808|0 -9223372036854775808 -9223372036854775808 -9223372036854775808 0 -9223372036854775808 -9223372036854775808 -9223372036854775808 
+model osssrsss|deadband 0/int64/1/-9223372036854775808|0 -9223372036854775808 -9223372036854775808 -9223372036854775808 0 -9223372036854775808 -9223372036854775808 -9223372036854775808 
+model osssrsss|deadband 9223372036854775807/int64/1/-9223372036854775808|0 -1 -1 -1 0 -1 -1 -1 
+model osssrsss|deadband 9223372036854775807/int64/1/-9223372036854775807|0 0 0 0 0 0 0 0 
+model osssrsss|divider -9223372036854775808/int64/1/-9223372036854775808|0 65536 65536 65536 0 65536 65536 65536 
+model osssrsss|divider 9223372036854775807/int64/1/65536|0 9223372036854775807 9223372036854775807 9223372036854775807 0 9223372036854775807 9223372036854775807 9223372036854775807 
+model osssrsss|tank 9223372036854775807 0 65536/int64 int64/1/0|9223372036854775807 0 0 0 9223372036854775807 0 0 0 
+model osssrsss|tank 9223372036854775807 65536 0/int64 int64/1/1|9223372036854775807 !32 !32 !32 9223372036854775807 !32 !32 !32 
+model osssrsss|oscillator 0 -9223372036854775808 65536 0/int64 int64/1/0|0 -9223372036854775808 !32 !32 0 -9223372036854775808 !32 !32 
+model osssrsss|oscillator 0 -9223372036854775807 -65536 65536/int64 int64/1/0|0 !32 !32 !32 0 !32 !32 !32 
+model osssrsss|switch -9223372036854775808/int64/1/-9223372036854775808|0 -1 -1 -1 0 -1 -1 -1 
+model osssrsss|switch 9223372036854775807/int64/1/9223372036854775806|0 2 2 2 0 2 2 2 
+model os|sum/int64/1/18446744073709551613 -9223372036854775808|0 9223372036854775807 
+model OSS|oscillator 1000 0 6554 6554/int64 int64/1/0|0 -100 -198 
+model OSS|oscillator -1000 7 65536 65536/int64 int64/2/0|7 993 -1000 
+model OSS|tank 10 65536 6554/int64 int64/1/-3|1 0 0 
+model OSS|tank 2000 65536 655/int64 int64/1/-250|19 17 14 
+model OSS|tank 7 65536 32768/int64 int64/2/1|3 2 1 
+model osor|delay 0 1/uint64/1/18446744073709551615|0 !32 0 0 
+model osor|gain 65536/int64/1/9223372036854775808|0 !32 0 0 
+model osor|ramp 9223372036854775805 1/int64/3/0|9223372036854775805 !32 9223372036854775805 9223372036854775805 
+model osor|divider 1/int64/1/0|0 !33 0 0 
+model osor|ramp 120 3/int8/3/0|120 !34 120 120 
+model osor|counter 300/uint8/299/0|0 !34 0 0 
+model osor|const 300/uint8/1/0|!34 !34 !34 !34 
+model osor|delay -1 2/uint8/1/7|!34 !34 !34 !34 
+model o|const/int64/1/0|BadParameters
+model o|const 1 2/int64/1/0|BadParameters
+model o|const 1/int64 int64/1/0|BadParameters
+model o|ramp 1/int64/1/0|BadParameters
+model o|counter 0/int64/1/0|BadParameters
+model o|counter -9223372036854775808/int64/1/0|BadParameters
+model o|counter 1 1/int64/1/0|BadParameters
+model o|gain/int64/1/0|BadParameters
+model o|sum 1/int64/1/0|BadParameters
+model o|integrator 1 2 3/int64/1/0|BadParameters
+model o|lag 0/int64/1/0|BadParameters
+model o|lag 0 65537/int64/1/0|BadParameters
+model o|lag 0 -1/int64/1/0|BadParameters
+model o|delay 1/int64/1/0|BadParameters
+model o|delay 0 65/int64/1/0|BadParameters
+model o|delay 0 0/int64/1/0|BadParameters
+model o|limiter 1/int64/1/0|BadParameters
+model o|limiter 2 1/int64/1/0|BadParameters
+model o|deadband/int64/1/0|BadParameters
+model o|deadband -1/int64/1/0|BadParameters
+model o|divider 1 1/int64/1/0|BadParameters
+model o|oscillator 1 2 3/int64 int64/1/0|BadParameters
+model o|oscillator 1 2 3 4/int64/1/0|BadParameters
+model o|tank -1 0 0/int64 int64/1/0|BadParameters
+model o|tank 0 0 -1/int64 int64/1/0|BadParameters
+model o|tank 0 0 65537/int64 int64/1/0|BadParameters
+model o|tank 0 0 0/int64/1/0|BadParameters
+model o|switch/int64/1/0|BadParameters
+model csssrcsss|const 7/int64/1/0/0 -8|-8 -8 -8 -8 -8 -8 -8 -8 -8 
+model csssrcsss|ramp 5 -3/int64/1/0/1 10|5 15 25 35 5 5 15 25 35 
+model csssrcsss|ramp 5 -3/int64/1/0/0 -1|-1 -4 -7 -10 -1 -1 -4 -7 -10 
+model csssrcsss|counter 3/int64/1/0/0 2|0 1 0 1 0 0 1 0 1 
+model csssrcsss|gain 0/int64/1/9/0 -65536|0 -9 -9 -9 0 0 -9 -9 -9 
+model csssrcsss|integrator 10 0/int64/1/-3/1 32768|10 8 6 4 10 10 8 6 4 
+model csssrcsss|lag 4 65536/int64/1/9/1 0|4 4 4 4 4 4 4 4 4 
+model csssrcsss|delay 7 2/int64/1/-9/1 3|7 7 7 -9 7 7 7 7 -9 
+model csssrcsss|delay 7 3/int64/1/-9/1 1|7 -9 -9 -9 7 7 -9 -9 -9 
+model csssrcsss|delay 7 2/int64/1/-9/0 1|1 1 -9 -9 1 1 1 -9 -9 
+model csssrcsss|limiter 3 9/int64/1/-2/0 -5|0 -2 -2 -2 0 0 -2 -2 -2 
+model csssrcsss|limiter -9 -3/int64/1/50/1 -7|-7 -7 -7 -7 -7 -7 -7 -7 -7 
+model csssrcsss|deadband 5/int64/1/-8/0 6|0 -2 -2 -2 0 0 -2 -2 -2 
+model csssrcsss|divider 1/int64/1/2/0 -3|0 -98304 -98304 -98304 0 0 -98304 -98304 -98304 
+model csssrcsss|oscillator 1000 5 6554 6554/int64 int64/1/0/1 0|1000 1000 989 969 1000 1000 1000 989 969 
+model csssrcsss|tank 10 65536 6554/int64 int64/1/-3/2 0|10 7 4 1 10 10 7 4 1 
+model csssrcsss|switch 5/int64/1/5/0 6|0 2 2 2 0 0 2 2 2 
+model cosss|counter 3/int64/1/0/0 0|!0 0 1 2 0 
+model cosss|lag -1 1/int64/1/0/1 -1|!0 -1 -1 -1 -1 
+model cosss|lag 4 65536/int64/1/-9/1 65537|!0 4 -9 -9 -9 
+model cosss|delay 7 2/int64/1/-9/1 65|!0 7 7 -9 -9 
+model cosss|delay 7 2/int64/1/-9/1 0|!0 7 7 -9 -9 
+model cosss|limiter 3 9/int64/1/-2/0 10|!0 3 3 3 3 
+model cosss|limiter 3 9/int64/1/-2/1 2|!0 3 3 3 3 
+model cosss|deadband 5/int64/1/-8/0 -1|!0 0 -3 -3 -3 
+model cosss|tank 10 65536 6554/int64 int64/1/-3/0 -1|!0 10 6 3 0 
+model cosss|tank 10 65536 6554/int64 int64/1/-3/2 65537|!0 10 6 3 0 
+model ports|const|const 0:1
+model ports|ramp|ramp 0:1
+model ports|counter|counter 0:1
+model ports|gain|gain 1:1
+model ports|sum|sum 1:1 2:1 3:1 4:1 5:1 6:1 7:1 8:1
+model ports|integrator|integrator 1:1
+model ports|lag|lag 1:1
+model ports|delay|delay 1:1
+model ports|limiter|limiter 1:1
+model ports|deadband|deadband 1:1
+model ports|divider|divider 1:1
+model ports|oscillator|oscillator 0:2
+model ports|tank|tank 1:2
+model ports|switch|switch 3:1";
 
-/// A kind with its parameters, an input, the micro steps, and the first output after each of three
-/// steps; `-` for an overflow.
-const STEPS: &[u8] = b"\
-const -7|0|1|-7 -7 -7
-ramp 5 -3|0|1|2 -1 -4
-ramp 9223372036854775806 1|0|1|9223372036854775807 - -
-ramp 0 1|0|1000|1000 2000 3000
-counter 3|0|1|1 2 0
-counter 7|0|10|3 6 2
-gain -1|1|1|-1 -1 -1
-gain -65536|-9223372036854775807|1|9223372036854775807 9223372036854775807 9223372036854775807
-gain 9223372036854775807|65537|1|- - -
-sum|-4|1|-3 -3 -3
-integrator 10 32768|-3|1|8 6 4
-integrator -9223372036854775808 65536|-1|1|- - -
-lag -1 1|0|1|-1 -1 -1
-lag -9223372036854775808 65536|9223372036854775807|1|9223372036854775807 9223372036854775807 9223372036854775807
-delay 7 2|-9|1|7 -9 -9
-delay 7 5|3|3|7 3 3
-limiter 3 9|-2|1|3 3 3
-limiter -9 -3|50|1|-3 -3 -3
-deadband 5|-8|1|-3 -3 -3
-deadband 5|-5|1|0 0 0
-divider -3|2|1|-98304 -98304 -98304
-divider 1|-3|1|-21846 -21846 -21846
-divider 1|0|1|- - -
-divider -9223372036854775808|-1|1|- - -
-oscillator 1000 0 6554 6554|0|1|1000 989 969
-oscillator -1000 7 65536 65536|0|2|7 993 -1000
-tank 10 65536 6554|-3|1|6 3 0
-tank 1 -1 0|5|1|0 0 0
-switch 5|5|1|-1 -1 -1
-switch 6|5|1|2 2 2
-";
-
-/// The same, at the ends of the types.
-const STEPS_AT_THE_ENDS: &[u8] = b"\
-gain -1|18446744073709551615|1|-281474976710656 -281474976710656 -281474976710656
-sum|18446744073709551615|1|- - -
-integrator -9223372036854775808 32768|18446744073709551615|1|-1 9223372036854775806 -
-lag 0 1|9223372036854775808|1|140737488355328 281472829227008 422206022647808
-delay 4 1|9223372036854775808|1|- - -
-limiter -9 9223372036854775807|9223372036854775808|1|9223372036854775807 9223372036854775807 9223372036854775807
-deadband 9223372036854775807|18446744073709551615|1|- - -
-deadband 9223372036854775807|18446744073709551614|1|9223372036854775807 9223372036854775807 9223372036854775807
-divider 9223372036854775807|18446744073709551615|1|32767 32767 32767
-divider -1|18446744073709551615|1|-1 -1 -1
-tank 0 1 0|18446744073709551615|1|281474976710655 562949953421310 844424930131965
-switch 9223372036854775807|9223372036854775808|1|-1 -1 -1
-counter 9223372036854775807|0|1|1 2 3
-sum|9223372036854775807|1|- - -
-sum|-9223372036854775808|1|-9223372036854775807 -9223372036854775807 -9223372036854775807
-delay -9223372036854775808 2|9223372036854775807|1|-9223372036854775808 9223372036854775807 9223372036854775807
-limiter -9223372036854775808 9223372036854775807|-9223372036854775808|1|-9223372036854775808 -9223372036854775808 -9223372036854775808
-deadband 0|-9223372036854775808|1|-9223372036854775808 -9223372036854775808 -9223372036854775808
-deadband 9223372036854775807|-9223372036854775808|1|-1 -1 -1
-deadband 9223372036854775807|-9223372036854775807|1|0 0 0
-divider -9223372036854775808|-9223372036854775808|1|65536 65536 65536
-divider 9223372036854775807|65536|1|9223372036854775807 9223372036854775807 9223372036854775807
-tank 9223372036854775807 0 65536|0|1|0 0 0
-tank 9223372036854775807 65536 0|1|1|- - -
-oscillator 0 -9223372036854775808 65536 0|0|1|-9223372036854775808 - -
-oscillator 0 -9223372036854775807 -65536 65536|0|1|- - -
-switch -9223372036854775808|-9223372036854775808|1|-1 -1 -1
-switch 9223372036854775807|9223372036854775806|1|2 2 2
-";
-
-/// The same, with the second output at first and after each of two steps: the speed of an oscillator or
-/// the outflow of a tank.
-const SECOND_OUTPUTS: &[u8] = b"\
-oscillator 1000 0 6554 6554|0|1|0 -100 -198
-oscillator -1000 7 65536 65536|0|2|7 993 -1000
-tank 10 65536 6554|-3|1|1 0 0
-tank 2000 65536 655|-250|1|19 17 14
-tank 7 65536 32768|1|2|3 2 1
-";
-
-/// A kind with its parameters, the type of its output, an input, the micro steps, and the code of the
-/// fault.
-const FAULTS: &[u8] = b"\
-delay 0 1|uint64|18446744073709551615|1|32
-gain 65536|int64|9223372036854775808|1|32
-ramp 9223372036854775805 1|int64|0|3|32
-divider 1|int64|0|1|33
-ramp 120 3|int8|0|3|34
-counter 300|uint8|0|299|34
-const 300|uint8|0|1|34
-delay -1 2|uint8|7|1|34
-";
-
-/// A kind with parameters that it refuses, or the wrong number of outputs.
-const REFUSED: &[u8] = b"\
-const|1
-const 1 2|1
-const 1|2
-ramp 1|1
-counter 0|1
-counter -9223372036854775808|1
-counter 1 1|1
-gain|1
-sum 1|1
-integrator 1 2 3|1
-lag 0|1
-lag 0 65537|1
-lag 0 -1|1
-delay 1|1
-delay 0 65|1
-delay 0 0|1
-limiter 1|1
-limiter 2 1|1
-deadband|1
-deadband -1|1
-divider 1 1|1
-oscillator 1 2 3|2
-oscillator 1 2 3 4|1
-tank -1 0 0|2
-tank 0 0 -1|2
-tank 0 0 65537|2
-tank 0 0 0|1
-switch|1
-";
-
-/// A kind with its parameters, the index and the value of a change, an input, and the first output
-/// before the first step and after each of three steps.
-const CHANGES: &[u8] = b"\
-const 7|0 -8|0|-8|-8 -8 -8
-ramp 5 -3|1 10|0|5|15 25 35
-ramp 5 -3|0 -1|0|-1|-4 -7 -10
-counter 3|0 2|0|0|1 0 1
-gain 0|0 -65536|9|0|-9 -9 -9
-integrator 10 0|1 32768|-3|10|8 6 4
-lag 4 65536|1 0|9|4|4 4 4
-delay 7 2|1 3|-9|7|7 7 -9
-delay 7 3|1 1|-9|7|-9 -9 -9
-delay 7 2|0 1|-9|1|1 -9 -9
-limiter 3 9|0 -5|-2|0|-2 -2 -2
-limiter -9 -3|1 -7|50|-7|-7 -7 -7
-deadband 5|0 6|-8|0|-2 -2 -2
-divider 1|0 -3|2|0|-98304 -98304 -98304
-oscillator 1000 5 6554 6554|1 0|0|1000|1000 989 969
-tank 10 65536 6554|2 0|-3|10|7 4 1
-switch 5|0 6|5|0|2 2 2
-";
-
-/// The same, where the change is refused.
-const REFUSED_CHANGES: &[u8] = b"\
-counter 3|0 0|0|0|1 2 0
-lag -1 1|1 -1|0|-1|-1 -1 -1
-lag 4 65536|1 65537|-9|4|-9 -9 -9
-delay 7 2|1 65|-9|7|7 -9 -9
-delay 7 2|1 0|-9|7|7 -9 -9
-limiter 3 9|0 10|-2|3|3 3 3
-limiter 3 9|1 2|-2|3|3 3 3
-deadband 5|0 -1|-8|0|-3 -3 -3
-tank 10 65536 6554|0 -1|-3|10|6 3 0
-tank 10 65536 6554|2 65537|-3|10|6 3 0
-";
-
-/// The words of the kinds, the least and the greatest number of inputs, and the number of outputs.
-const PORTS: &[u8] = b"\
-const 0 0 1
-ramp 0 0 1
-counter 0 0 1
-gain 1 1 1
-sum 1 8 1
-integrator 1 1 1
-lag 1 1 1
-delay 1 1 1
-limiter 1 1 1
-deadband 1 1 1
-divider 1 1 1
-oscillator 0 0 2
-tank 1 1 2
-switch 3 3 1
-";
-
-/// A value of one of the two widest data types.
+/// An input is a value of one of the two widest data types.
 #[derive(Clone, Copy)]
 enum Input {
     Signed(i64),
@@ -229,379 +195,210 @@ impl Input {
     }
 }
 
-fn input_of(word: &[u8]) -> Result<Input, TextWhy> {
-    match int64(word) {
-        Ok(value) => Ok(Input::Signed(value)),
-        Err(_) => {
-            let value = number_from(0, u64::MAX, word)?;
-            Ok(Input::Unsigned(value))
-        }
+fn input_of(word: &str) -> Input {
+    match word.parse::<i64>() {
+        Ok(value) => Input::Signed(value),
+        Err(_) => Input::Unsigned(word.parse::<u64>().unwrap_or(0)),
     }
 }
 
-fn kind_of(word: &[u8]) -> Result<Kind, TextWhy> {
+fn kind_of(word: &str) -> Kind {
     for kind in KINDS {
-        if kind.word().as_bytes() == word {
-            return Ok(kind);
+        if kind.word() == word {
+            return kind;
         }
     }
-    Err(TextWhy::UnknownModel)
+    Kind::Const
 }
 
-fn type_of(word: &[u8]) -> Result<DataType, TextWhy> {
-    for code in 0..8 {
-        if let Some(kind) = DataType::from_code(code) {
-            if kind.word().as_bytes() == word {
-                return Ok(kind);
-            }
-        }
+fn types_of(word: &str) -> &'static [DataType] {
+    match word {
+        "int8" => &[DataType::I8],
+        "uint8" => &[DataType::U8],
+        "uint64" => &[DataType::U64],
+        "int64" => &[DataType::I64],
+        _ => &[DataType::I64, DataType::I64],
     }
-    Err(TextWhy::UnsupportedType)
 }
 
-/// A kind with its parameters.
-#[derive(Drop)]
-struct Machine {
+/// The numbers of a cell, which are separated by spaces.
+fn numbers_of(alloc: Global, cell: &str) -> Result<Vec<i64>, Fail> {
+    let mut numbers = Vec::new(alloc);
+    for word in cell.split_whitespace() {
+        numbers.push(word.parse::<i64>().unwrap_or(0))?;
+    }
+    Ok(numbers)
+}
+
+/// What the acts need of a row.
+#[derive(Clone, Copy)]
+struct Acts {
     kind: Kind,
-    parameters: Vec<i64>,
-}
-
-fn machine_of(alloc: Global, text: &[u8]) -> Result<Machine, LineRefused> {
-    let words = words(alloc, text)?;
-    match words.as_slice() {
-        [kind, rest @ ..] => {
-            let kind = kind_of(kind)?;
-            let mut parameters = Vec::new(alloc);
-            for word in rest {
-                parameters.push(int64(word)?)?;
-            }
-            Ok(Machine { kind, parameters })
-        }
-        [] => Err(LineRefused::Why(TextWhy::Words)),
-    }
-}
-
-/// Three outputs, with none for `-`.
-fn outputs_of(alloc: Global, text: &[u8]) -> Result<[Option<i128>; 3], LineRefused> {
-    let words = words(alloc, text)?;
-    let (first, second, third) = three_words(&words)?;
-    Ok([
-        signed_number(true, first),
-        signed_number(true, second),
-        signed_number(true, third),
-    ])
-}
-
-/// As many types as the kind has outputs.
-fn types_of(kind: Kind) -> &'static [DataType] {
-    match kind {
-        Kind::Oscillator | Kind::Tank => &TYPES,
-        _ => &TYPES[..1],
-    }
-}
-
-/// A step on one input, or on this one, -1 and 2, or on none, as the kind has inputs.
-fn step_on(model: &mut Model, kind: Kind, input: i128, micro: u32) -> Result<i128, FaultCode>
-    requires kind { model.old.kind ≡ kind }
-    requires ports { 0 < length model.old.types }
-    requires micro { 1 ≤ micro }
-    requires input { IsInput input }
-    ensures kind { model.new.kind ≡ kind }
-    ensures types { model.new.types ≡ model.old.types }
-    ensures parameters { model.new.parameters ≡ model.old.parameters }
-{
-    let u = input;
-    match kind {
-        Kind::Const | Kind::Ramp | Kind::Counter | Kind::Oscillator => model.step(&[], micro)?,
-        Kind::Sum | Kind::Switch => model.step(&[u, -1, 2], micro)?,
-        _ => model.step(&[u], micro)?,
-    }
-    model.output(0)
-}
-
-fn three_steps(model: &mut Model, kind: Kind, input: Input, micro: u32) -> [Option<i128>; 3]
-    requires kind { model.old.kind ≡ kind }
-    requires ports { 0 < length model.old.types }
-    requires micro { 1 ≤ micro }
-    ensures kind { model.new.kind ≡ kind }
-    ensures types { model.new.types ≡ model.old.types }
-    ensures parameters { model.new.parameters ≡ model.old.parameters }
-{
-    let input = input.value();
-    let first = step_on(model, kind, input, micro).ok();
-    let second = step_on(model, kind, input, micro).ok();
-    let third = step_on(model, kind, input, micro).ok();
-    [first, second, third]
-}
-
-/// Three steps, and after a restart the same three.
-fn try_row(
-    rt: &impl Abort,
-    model: &mut Model,
-    kind: Kind,
-    input: Input,
+    outputs: usize,
+    parameters: usize,
     micro: u32,
-    wanted: &[Option<i128>; 3],
-)
-    requires kind { model.old.kind ≡ kind }
-    requires ports { 0 < length model.old.types }
-    requires micro { 1 ≤ micro }
-{
-    let start = model.output(0);
-    let outputs = three_steps(model, kind, input, micro);
-    assert!(rt; outputs == *wanted);
-    model.restart();
-    assert!(rt; model.output(0) == start);
-    let outputs = three_steps(model, kind, input, micro);
-    assert!(rt; outputs == *wanted);
-}
-
-fn try_steps(rt: &impl Abort, alloc: Global, table: &[u8]) -> Result<(), Fail> {
-    for row in &lines(alloc, table)? {
-        let (machine, rest) = parted(row, b'|');
-        let (input, rest) = parted(rest, b'|');
-        let (micro, wanted) = parted(rest, b'|');
-        let machine = machine_of(alloc, machine)?;
-        let input = input_of(input)?;
-        let micro = number_from(1, 1000, micro)? as u32;
-        let wanted = outputs_of(alloc, wanted)?;
-        let types = types_of(machine.kind);
-        assert!(rt; !types.is_empty() && micro > 0);
-        let mut model = Model::new(alloc, machine.kind, &machine.parameters, types)?;
-        try_row(rt, &mut model, machine.kind, input, micro, &wanted);
-    }
-    Ok(())
-}
-
-#[test]
-fn steps_of_each_kind(rt: HostRuntime) -> Result<(), Fail> {
-    try_steps(&rt, rt.alloc(), STEPS)
-}
-
-#[test]
-fn steps_at_the_ends_of_the_types(rt: HostRuntime) -> Result<(), Fail> {
-    try_steps(&rt, rt.alloc(), STEPS_AT_THE_ENDS)
-}
-
-/// The second output at first and after each of two steps.
-fn try_second(
-    rt: &impl Abort,
-    model: &mut Model,
-    kind: Kind,
-    input: Input,
-    micro: u32,
-    wanted: &[Option<i128>; 3],
-)
-    requires kind { model.old.kind ≡ kind }
-    requires ports { 1 < length model.old.types }
-    requires micro { 1 ≤ micro }
-{
-    let start = model.output(1).ok();
-    assert!(rt; step_on(model, kind, input.value(), micro).is_ok());
-    let first = model.output(1).ok();
-    assert!(rt; step_on(model, kind, input.value(), micro).is_ok());
-    let second = model.output(1).ok();
-    assert!(rt; [start, first, second] == *wanted);
-}
-
-#[test]
-fn second_outputs(rt: HostRuntime) -> Result<(), Fail> {
-    let alloc = rt.alloc();
-    for row in &lines(alloc, SECOND_OUTPUTS)? {
-        let (machine, rest) = parted(row, b'|');
-        let (input, rest) = parted(rest, b'|');
-        let (micro, wanted) = parted(rest, b'|');
-        let machine = machine_of(alloc, machine)?;
-        let input = input_of(input)?;
-        let micro = number_from(1, 1000, micro)? as u32;
-        let wanted = outputs_of(alloc, wanted)?;
-        assert!(rt; micro > 0);
-        let mut model = Model::new(alloc, machine.kind, &machine.parameters, &TYPES)?;
-        try_second(&rt, &mut model, machine.kind, input, micro, &wanted);
-    }
-    Ok(())
-}
-
-/// The fault has this code, and the model stays as it was.
-fn try_fault(
-    rt: &impl Abort,
-    model: &mut Model,
-    kind: Kind,
-    input: Input,
-    micro: u32,
-    code: Option<u128>,
-)
-    requires kind { model.old.kind ≡ kind }
-    requires ports { 0 < length model.old.types }
-    requires micro { 1 ≤ micro }
-{
-    let before = model.output(0);
-    match step_on(model, kind, input.value(), micro) {
-        Ok(_) => assert!(rt; false),
-        Err(fault) => assert_eq!(rt; Some(fault.code() as u128), code),
-    }
-    assert!(rt; model.output(0) == before);
-    model.restart();
-    assert!(rt; model.output(0) == before);
-}
-
-#[test]
-fn faults_leave_the_model(rt: HostRuntime) -> Result<(), Fail> {
-    let alloc = rt.alloc();
-    for row in &lines(alloc, FAULTS)? {
-        let (machine, rest) = parted(row, b'|');
-        let (kind, rest) = parted(rest, b'|');
-        let (input, rest) = parted(rest, b'|');
-        let (micro, code) = parted(rest, b'|');
-        let machine = machine_of(alloc, machine)?;
-        let types = [type_of(kind)?];
-        let input = input_of(input)?;
-        let micro = number_from(1, 1000, micro)? as u32;
-        assert!(rt; micro > 0);
-        let mut model = Model::new(alloc, machine.kind, &machine.parameters, &types)?;
-        try_fault(&rt, &mut model, machine.kind, input, micro, number(code));
-    }
-    Ok(())
-}
-
-#[test]
-fn refuses_parameters_and_outputs(rt: HostRuntime) -> Result<(), Fail> {
-    let alloc = rt.alloc();
-    for row in &lines(alloc, REFUSED)? {
-        let (machine, count) = parted(row, b'|');
-        let machine = machine_of(alloc, machine)?;
-        let types: &[DataType] = if count == b"2".as_slice() {
-            &TYPES
-        } else {
-            &TYPES[..1]
-        };
-        let refused = Model::new(alloc, machine.kind, &machine.parameters, types).err();
-        assert!(rt; refused == Some(ModelRefused::BadParameters));
-    }
-    Ok(())
-}
-
-/// One parameter is changed before the first step.
-#[derive(Drop)]
-struct Change {
-    machine: Machine,
+    first: Input,
+    second: Input,
     index: usize,
     value: i64,
-    input: Input,
-    /// The first output before the first step, and after each of three steps.
-    start: Option<i128>,
-    wanted: [Option<i128>; 3],
 }
 
-fn change_of(alloc: Global, row: &[u8]) -> Result<Change, LineRefused> {
-    let (machine, rest) = parted(row, b'|');
-    let (change, rest) = parted(rest, b'|');
-    let (input, rest) = parted(rest, b'|');
-    let (start, wanted) = parted(rest, b'|');
-    let machine = machine_of(alloc, machine)?;
-    let words = words(alloc, change)?;
-    let (index, value) = two_words(&words)?;
-    let index = number_from(0, 3, index)?;
-    let value = int64(value)?;
-    let input = input_of(input)?;
-    let start = signed_number(true, start);
-    let wanted = outputs_of(alloc, wanted)?;
-    Ok(Change {
-        machine,
-        index: index as usize,
-        value,
-        input,
-        start,
-        wanted,
-    })
-}
-
-/// The change, three steps, and after a restart the change once more, which changes nothing.
-fn try_change(rt: &impl Abort, model: &mut Model, change: &Change)
-    requires kind { model.old.kind ≡ change.now.machine.kind }
-    requires ports { 0 < length model.old.types }
-    requires parameters { model.old.parameters ≡ change.now.machine.parameters.items }
+/// A step on the first input, or on both and on 2, or on none, as the kind has inputs.
+fn step_on(model: &mut Model, acts: &Acts) -> Result<(), FaultCode>
+    requires kind { model.old.kind ≡ acts.now.kind }
+    requires micro { 1 ≤ acts.now.micro }
+    ensures kind { model.new.kind ≡ model.old.kind }
+    ensures types { model.new.types ≡ model.old.types }
+    ensures parameters { model.new.parameters ≡ model.old.parameters }
 {
-    assert!(rt; change.index < change.machine.parameters.len());
-    assert!(rt; model.set(change.index, change.value) == Ok(()));
-    assert!(rt; model.output(0).ok() == change.start);
-    let outputs = three_steps(model, change.machine.kind, change.input, 1);
-    assert!(rt; outputs == change.wanted);
-    model.restart();
-    assert!(rt; model.set(change.index, change.value) == Ok(()));
-    assert!(rt; model.output(0).ok() == change.start);
-    let outputs = three_steps(model, change.machine.kind, change.input, 1);
-    assert!(rt; outputs == change.wanted);
-}
-
-#[test]
-fn parameters_are_set(rt: HostRuntime) -> Result<(), Fail> {
-    let alloc = rt.alloc();
-    for row in &lines(alloc, CHANGES)? {
-        let change = change_of(alloc, row)?;
-        let types = types_of(change.machine.kind);
-        assert!(rt; !types.is_empty());
-        let parameters = change.machine.parameters.as_slice();
-        let mut model = Model::new(alloc, change.machine.kind, parameters, types)?;
-        try_change(&rt, &mut model, &change);
+    let u = acts.first.value();
+    let v = acts.second.value();
+    match acts.kind {
+        Kind::Const | Kind::Ramp | Kind::Counter | Kind::Oscillator => model.step(&[], acts.micro),
+        Kind::Sum | Kind::Switch => model.step(&[u, v, 2], acts.micro),
+        _ => model.step(&[u], acts.micro),
     }
-    Ok(())
 }
 
-/// The model stays as it was.
-fn try_refused_change(rt: &impl Abort, model: &mut Model, change: &Change)
-    requires kind { model.old.kind ≡ change.now.machine.kind }
-    requires ports { 0 < length model.old.types }
-    requires parameters { model.old.parameters ≡ change.now.machine.parameters.items }
+/// An output, or the code of a fault; 1 where there is no such output.
+fn output_of(model: &Model, acts: &Acts, port: u8) -> Result<i128, u16>
+    requires outputs { length model.now.types ≡ acts.now.outputs }
 {
-    assert!(rt; change.index < change.machine.parameters.len());
-    assert!(rt; model.set(change.index, change.value) == Err(BadParameters));
-    assert!(rt; model.output(0).ok() == change.start);
-    let outputs = three_steps(model, change.machine.kind, change.input, 1);
-    assert!(rt; outputs == change.wanted);
-}
-
-#[test]
-fn refused_parameters_are_not_set(rt: HostRuntime) -> Result<(), Fail> {
-    let alloc = rt.alloc();
-    for row in &lines(alloc, REFUSED_CHANGES)? {
-        let change = change_of(alloc, row)?;
-        let types = types_of(change.machine.kind);
-        assert!(rt; !types.is_empty());
-        let parameters = change.machine.parameters.as_slice();
-        let mut model = Model::new(alloc, change.machine.kind, parameters, types)?;
-        try_refused_change(&rt, &mut model, &change);
+    if usize::from(port) < acts.outputs {
+        match model.output(port) {
+            Ok(value) => Ok(value),
+            Err(fault) => Err(fault.code()),
+        }
+    } else {
+        Err(1)
     }
-    Ok(())
 }
 
-#[test]
-fn a_sum_passes_its_type_on_the_way(rt: HostRuntime) -> Result<(), Fail> {
-    let mut sum = Model::new(rt.alloc(), Kind::Sum, &[], &TYPES[..1])?;
-    let inputs = [18_446_744_073_709_551_615, -9_223_372_036_854_775_808];
-    assert!(rt; sum.step(&inputs, 1) == Ok(()));
-    assert!(rt; sum.output(0) == Ok(9_223_372_036_854_775_807));
-    Ok(())
+/// The change, or 0 where it is refused.
+fn change(model: &mut Model, acts: &Acts) -> Result<(), u16>
+    requires parameters { length model.old.parameters ≡ acts.now.parameters }
+    ensures kind { model.new.kind ≡ model.old.kind }
+    ensures types { model.new.types ≡ model.old.types }
+    ensures parameters { length model.new.parameters ≡ length model.old.parameters }
+{
+    if acts.index < acts.parameters {
+        match model.set(acts.index, acts.value) {
+            Ok(()) => Ok(()),
+            Err(_) => Err(0),
+        }
+    } else {
+        Err(1)
+    }
 }
 
-#[test]
-fn words_and_ports_of_the_kinds(rt: HostRuntime) -> Result<(), Fail> {
-    let alloc = rt.alloc();
-    let rows = lines(alloc, PORTS)?;
-    assert_eq!(rt; rows.len(), KINDS.len());
-    for row in &rows {
-        let words = words(alloc, row)?;
-        let (word, least, most, outputs) = four_words(&words)?;
-        let kind = kind_of(word)?;
-        assert_eq!(rt; kind.word().as_bytes(), word);
-        let least = number_from(0, 8, least)? as usize;
-        let most = number_from(0, 8, most)? as usize;
-        let outputs = number_from(1, 2, outputs)? as usize;
-        for inputs in 0..10 {
-            let within = least <= inputs && inputs <= most;
-            assert_eq!(rt; has_ports(kind, inputs, outputs), within);
-            assert!(rt; !has_ports(kind, inputs, if outputs == 1 { 2 } else { 1 }));
+/// What comes of an act.
+fn act(model: &mut Model, acts: &Acts, letter: u8) -> Result<i128, u16>
+    requires kind { model.old.kind ≡ acts.now.kind }
+    requires outputs { length model.old.types ≡ acts.now.outputs }
+    requires parameters { length model.old.parameters ≡ acts.now.parameters }
+    requires micro { 1 ≤ acts.now.micro }
+    ensures kind { model.new.kind ≡ model.old.kind }
+    ensures types { model.new.types ≡ model.old.types }
+    ensures parameters { length model.new.parameters ≡ length model.old.parameters }
+{
+    if letter == b's' || letter == b'S' {
+        if let Err(fault) = step_on(model, acts) {
+            return Err(fault.code());
+        }
+    } else if letter == b'r' {
+        model.restart();
+    } else if letter == b'c' {
+        change(model, acts)?;
+    }
+    let port = if letter == b'S' || letter == b'O' {
+        1
+    } else {
+        0
+    };
+    output_of(model, acts, port)
+}
+
+/// Appends what comes of each act.
+fn tell_acts(told: &mut String, model: &mut Model, acts: &Acts, letters: &str) -> Result<(), Fail>
+    requires kind { model.old.kind ≡ acts.now.kind }
+    requires outputs { length model.old.types ≡ acts.now.outputs }
+    requires parameters { length model.old.parameters ≡ acts.now.parameters }
+    requires micro { 1 ≤ acts.now.micro }
+{
+    for letter in letters.as_bytes() {
+        match act(model, acts, *letter) {
+            Ok(value) => write!(told, "{value} ")?,
+            Err(code) => write!(told, "!{code} ")?,
         }
     }
     Ok(())
+}
+
+/// Appends with how many inputs and outputs a kind goes.
+fn tell_ports(told: &mut String, kind: Kind) -> Result<(), Fail> {
+    write!(told, "{}", kind.word())?;
+    for inputs in 0..10 {
+        for outputs in 0..4 {
+            if has_ports(kind, inputs, outputs) {
+                write!(told, " {inputs}:{outputs}")?;
+            }
+        }
+    }
+    Ok(())
+}
+
+/// The acts on a model, of a cell with the micro steps, the inputs, and the index and the value of a
+/// change.
+fn acts_of(kind: Kind, outputs: usize, parameters: usize, cell: &str) -> Acts
+    ensures kind { result.kind ≡ kind }
+    ensures outputs { result.outputs ≡ outputs }
+    ensures parameters { result.parameters ≡ parameters }
+    ensures micro { 1 ≤ result.micro }
+{
+    let (micro, rest) = cell.split_once('/').unwrap_or((cell, ""));
+    let (inputs, change) = rest.split_once('/').unwrap_or((rest, ""));
+    let (first, second) = inputs.split_once(' ').unwrap_or((inputs, "-1"));
+    let (index, value) = change.split_once(' ').unwrap_or((change, ""));
+    Acts {
+        kind,
+        outputs,
+        parameters,
+        micro: micro.parse::<u32>().unwrap_or(1).max(1),
+        first: input_of(first),
+        second: input_of(second),
+        index: index.parse::<usize>().unwrap_or(0),
+        value: value.parse::<i64>().unwrap_or(0),
+    }
+}
+
+/// Appends what comes of a model of this kind with these parameters.
+fn tell_model(
+    alloc: Global,
+    told: &mut String,
+    letters: &str,
+    kind: Kind,
+    parameters: &[i64],
+    cell: &str,
+) -> Result<(), Fail> {
+    let (types, rest) = cell.split_once('/').unwrap_or((cell, ""));
+    let types = types_of(types);
+    let acts = acts_of(kind, types.len(), parameters.len(), rest);
+    match Model::new(alloc, kind, parameters, types) {
+        Ok(mut model) => tell_acts(told, &mut model, &acts, letters)?,
+        Err(refused) => write!(told, "{refused:?}")?,
+    }
+    Ok(())
+}
+
+/// Appends the answer about a model.
+pub fn tell(alloc: Global, told: &mut String, asked: &str, cell: &str) -> Result<(), Fail> {
+    let (machine, rest) = cell.split_once('/').unwrap_or((cell, ""));
+    let (kind, parameters) = machine.split_once(' ').unwrap_or((machine, ""));
+    let kind = kind_of(kind);
+    let letters = asked.strip_prefix("model ").unwrap_or("");
+    if letters == "ports" {
+        return tell_ports(told, kind);
+    }
+    let parameters = numbers_of(alloc, parameters)?;
+    tell_model(alloc, told, letters, kind, &parameters, rest)
 }
