@@ -11,3 +11,5 @@ mod masters;
 mod plans;
 #[cfg(test)]
 mod scenarios;
+#[cfg(test)]
+mod scripts;

@@ -1,23 +1,54 @@
-//! The master, event by event.
+//! The plan and the master, event by event.
 
+ghost use Rattle.std.specs.Prelude.{◌≡◌};
+ghost use Rattle.plan_spec.specs.Plans.{plan_of};
 ghost use Rattle.scenario.specs.Sound.{IsScenario};
 
-use crate::scenarios::unfolded;
-use config_plan::plan;
+use crate::plans;
+use crate::scenarios::scenario_of;
+use config_plan::{Plan, plan};
 use dcp_ends::End;
 use dcp_types::Address;
 use master_core::MasterCore;
 use scenario::Scenario;
-use scenario_text::read_scenario;
 use std::alloc::Global;
-use std::process::Abort;
 use std::test::Fail;
 
 /// Scripts, with an empty line between two. The first line has the scenario, and what the script is
 /// about. Then each event has a line, with all that the master sends at it: a number of turns, or the
-/// port of a sender and its datagram. `?` asks for the report, whether the master is over, the number of
-/// its turns and that of its rows, and `row` for the value of a row, a slave and a port.
-const SCRIPTS: &str = "\
+/// port of a sender and its datagram. `?` asks for the master's port, the report, whether the master is
+/// over, the number of its turns and that of its rows, and `row` for the value of a row, a slave and a
+/// port. Of the plan, `setup` asks for the requests of a slave's setup, the first with the number 2;
+/// `adjust` for those between the first run and the second, the first with the number 0; and `links` for
+/// each data id with the sender, the receiver and the interval in steps.
+pub const SCRIPTS: &str = "\
+$|the plan of one slave
+setup:1|24020001|2003000101000000e8030000|23040001010000000100000000000000|2505000101000028230100007f
+links|1 1 0 1
+
+$set count 0 7;|a setting
+setup:1|24020001|2003000101000000e8030000|270400010000000000000000070700000000000000|23050001010000000100000000000000|2506000101000028230100007f
+
+&|the plan of two slaves
+setup:1|24020001|2003000101000000e8030000|2204000112000000010000000000000006|260500011200002a230100007f|23060001110000000200000000000000|250700011100002a230100007f|23080001010000000200000000000000|2509000101000028230100007f
+setup:2|24020002|2003000201000000e8030000|2204000211000000010000000000000006|2605000211000029230100007f|23060002120000000200000000000000|2507000212000029230100007f|23080002020000000200000000000000|2509000202000028230100007f
+links|1 1 0 1|2 2 0 1|17 1 2 1|18 2 1 1
+
+&every amp acc 2;|an interval
+setup:1|24020001|2003000101000000e8030000|2204000112000000010000000000000006|260500011200002a230100007f|23060001110000000200000000000000|250700011100002a230100007f|21080001110002000000|23090001010000000200000000000000|250a000101000028230100007f
+setup:2|24020002|2003000201000000e8030000|2204000211000000010000000000000006|2605000211000029230100007f|21060002110002000000|23070002120000000200000000000000|2508000212000029230100007f|23090002020000000200000000000000|250a000202000028230100007f
+links|1 1 0 1|2 2 0 1|17 1 2 2|18 2 1 1
+
+protocol tcp;&|another protocol
+setup:2|24020002|2003000201000000e8030000|2204000211000000010000000000000006|2605000211000429230100007f|23060002120000000200000000000000|2507000212000429230100007f|23080002020000000200000000000000|2509000202000428230100007f
+
+%|the plan of three slaves
+setup:2|24020002|2003000201000000e8030000|2204000211000000010000000000000006|2605000211000029230100007f|23060002020000000200000000000000|2507000202000028230100007f
+links|1 1 0 1|2 2 0 1|3 3 0 1|17 1 2 1|18 1 3 1
+
+runs 2;$rerun_set 2 count 0 2;|a setting between two runs
+adjust:1|270000010000000000000000070200000000000000
+
 steps 0;master 127.0.0.1 9000;slave count;uuid 00000000-0000-0000-0000-000000000001;address 127.0.0.1 9001;model counter 1000;output 1 uint32;|a run without a step, in which no state is hinted
 turns:1|9001:010000010000000000000000000000000000000001020100
 9001:b0000001|9001:80010001
@@ -55,7 +86,7 @@ turns:20|9001:80110001
 turns:1|9001:0212000110
 9001:b0120001
 turns:1
-?|Some(Finished { steps: 0 })|true|130|1
+?|9000|Some(Finished { steps: 0 })|true|130|1
 row:0 1 0|Some(67305985)
 row:0 1 1|None
 row:0 0 0|None
@@ -146,7 +177,7 @@ turns:1|9001:092700010b
 turns:1|9001:0229000110
 9001:b0290001
 turns:1
-?|Some(Finished { steps: 1 })|true|22|4
+?|9000|Some(Finished { steps: 1 })|true|22|4
 row:0 1 0|Some(2147483904)
 row:1 1 0|Some(2164261121)
 row:2 1 0|Some(2181038338)
@@ -155,11 +186,11 @@ row:3 1 0|Some(2197815555)
 $|the registration is refused, and nothing happens after the report
 turns:1|9001:010000010000000000000000000000000000000001020100
 9001:b100000100000200
-?|None|false|1|0
+?|9000|None|false|1|0
 turns:1
-?|Some(Failed { slave: 1, phase: 1, cause: Refused { seq: 0, code: 2 } })|true|2|0
+?|9000|Some(Failed { slave: 1, phase: 1, cause: Refused { seq: 0, code: 2 } })|true|2|0
 turns:1
-?|Some(Failed { slave: 1, phase: 1, cause: Refused { seq: 0, code: 2 } })|true|2|0
+?|9000|Some(Failed { slave: 1, phase: 1, cause: Refused { seq: 0, code: 2 } })|true|2|0
 
 $|no answer comes
 turns:1|9001:010000010000000000000000000000000000000001020100
@@ -170,9 +201,9 @@ turns:1|9001:010000010000000000000000000000000000000001020100
 turns:49
 turns:1|9001:010000010000000000000000000000000000000001020100
 turns:49
-?|None|false|200|0
+?|9000|None|false|200|0
 turns:1
-?|Some(Failed { slave: 1, phase: 1, cause: NoAnswer { seq: 0 } })|true|201|0
+?|9000|Some(Failed { slave: 1, phase: 1, cause: NoAnswer { seq: 0 } })|true|201|0
 turns:1
 
 retry_turns 7;step_tries 3;steps 1;master 127.0.0.1 9000;slave count;uuid 00000000-0000-0000-0000-000000000001;address 127.0.0.1 9001;model counter 1000;output 1 uint32;|a step is refused three times for want of inputs
@@ -213,9 +244,9 @@ turns:1|9001:071100010b01000000
 turns:6
 turns:1|9001:071200010b01000000
 9001:b112000100000800
-?|None|false|22|1
+?|9000|None|false|22|1
 turns:1
-?|Some(Failed { slave: 1, phase: 8, cause: InputsMissing { seq: 18, step: 1 } })|true|23|1
+?|9000|Some(Failed { slave: 1, phase: 8, cause: InputsMissing { seq: 18, step: 1 } })|true|23|1
 
 data_turns 7;steps 1;master 127.0.0.1 9000;slave count;uuid 00000000-0000-0000-0000-000000000001;address 127.0.0.1 9001;model counter 1000;output 1 uint32;|the outputs of a step do not come, but others
 turns:1|9001:010000010000000000000000000000000000000001020100
@@ -259,11 +290,11 @@ turns:1|9001:081200010d
 9001:f00100020001020304
 9001:b21300010b
 turns:6
-?|None|false|15|1
+?|9000|None|false|15|1
 turns:1
-?|Some(Failed { slave: 1, phase: 9, cause: DataMissing { step: 1 } })|true|16|1
+?|9000|Some(Failed { slave: 1, phase: 9, cause: DataMissing { step: 1 } })|true|16|1
 9001:f00100010001020304
-?|Some(Failed { slave: 1, phase: 9, cause: DataMissing { step: 1 } })|true|16|1
+?|9000|Some(Failed { slave: 1, phase: 9, cause: DataMissing { step: 1 } })|true|16|1
 
 state_limit 50;steps 1;master 127.0.0.1 9000;slave count;uuid 00000000-0000-0000-0000-000000000001;address 127.0.0.1 9001;model counter 1000;output 1 uint32;|the state stays the passing one
 turns:1|9001:010000010000000000000000000000000000000001020100
@@ -289,11 +320,11 @@ turns:9
 9001:b20b000104
 turns:1
 9001:e00104|9001:800c0001
-?|None|false|54|0
+?|9000|None|false|54|0
 9001:b20c000104
-?|None|false|54|0
+?|9000|None|false|54|0
 turns:1
-?|Some(Failed { slave: 1, phase: 4, cause: Stuck { seq: 12, state: 4 } })|true|55|0
+?|9000|Some(Failed { slave: 1, phase: 4, cause: Stuck { seq: 12, state: 4 } })|true|55|0
 
 steps 1;master 127.0.0.1 9000;slave count;uuid 00000000-0000-0000-0000-000000000001;address 127.0.0.1 9001;model counter 1000;output 1 uint32;|the slave tells its fault
 turns:1|9001:010000010000000000000000000000000000000001020100
@@ -317,9 +348,9 @@ turns:1|9001:050a000105
 9001:e00111|9001:800b0001
 9001:b20b000111|9001:810c0001
 9001:b30c00012200
-?|None|false|5|0
+?|9000|None|false|5|0
 turns:1
-?|Some(Failed { slave: 1, phase: 5, cause: Faulted { seq: 12, code: 34 } })|true|6|0
+?|9000|Some(Failed { slave: 1, phase: 5, cause: Faulted { seq: 12, code: 34 } })|true|6|0
 
 &|the second slave refuses, and the first one answers late; another id, another number, a stranger's datagram, and bytes that are no message change nothing
 turns:1|9001:010000010000000000000000000000000000000001020100|9002:010000020000000000000000000000000000000002020100
@@ -334,7 +365,7 @@ turns:1
 turns:1
 9001:b201000101
 turns:1
-?|Some(Failed { slave: 2, phase: 1, cause: Refused { seq: 0, code: 2 } })|true|3|0
+?|9000|Some(Failed { slave: 2, phase: 1, cause: Refused { seq: 0, code: 2 } })|true|3|0
 
 &|both slaves end in one phase: the one is in another state, the other tells its fault
 turns:1|9001:010000010000000000000000000000000000000001020100|9002:010000020000000000000000000000000000000002020100
@@ -345,7 +376,7 @@ turns:1
 9002:b201000211|9002:81020002
 9002:b30200022100
 turns:1
-?|Some(Failed { slave: 1, phase: 1, cause: Unexpected { seq: 1, type_id: 178, state: 5 } })|true|3|0
+?|9000|Some(Failed { slave: 1, phase: 1, cause: Unexpected { seq: 1, type_id: 178, state: 5 } })|true|3|0
 
 &|the first slave is asked for its state, while the second one is silent
 turns:1|9001:010000010000000000000000000000000000000001020100|9002:010000020000000000000000000000000000000002020100
@@ -356,7 +387,7 @@ turns:20|9001:80020001
 9002:b0000002|9002:80010002
 9002:b201000201
 turns:1|9001:24030001|9002:24020002
-?|None|false|22|0";
+?|9000|None|false|22|0";
 
 /// The address of the end at this port.
 fn at(port: u16) -> Address {
@@ -364,14 +395,6 @@ fn at(port: u16) -> Address {
         ip: 0x7f00_0001,
         port,
     }
-}
-
-/// The master of a scenario, to which nothing has happened.
-fn master_of(alloc: Global, scenario: &Scenario) -> Result<MasterCore, Fail>
-    requires { IsScenario scenario.now }
-{
-    let plan = plan(alloc, scenario)?;
-    Ok(MasterCore::new(alloc, scenario, &plan)?)
 }
 
 /// Appends all that is sent.
@@ -417,10 +440,11 @@ fn tell_gram(
 
 /// Appends how the master stands.
 fn tell_standing(told: &mut String, master: &MasterCore) -> Result<(), Fail> {
+    let port = master.address().port;
     let over = master.is_over();
     let turns = master.turns();
     let rows = master.rows();
-    write!(told, "|{:?}|{over}|{turns}|{rows}", master.report())?;
+    write!(told, "|{port}|{:?}|{over}|{turns}|{rows}", master.report())?;
     Ok(())
 }
 
@@ -438,46 +462,60 @@ fn tell_value(told: &mut String, master: &MasterCore, place: &str) -> Result<(),
 fn tell_event(
     alloc: Global,
     told: &mut String,
+    scenario: &Scenario,
+    plan: &Plan,
     master: &mut MasterCore,
     event: &str,
-) -> Result<(), Fail> {
+) -> Result<(), Fail>
+    requires { plan.now ≡ plan_of scenario.now }
+{
     let (word, rest) = event.split_once(':').unwrap_or((event, ""));
     match word {
         "?" => tell_standing(told, master),
         "row" => tell_value(told, master, rest),
         "turns" => tell_turns(alloc, told, master, rest.parse().unwrap_or(0)),
+        "setup" => plans::tell_setup(alloc, told, scenario, plan, rest.parse().unwrap_or(0)),
+        "adjust" => plans::tell_adjust(alloc, told, scenario, plan, rest.parse().unwrap_or(0)),
+        "links" => plans::tell_links(told, plan.links()),
         _ => tell_gram(alloc, told, master, word.parse().unwrap_or(0), rest),
     }
 }
 
-/// Plays a script for the master of a scenario.
-fn play(rt: &impl Abort, alloc: Global, scenario: &Scenario, script: &str) -> Result<(), Fail>
+/// Appends the events of a script, with what comes of each.
+fn tell_events(
+    alloc: Global,
+    told: &mut String,
+    scenario: &Scenario,
+    plan: &Plan,
+    events: &str,
+) -> Result<(), Fail>
+    requires sound { IsScenario scenario.now }
+    requires plan { plan.now ≡ plan_of scenario.now }
+{
+    let mut master = MasterCore::new(alloc, scenario, plan)?;
+    for line in events.lines() {
+        let (event, _) = line.split_once('|').unwrap_or((line, ""));
+        write!(told, "\n{event}")?;
+        tell_event(alloc, told, scenario, plan, &mut master, event)?;
+    }
+    Ok(())
+}
+
+/// Appends the events of a script, played in a scenario.
+fn tell_planned(
+    alloc: Global,
+    told: &mut String,
+    scenario: &Scenario,
+    events: &str,
+) -> Result<(), Fail>
     requires { IsScenario scenario.now }
 {
-    let mut master = master_of(alloc, scenario)?;
-    assert!(rt; master.address() == at(9000));
-    for line in script.lines() {
-        let event = line.split('|').next().unwrap_or("");
-        let mut told = String::from_str(alloc, event)?;
-        tell_event(alloc, &mut told, &mut master, event)?;
-        assert_eq!(rt; told.as_str(), line);
-    }
-    Ok(())
+    let plan = plan(alloc, scenario)?;
+    tell_events(alloc, told, scenario, &plan, events)
 }
 
-/// Plays a script, in whose first line the scenario stands.
-fn play_script(rt: &impl Abort, alloc: Global, script: &str) -> Result<(), Fail> {
-    let (head, rest) = script.split_once('\n').unwrap_or((script, ""));
-    let cell = head.split('|').next().unwrap_or("");
-    let text = unfolded(alloc, cell)?;
-    let scenario = read_scenario(alloc, &text)?;
-    play(rt, alloc, &scenario, rest)
-}
-
-#[test]
-fn scripts(rt: HostRuntime) -> Result<(), Fail> {
-    for script in SCRIPTS.split("\n\n") {
-        play_script(&rt, rt.alloc(), script)?;
-    }
-    Ok(())
+/// Appends the events of a script, played in the scenario that a cell writes.
+pub fn tell_script(alloc: Global, told: &mut String, cell: &str, events: &str) -> Result<(), Fail> {
+    let scenario = scenario_of(alloc, cell)?;
+    tell_planned(alloc, told, &scenario, events)
 }

@@ -1,6 +1,12 @@
 //! The scenarios of the tests.
 
+ghost use Rattle.std.specs.Prelude.{IfOk};
+ghost use Rattle.scenario.specs.Sound.{IsScenario};
+
+use scenario::Scenario;
+use scenario_text::read_scenario;
 use std::alloc::{AllocError, Global};
+use std::test::Fail;
 
 /// One slave, which counts the steps.
 const COUNT: &[u8] =
@@ -16,7 +22,7 @@ const FAN: &[u8] =
 
 /// The text of the scenario that a cell writes on one line: `;` is a line feed, and `$`, `&` and `%`
 /// are the texts `COUNT`, `RING` and `FAN`.
-pub fn unfolded(alloc: Global, cell: &str) -> Result<Vec<u8>, AllocError> {
+fn unfolded(alloc: Global, cell: &str) -> Result<Vec<u8>, AllocError> {
     let mut text = Vec::new(alloc);
     for byte in cell.as_bytes() {
         match *byte {
@@ -28,4 +34,12 @@ pub fn unfolded(alloc: Global, cell: &str) -> Result<Vec<u8>, AllocError> {
         }
     }
     Ok(text)
+}
+
+/// The scenario that a cell writes on one line.
+pub fn scenario_of(alloc: Global, cell: &str) -> Result<Scenario, Fail>
+    ensures { IfOk result (λ s. IsScenario s) }
+{
+    let text = unfolded(alloc, cell)?;
+    Ok(read_scenario(alloc, &text)?)
 }
