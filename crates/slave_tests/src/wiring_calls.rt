@@ -4,6 +4,8 @@ use dcp_types::{Address, DataType, ErrorCode};
 use desc_text::read_desc;
 use pdu_layout::{Cfg, NetInfo};
 use slave_wiring::Wired;
+use std::alloc::Global;
+use std::process::Abort;
 use std::test::Fail;
 use wirings::Wiring;
 
@@ -54,16 +56,14 @@ fn output(data_id: u16, pos: u16, vr: u64) -> Cfg {
     Cfg::Output { data_id, pos, vr }
 }
 
-#[test]
-fn a_wiring_is_set_and_used(rt: HostRuntime) -> Result<(), Fail> {
-    let Ok(desc) = read_desc(rt.alloc(), TEXT) else {
-        assert!(rt; false);
-        return Ok(());
-    };
-    let Ok(mut wiring) = Wiring::new(rt.alloc(), &desc) else {
-        assert!(rt; false);
-        return Ok(());
-    };
+/// The wiring of the slave, to which nothing has happened.
+fn new_wiring(alloc: Global) -> Result<Wiring, Fail> {
+    let desc = read_desc(alloc, TEXT)?;
+    Ok(Wiring::new(alloc, &desc)?)
+}
+
+/// The input is set.
+fn set_input(rt: &impl Abort, wiring: &mut Wiring) {
     let rows = [
         (Cfg::Clear, Ok(())),
         (time(1001), Err(ErrorCode::NotSupported)),
@@ -74,6 +74,15 @@ fn a_wiring_is_set_and_used(rt: HostRuntime) -> Result<(), Fail> {
         (input(0, 1, DataType::U32), Err(ErrorCode::TypeMismatch)),
         (input(1, 1, DataType::I32), Err(ErrorCode::Position)),
         (input(0, 1, DataType::I32), Ok(())),
+    ];
+    for (body, wanted) in rows {
+        assert_eq!(rt; wiring.apply(&body), wanted);
+    }
+}
+
+/// The interval of the input and the output are set.
+fn set_output(rt: &impl Abort, wiring: &mut Wiring) {
+    let rows = [
         (input(1, 1, DataType::I32), Err(ErrorCode::Position)),
         (Cfg::Source(net(17, 9001, 1)), Err(ErrorCode::NotSupported)),
         (Cfg::Source(net(17, 9001, 0)), Ok(())),
@@ -90,6 +99,10 @@ fn a_wiring_is_set_and_used(rt: HostRuntime) -> Result<(), Fail> {
     assert!(rt; !wiring.complete());
     assert_eq!(rt; wiring.apply(&Cfg::Target(net(2, 9000, 4))), Ok(()));
     assert!(rt; wiring.complete());
+}
+
+/// Messages come.
+fn take_messages(rt: &impl Abort, wiring: &mut Wiring) {
     assert!(rt; !wiring.ready(0));
     assert!(rt; !wiring.take_data(at(9000), 0, 17, &[20, 0, 0, 0], 0));
     assert!(rt; wiring.take_data(at(9001), 0, 17, &[20, 0, 0, 0], 0));
@@ -97,6 +110,10 @@ fn a_wiring_is_set_and_used(rt: HostRuntime) -> Result<(), Fail> {
     assert!(rt; wiring.ready(1));
     assert!(rt; !wiring.ready(2));
     assert!(rt; wiring.inputs() == [20].as_slice());
+}
+
+/// Messages are sent.
+fn send_messages(rt: &impl Abort, wiring: &mut Wiring) {
     assert_eq!(rt; wiring.targets(), 1);
     assert!(rt; wiring.is_due(0, 3));
     wiring.restart(3);
@@ -104,5 +121,14 @@ fn a_wiring_is_set_and_used(rt: HostRuntime) -> Result<(), Fail> {
     let mut room = [0; 1024];
     assert_eq!(rt; wiring.build(0, 1, &[10], &mut room), Some((at(9000), 9)));
     assert!(rt; room[..9] == [0xf0, 5, 0, 2, 0, 10, 0, 0, 0]);
+}
+
+#[test]
+fn a_wiring_is_set_and_used(rt: HostRuntime) -> Result<(), Fail> {
+    let mut wiring = new_wiring(rt.alloc())?;
+    set_input(&rt, &mut wiring);
+    set_output(&rt, &mut wiring);
+    take_messages(&rt, &mut wiring);
+    send_messages(&rt, &mut wiring);
     Ok(())
 }
