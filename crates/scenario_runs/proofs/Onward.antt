@@ -24,7 +24,7 @@ use Rattle.host.specs.declared.hosted.Hosted.{Hosted}
 use Rattle.host.specs.declared.hosted.Progress.TheVariants.{Done, Going}
 use Rattle.host.specs.Hosting.{master_of, slaves_of}
 use Rattle.host.specs.Views.{HostView, is_done, master_in, progress_of, slaves_in}
-use Rattle.scenario_runs.specs.Runs.{CameFrom, IsBegun, IsCut}
+use Rattle.scenario_runs.specs.Runs.{CameFrom, IsBegun, IsCut, IsWhole}
 
 same_self : (a : Address) → same_address a a ≡ true
 same_self a = and_from (a.ip == a.ip) (a.port == a.port) (eq-eqb a.ip a.ip refl) (eq-eqb a.port a.port refl)
@@ -109,7 +109,7 @@ module _ (old new : HostView) (sound : IsScenario old.scenario) (own : old.hoste
       let e = master_is old own in
       ap (λ (m : Option Rules). is_done m (slaves_in old) new.log) e ∙ ap (λ (m : Option Rules). has_report m new.log) (sym e ∙ sym (same_master old new scenario hosted))
 
-  pub reported_when : progress_of (is_done (master_in old) (slaves_in old) new.log) ≡ Done → has_report (master_in new) new.log ≡ true
+  reported_when : progress_of (is_done (master_in old) (slaves_in old) new.log) ≡ Done → has_report (master_in new) new.log ≡ true
   reported_when is = sym told_done ∙ done_is (is_done (master_in old) (slaves_in old) new.log) is
 
   pub going_when : progress_of (is_done (master_in old) (slaves_in old) new.log) ≡ Going → has_report (master_in new) new.log ≡ false
@@ -118,7 +118,7 @@ module _ (old new : HostView) (sound : IsScenario old.scenario) (own : old.hoste
   pub rounds_after : (n : ℕ) → Rounds (master_in old) (slaves_in old) (n + 1) new.log → Rounds (master_in new) (slaves_in new) (n + 1) new.log
   rounds_after n rounds = rw (same_master old new scenario hosted, same_slaves old new scenario hosted) rounds
 
-  pub few_after : (n : ℕ) → Rounds (master_in old) (slaves_in old) n old.log → has_report (master_in old) old.log ≡ false → n + 1 ≤ bound (setup_from new.scenario)
+  few_after : (n : ℕ) → Rounds (master_in old) (slaves_in old) n old.log → has_report (master_in old) old.log ≡ false → n + 1 ≤ bound (setup_from new.scenario)
   few_after n rounds going =
       let e = master_is old own in
       let below : n < bound (setup_from old.scenario) = few old.scenario sound (slaves_in old) n old.log (rw e at rounds) (ap (λ (m : Option Rules). has_report m old.log) (sym e) ∙ going) in
@@ -130,6 +130,25 @@ module _ (old new : HostView) (sound : IsScenario old.scenario) (own : old.hoste
   smaller_after part going form round =
       let e = master_is old own in
       rw scenario (less_left old.scenario (slaves_in old) old.log new.log part sound (ap (λ (m : Option Rules). has_report m old.log) (sym e) ∙ going) form (rw e at round))
+
+  -- the round in which the report came was the last
+  pub whole_after : (n : ℕ) → Rounds (master_in old) (slaves_in old) n old.log → has_report (master_in old) old.log ≡ false → (part : List LogEntry) → new.log ≡ old.log ++ part
+      → IsRound (master_in old) (slaves_in old) old.log part → progress_of (is_done (master_in old) (slaves_in old) new.log) ≡ Done → new.fault ≡ None → IsWhole new
+  whole_after n rounds going part form round done fault =
+      let master = same_master old new scenario hosted in
+      let slaves = same_slaves old new scenario hosted in
+      record {
+        before = old.log;
+        last = part;
+        count = n;
+        form = form;
+        rounds = rw (master, slaves) rounds;
+        going = ap (λ (m : Option Rules). has_report m old.log) master ∙ going;
+        round = rw (master, slaves) round;
+        few = few_after n rounds going;
+        reported = reported_when done;
+        fault = fault;
+      }
 
   pub cut_after : (n : ℕ) → Rounds (master_in old) (slaves_in old) n old.log → (part : List LogEntry) → new.log ≡ old.log ++ part → IsRoundPart (master_in old) (slaves_in old) old.log part → IsCut new
   cut_after n rounds part form front =

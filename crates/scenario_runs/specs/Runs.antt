@@ -1,9 +1,9 @@
 -- Whole runs of a scenario.
-use Rattle.std.specs.Prelude.{◌≡◌, ◌⊎◌, ℕ, ◌≤◌, true, List, [], ◌++◌, None, Some}
+use Rattle.std.specs.Prelude.{◌≡◌, ◌⊎◌, ℕ, ◌+◌, ◌≤◌, true, false, List, [], ◌++◌, None, Some}
 use Rattle.dcp_ends.specs.declared.entries.LogEntry.{LogEntry}
 use Rattle.master_spec.specs.Bound.{bound}
 use Rattle.master_spec.specs.Setup.{setup_from}
-use Rattle.rounds.specs.Rounds.{Rounds, IsRoundPart, has_report}
+use Rattle.rounds.specs.Rounds.{Rounds, IsRound, IsRoundPart, has_report}
 use Rattle.dcp_io.specs.Faults.{Rose}
 use Rattle.rounds.specs.declared.one_end.HostFault.{HostFault}
 use Rattle.rounds.specs.declared.one_end.HostFault.TheVariants.{Net, OutOfMemory}
@@ -23,11 +23,16 @@ pub record IsBegun (host : HostView) : Type 0 where
   pub log : host.log ≡ []
   pub fault : host.fault ≡ None
 
--- The log is a list of whole rounds of the hosted ends, not more than the bound of the scenario, and the master has its report after it.
+-- The log is a list of whole rounds of the hosted ends, at most the bound of the scenario. The master gives its report in the last of them.
 pub record IsWhole (host : HostView) : Type 0 where
+  pub before : List LogEntry
+  pub last : List LogEntry
   pub count : ℕ
-  pub rounds : Rounds (master_in host) (slaves_in host) count host.log
-  pub few : count ≤ bound (setup_from host.scenario)
+  pub form : host.log ≡ before ++ last
+  pub rounds : Rounds (master_in host) (slaves_in host) count before
+  pub going : has_report (master_in host) before ≡ false
+  pub round : IsRound (master_in host) (slaves_in host) before last
+  pub few : count + 1 ≤ bound (setup_from host.scenario)
   pub reported : has_report (master_in host) host.log ≡ true
   pub fault : host.fault ≡ None
 

@@ -2,7 +2,7 @@ use Rattle.std.proofs.Common.{◌+◌, ◌∙◌, ap, sym}
 use Rattle.std.proofs.lemmas.Result.{err_from_is_err_and}
 use Rattle.scenario.specs.Sound.{IsScenario}
 use Rattle.host.specs.declared.hosted.Hosted.{Hosted}
-use Rattle.scenario_runs.proofs.Onward.{cut_after, few_after, going_when, reported_when, rounds_after, smaller_after}
+use Rattle.scenario_runs.proofs.Onward.{cut_after, going_when, rounds_after, smaller_after, whole_after}
 use Rattle.scenario_runs.proofs.runs.run_on.Goals as goal
 
 pub returns-in-Done-clause-ok : goal.returns-in-Done-clause-ok
@@ -14,13 +14,9 @@ returns-in-Done-clause-ok g c =
     let sound : IsScenario old.scenario = rw i.scenario c.requires.sound in
     let own = ap (λ (h : Hosted). h.master) i.hosted ∙ c.requires.begun.master in
     let n = i.rounds.0 in
-    record {
-      count = n + 1;
-      rounds = rounds_after old new sound own e.setup.0 e.setup.1 n (c.in_ok-round.ensures.rounds n i.rounds.1);
-      few = few_after old new sound own e.setup.0 e.setup.1 n i.rounds.1 i.going;
-      reported = reported_when old new sound own e.setup.0 e.setup.1 (sym c.in_ok-round.ensures.progress ∙ c.in-Done.is);
-      fault = c.in_ok-round.ensures.fault;
-    }
+    let part = c.in_ok-round.ensures.ok i.fault in
+    whole_after old new sound own e.setup.0 e.setup.1 n i.rounds.1 i.going part.part part.added.log part.form
+    (sym c.in_ok-round.ensures.progress ∙ c.in-Done.is) c.in_ok-round.ensures.fault
 
 pub rounds-smaller : goal.rounds-smaller
 rounds-smaller g c =
