@@ -12,4 +12,4 @@ mod runs;
 mod traces;
 
 pub use laws::tables_are_rows;
-pub use runs::write_run;
+pub use runs::{write_report, write_run};

@@ -36,14 +36,14 @@ pub fn write_run<K: Sink, R: Sink>(
         (R.written trace.old) (R.written trace.new) (R.faults trace.old) (R.faults trace.new)
         (text_after scenario.now (setup_of master.now) (reverse events) report) (trace_bytes (all_bits (length scenario.now.slaves)) input.now log.now) result }
 {
-    match write_text(out, scenario, master, report) {
+    match write_report(out, scenario, master, report) {
         Delivery::Whole => write_trace(trace, scenario, input, log),
         Delivery::Cut => Delivery::Cut,
     }
 }
 
 /// Writes the rows and the line of the report.
-fn write_text<K: Sink>(
+pub fn write_report<K: Sink>(
     out: &mut K,
     scenario: &Scenario,
     master: &MasterCore,

@@ -1,6 +1,6 @@
 use Rattle.std.proofs.Common.{[]}
 use Rattle.byte_spool.proofs.Spooling.{begun}
-use Rattle.run_text.proofs.runs.write_text.Goals as goal
+use Rattle.run_text.proofs.runs.write_report.Goals as goal
 
 pub returns : goal.returns
 returns g c = λ events stands.
