@@ -1,0 +1,14 @@
+pub mod Passing
+pub mod Growth
+pub mod Sequels
+pub mod Steps
+pub mod Standing
+pub mod Moves
+pub mod Fresh
+pub mod Answering
+pub mod Reports
+pub mod Exclusive
+pub mod Chunks
+pub mod Runs
+pub mod Whole
+pub mod Reported
