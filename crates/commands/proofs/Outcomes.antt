@@ -8,20 +8,34 @@ use Rattle.byte_spool.proofs.Pieces.{nothing_added}
 use Rattle.host.specs.Views.{HostView}
 use Rattle.master_spec.specs.declared.reports.Report.{Report}
 use Rattle.master_spec.specs.declared.reports.Report.TheVariants as reports
-use Rattle.run_text.specs.Runs.{DeliversBoth}
+use Rattle.std.specs.Prelude.{Err, reverse}
+use Rattle.dcp_ends.specs.Logs.{events_at}
+use Rattle.scenario.specs.declared.scenarios.Scenario.{Scenario}
+use Rattle.master_spec.specs.Setup.{setup_from}
+use Rattle.dcp_ends.specs.declared.entries.LogEntry.{LogEntry}
+use Rattle.host.specs.declared.hosted.Hosted.{Hosted}
+use Rattle.replays.specs.declared.faults.ReplayFault.{ReplayFault}
+use Rattle.replays.specs.declared.faults.ReplayFault.TheVariants as faults
+use Rattle.replays.specs.declared.replays.Replayed.{Replayed}
+use Rattle.replays.specs.Replays.{Answers}
+use Rattle.run_text.specs.Runs.{DeliversBoth, text_after}
+use Rattle.commands.specs.declared.answers.Answer.{Answer}
+use Rattle.commands.specs.declared.answers.Answer.TheVariants as answers
 use Rattle.commands.specs.declared.command_words.Command.{Command}
-use Rattle.commands.specs.declared.command_words.Command.TheVariants.{Decode, Encode, Describe, Reference, Talk, Run}
-use Rattle.commands.specs.declared.answers.Unsaid.{Unsaid}
+use Rattle.commands.specs.declared.command_words.Command.TheVariants.{Decode, Encode, Describe, Reference, Talk, Run, Replay}
 use Rattle.commands.specs.declared.answers.Unsaid.TheVariants as unsaid
 use Rattle.commands.specs.declared.statuses.Judgement.{Judgement}
 use Rattle.commands.specs.declared.statuses.Judgement.TheVariants.{Good, Failed, Refused}
+use Rattle.commands.specs.declared.statuses.Judgement.TheVariants as judged
 use Rattle.commands.specs.declared.statuses.Status.{Status}
 use Rattle.commands.specs.declared.statuses.Status.TheVariants.{Done, Usage, BadInput, RunFailed, ReadFault, WriteFault, NetFault, OutOfMemory, Differs}
 use Rattle.text_lines.specs.Readings.{IsFirstBad}
 use Rattle.text_lines.specs.declared.reasons.TextRefused.{TextRefused}
 use Rattle.text_lines.specs.declared.reasons.TextRefused.TheVariants as refusals
 use Rattle.scenario_text.specs.Judging.{scenario_why_at}
-use Rattle.commands.specs.Answers.{Delivered, RunDelivered, judgement_of_report}
+use Rattle.commands.specs.Answers.{Delivered, Gives, IsAlone, IsWritableAnswer, RunDelivered}
+use Rattle.commands.specs.Replays.{FollowsReport, GivesReplay, GoesThrough, ReplayDelivered, SaysStop}
+use Rattle.commands.specs.SaysReplay.{IsTraceOf, ReplaysTo, SaysReplay, unended_line}
 use Rattle.commands.specs.declared.said.Said.{Said}
 use Rattle.commands.specs.Changes.{Change, NetChange}
 use Rattle.commands.specs.Refusals.{RefusesText}
@@ -30,7 +44,7 @@ use Rattle.commands.specs.CommandWords.{IsCommand}
 use Rattle.commands.specs.Outcomes.{Answered, IsFree, Outcome}
 use Rattle.commands.specs.Says.{Stops}
 use Rattle.commands.specs.SaysRun.{HasEnded, NetTold, RunsTo, SaysRun, StopsRun, run_text, run_trace}
-use Rattle.commands.specs.Statuses.{status_after}
+use Rattle.commands.specs.Statuses.{ComesBeforeWriting, ComesWithoutNet, judgement_of_report, status_after}
 
 -- a text that was written to the one sink, with nothing for the other
 pub text_alone : (held holds : Option (List ℕ)) (before now : ℕ) (kept : Option (List ℕ)) (count : ℕ) (text : List ℕ) (delivery : Delivery)
@@ -48,6 +62,7 @@ stops_run Encode input before now stopped = absurd (wrong stopped.0)
 stops_run Describe input before now stopped = absurd (wrong stopped.0)
 stops_run Reference input before now stopped = absurd (wrong stopped.0)
 stops_run Talk input before now stopped = absurd (wrong stopped.0)
+stops_run Replay input before now stopped = absurd (wrong stopped.0)
 stops_run Run input before now stopped = (refl, stopped)
 
 -- where memory was wanting, the network has not failed
@@ -57,6 +72,7 @@ stops_still Encode input before now stopped = stopped.1
 stops_still Describe input before now stopped = stopped.1
 stops_still Reference input before now stopped = stopped.1
 stops_still Talk input before now stopped = stopped.1
+stops_still Replay input before now stopped = stopped.1
 stops_still Run input before now stopped = stopped
 
 -- a text that no scenario is, refused at its first line that is refused
@@ -81,12 +97,69 @@ run_says held holds before now kept keeps began ends net input host status ended
     says (reports.Finished steps) text traced runs = (steps, runs)
     says (reports.Failed slave phase cause) text traced runs = (slave, phase, cause, runs)
 
+-- what is delivered of a trace that went through is what the command says of it
+pub replay_says : (held holds : Option (List ℕ)) (before now : ℕ) (kept : Option (List ℕ)) (count : ℕ) (net : NetTold) (input : List ℕ) (scenario : Scenario) (replayed : Replayed) (status : Status)
+    → (goes : GoesThrough input scenario replayed) → ReplayDelivered held holds before now scenario goes.entries replayed status → Delivered held holds before now kept kept count count Replay net input status
+replay_says held holds before now kept count net input scenario replayed status goes run =
+    let text = text_after scenario (setup_from scenario) (reverse (events_at scenario.master goes.entries)) replayed.report in
+    let runs : ReplaysTo input replayed.report text =
+    record { scenario = scenario; hosted = goes.hosted; entries = goes.entries; trace = goes.trace; right = goes.right; ended = goes.ended; reported = goes.stands.report; text_is = refl } in
+    (judgement_of_report replayed.report, run.delivery, text, [], (says replayed.report text runs, refl), text_alone held holds before now kept count text run.delivery run.delivered, run.status_is)
+  where
+    says : (report : Report) (text : List ℕ) → ReplaysTo input report text → SaysReplay input (judgement_of_report report) text
+    says (reports.Finished steps) text runs = (steps, runs)
+    says (reports.Failed slave phase cause) text runs = (slave, phase, cause, runs)
+
+-- a status that follows from a report comes after writing, is no usage, and none without the network
+IsWritten : Status → Type 0
+IsWritten status = (ComesBeforeWriting status → ⊥) × (status ≡ Usage → ⊥) × (ComesWithoutNet status → ⊥)
+
+written_after : (report : Report) (delivery : Delivery) → IsWritten (status_after (judgement_of_report report) delivery)
+unfolding IsWritten
+written_after (reports.Finished steps) Whole = (λ x. x, λ e. absurd cc, λ x. x)
+written_after (reports.Finished steps) Cut = (λ x. x, λ e. absurd cc, λ x. x)
+written_after (reports.Failed slave phase cause) Whole = (λ x. x, λ e. absurd cc, λ x. x)
+written_after (reports.Failed slave phase cause) Cut = (λ x. x, λ e. absurd cc, λ x. x)
+
+pub wrote : (report : Report) (status : Status) → FollowsReport report status → (ComesBeforeWriting status → ⊥) × (status ≡ Usage → ⊥) × (ComesWithoutNet status → ⊥)
+unfolding IsWritten
+wrote report status follows = subst IsWritten (sym follows.1) (written_after report follows.0)
+
+-- where a replay stops is what the command says
+pub stop_says : (input : List ℕ) (scenario : Scenario) (hosted : Hosted) (entries : List LogEntry) (fault : ReplayFault) (said : Said) → IsTraceOf input scenario hosted entries
+    → Answers {T = Replayed} scenario hosted entries (Err fault) → SaysStop fault said → SaysReplay input said.judgement (text_of said.text)
+stop_says input scenario hosted entries (faults.Differs at) said trace answers says =
+    let Judged : Judgement → Type 0 = λ judgement. SaysReplay input judgement (text_of said.text) in
+    subst Judged (sym says.0) (record { scenario = scenario; hosted = hosted; entries = entries; trace = trace; place = inl (at, answers, says.1) })
+stop_says input scenario hosted entries (faults.Unended count) said trace answers says =
+    let Judged : Judgement → Type 0 = λ judgement. SaysReplay input judgement (text_of said.text) in
+    subst Judged (sym says.0) (record { scenario = scenario; hosted = hosted; entries = entries; trace = trace; place = inr (answers.1, answers.2, says.1 ∙ ap unended_line answers.0) })
+stop_says input scenario hosted entries faults.OutOfMemory said trace answers says = absurd says
+
+-- what a replay gives is an answer of its command
+pub replay_gives : (net : NetTold) (input : List ℕ) (answer : Answer) → GivesReplay input answer → Gives Replay net input answer
+replay_gives net input (answers.Said said) given = (given, refl)
+replay_gives net input (answers.Ran host) given = absurd given
+replay_gives net input (answers.Replayed scenario replayed) given = (refl, given.1)
+
+pub replay_writable : (input : List ℕ) (answer : Answer) → GivesReplay input answer → IsWritableAnswer input answer
+replay_writable input (answers.Said said) given = tt
+replay_writable input (answers.Ran host) given = absurd given
+replay_writable input (answers.Replayed scenario replayed) given = given.0
+
+pub replay_alone : (input : List ℕ) (answer : Answer) → GivesReplay input answer → IsAlone answer
+replay_alone input (answers.Said said) given = tt
+replay_alone input (answers.Ran host) given = absurd given
+replay_alone input (answers.Replayed scenario replayed) given = tt
+
 module _ (words : List (List ℕ)) (source out trace : Change) (net : NetChange) where
   pub outcome_is : (judgement : Judgement) (delivery : Delivery) → Answered words source out trace net judgement delivery → Outcome words source out trace net (status_after judgement delivery)
   outcome_is Good Whole answered = answered
   outcome_is Good Cut answered = inl answered
   outcome_is Failed Whole answered = answered
-  outcome_is Failed Cut answered = inr answered
+  outcome_is Failed Cut answered = inr (inl answered)
+  outcome_is judged.Differs Whole answered = answered
+  outcome_is judged.Differs Cut answered = inr (inr answered)
   outcome_is Refused Whole answered = (Whole, answered)
   outcome_is Refused Cut answered = (Cut, answered)
 
@@ -102,11 +175,12 @@ module _ (words : List (List ℕ)) (source out trace : Change) (net : NetChange)
   outcome_free BadInput outcome named read written traced called = tt
   outcome_free OutOfMemory outcome named read written traced called = tt
   outcome_free Usage outcome named read written traced called = outcome.1 named
-  outcome_free ReadFault outcome named read written traced called = read outcome.2
+  outcome_free ReadFault outcome named read written traced called = read outcome.3
   outcome_free NetFault outcome named read written traced called = called outcome.4.1
-  outcome_free Differs outcome named read written traced called = outcome
+  outcome_free Differs outcome named read written traced called = tt
   outcome_free WriteFault (inl good) named read written traced called = elim (cut_failed Good good) [ inl first ↦ written first | inr second ↦ traced second ]
-  outcome_free WriteFault (inr failed) named read written traced called = elim (cut_failed Failed failed) [ inl first ↦ written first | inr second ↦ traced second ]
+  outcome_free WriteFault (inr (inl failed)) named read written traced called = elim (cut_failed Failed failed) [ inl first ↦ written first | inr second ↦ traced second ]
+  outcome_free WriteFault (inr (inr differs)) named read written traced called = elim (cut_failed judged.Differs differs) [ inl first ↦ written first | inr second ↦ traced second ]
 
 abbrev pub change : Option (List ℕ) → Option (List ℕ) → (before now : ℕ) → Change
 change was is before now = record { was = was; is = is; before = before; now = now }

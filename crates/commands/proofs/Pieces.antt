@@ -1,5 +1,5 @@
 -- Reads one after the other, where the bytes are told.
-use Rattle.std.proofs.Common.{◌≡◌, ℕ, ◌≤◌, List, ◌++◌, length, take, drop, sym, ap, ◌∙◌, arith, Option, Some, None, append_assoc, subst}
+use Rattle.std.proofs.Common.{◌≡◌, ℕ, ◌+◌, ◌≤◌, List, ◌++◌, length, take, drop, sym, ap, ◌∙◌, arith, Option, Some, None, append_assoc, subst}
 use Rattle.std.proofs.lemmas.List.{take-append-le, take_all, take_at, drop_all, drop_at, append-nil}
 use Rattle.std.specs.Io.KnownBytes.{Consumes, IsAtEnd, Keeps}
 use Rattle.commands.specs.Inputs.{TakesInput}
@@ -23,19 +23,19 @@ read_more a b c gathered room past n fits p q =
     subst (λ l. Consumes a c (gathered ++ l)) (sym (take-append-le n room past fits)) (then_taken a b c gathered (take n room) p q)
 
 -- one byte past the limit
-pub full_is : (old new : Option (List ℕ)) (input : List ℕ) → length input ≡ 1048577 → Consumes old new input → TakesInput old new input
-full_is None new input full p = tt
-full_is (Some all) None input full p = absurd p
-full_is (Some all) (Some rest) input full p =
-    (sym (ap (take 1048577) p ∙ take_at input rest 1048577 full), ap (λ l. Some l) (sym (ap (drop 1048577) p ∙ drop_at input rest 1048577 full)))
+pub full_is : (limit : ℕ) (old new : Option (List ℕ)) (input : List ℕ) → length input ≡ limit + 1 → Consumes old new input → TakesInput limit old new input
+full_is limit None new input full p = tt
+full_is limit (Some all) None input full p = absurd p
+full_is limit (Some all) (Some rest) input full p =
+    (sym (ap (take (limit + 1)) p ∙ take_at input rest (limit + 1) full), ap (λ l. Some l) (sym (ap (drop (limit + 1)) p ∙ drop_at input rest (limit + 1) full)))
 
 -- a source that ended gave all that was left, and that was not past the limit
-pub end_is : (old last new : Option (List ℕ)) (input : List ℕ) → length input ≤ 1048576 → Consumes old last input → IsAtEnd last → Keeps last new → TakesInput old new input
-end_is None last new input short p end q = tt
-end_is (Some all) None new input short p end q = absurd p
-end_is (Some all) (Some rest) None input short p end q = absurd q
-end_is (Some all) (Some rest) (Some rest') input short p end q =
+pub end_is : (limit : ℕ) (old last new : Option (List ℕ)) (input : List ℕ) → length input ≤ limit → Consumes old last input → IsAtEnd last → Keeps last new → TakesInput limit old new input
+end_is limit None last new input short p end q = tt
+end_is limit (Some all) None new input short p end q = absurd p
+end_is limit (Some all) (Some rest) None input short p end q = absurd q
+end_is limit (Some all) (Some rest) (Some rest') input short p end q =
     let whole : all ≡ input = p ∙ ap (λ l. input ++ l) end ∙ append-nil input in (
-      sym (ap (take 1048577) whole ∙ take_all 1048577 input (omega (arith, short))),
-      ap (λ l. Some l) (q ∙ end ∙ sym (ap (drop 1048577) whole ∙ drop_all 1048577 input (omega (arith, short)))),
+      sym (ap (take (limit + 1)) whole ∙ take_all (limit + 1) input (omega (arith, short))),
+      ap (λ l. Some l) (q ∙ end ∙ sym (ap (drop (limit + 1)) whole ∙ drop_all (limit + 1) input (omega (arith, short)))),
     )

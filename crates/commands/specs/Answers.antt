@@ -3,34 +3,29 @@ use Rattle.std.specs.Prelude.{◌≡◌, ◌≢◌, ℕ, ◌≤◌, List, [], le
 use Rattle.byte_spool.specs.declared.outputs.Delivery.{Delivery}
 use Rattle.scenario.specs.Sound.{IsScenario}
 use Rattle.master_spec.specs.declared.reports.Report.{Report}
-use Rattle.master_spec.specs.declared.reports.Report.TheVariants.{Finished}
-use Rattle.master_spec.specs.declared.reports.Report.TheVariants as reports
 use Rattle.rounds.specs.Told.{Follows}
 use Rattle.host.specs.Views.{HostView, master_in, slaves_in}
 use Rattle.scenario_runs.specs.Runs.{all_ends}
 use Rattle.run_text.specs.Runs.{DeliversBoth}
 use Rattle.commands.specs.declared.answers.Answer.{Answer}
-use Rattle.commands.specs.declared.answers.Answer.TheVariants.{Said, Ran}
+use Rattle.commands.specs.declared.answers.Answer.TheVariants.{Said, Ran, Replayed}
 use Rattle.commands.specs.declared.command_words.Command.{Command}
-use Rattle.commands.specs.declared.command_words.Command.TheVariants.{Run}
+use Rattle.commands.specs.declared.command_words.Command.TheVariants.{Run, Replay}
 use Rattle.commands.specs.declared.statuses.Judgement.{Judgement}
-use Rattle.commands.specs.declared.statuses.Judgement.TheVariants.{Good, Failed, Refused}
+use Rattle.commands.specs.declared.statuses.Judgement.TheVariants.{Refused}
 use Rattle.commands.specs.declared.statuses.Status.{Status}
-use Rattle.commands.specs.Inputs.{input_limit}
+use Rattle.commands.specs.Limits.{input_limit}
 use Rattle.commands.specs.Said.{text_of}
 use Rattle.commands.specs.Says.{Says}
 use Rattle.commands.specs.SaysRun.{HasEnded, NetTold, report_after, run_text, run_trace}
-use Rattle.commands.specs.Statuses.{status_after}
-
--- a run that finished is good
-abbrev pub judgement_of_report : Report → Judgement
-judgement_of_report (Finished steps) = Good
-judgement_of_report (reports.Failed slave phase cause) = Failed
+use Rattle.commands.specs.Replays.{GoesThrough}
+use Rattle.commands.specs.Statuses.{judgement_of_report, status_after}
 
 -- what the command says of the input is in this answer
 abbrev pub Gives : Command → NetTold → (input : List ℕ) → Answer → Type 0
 Gives command net input (Said said) = Says command net input said.judgement (text_of said.text) []
 Gives command net input (Ran host) = (command ≡ Run) × HasEnded net input host
+Gives command net input (Replayed scenario replayed) = (command ≡ Replay) × GoesThrough input scenario replayed
 
 -- the scenario is sound, all its ends are hosted, no fault stopped them, and the master has its report
 pub record IsWritable (input : List ℕ) (host : HostView) : Type 0 where
@@ -43,14 +38,18 @@ pub record IsWritable (input : List ℕ) (host : HostView) : Type 0 where
 abbrev pub IsWritableAnswer : (input : List ℕ) → Answer → Type 0
 IsWritableAnswer input (Said said) = Unit {0}
 IsWritableAnswer input (Ran host) = IsWritable input host
+IsWritableAnswer input (Replayed scenario replayed) = IsScenario scenario
 
-abbrev pub IsText : Answer → Type 0
-IsText (Said said) = Unit {0}
-IsText (Ran host) = ⊥
+-- nothing is left for the trace
+abbrev pub IsAlone : Answer → Type 0
+IsAlone (Said said) = Unit {0}
+IsAlone (Ran host) = ⊥
+IsAlone (Replayed scenario replayed) = Unit {0}
 
 abbrev pub IsRefusal : Answer → Type 0
 IsRefusal (Said said) = said.judgement ≡ Refused
 IsRefusal (Ran host) = ⊥
+IsRefusal (Replayed scenario replayed) = ⊥
 
 -- the two sinks told and tell this, with their counts of faults
 module _ (held holds : Option (List ℕ)) (before now : ℕ) (kept keeps : Option (List ℕ)) (began ends : ℕ) where

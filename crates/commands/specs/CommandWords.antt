@@ -1,7 +1,7 @@
 -- The words that name a command.
 use Rattle.std.specs.Prelude.{◌≡◌, ℕ, List, [], ◌∷◌, codes}
 use Rattle.commands.specs.declared.command_words.Command.{Command}
-use Rattle.commands.specs.declared.command_words.Command.TheVariants.{Decode, Encode, Describe, Reference, Talk, Run}
+use Rattle.commands.specs.declared.command_words.Command.TheVariants.{Decode, Encode, Describe, Reference, Talk, Run, Replay}
 
 abbrev pub command_word : Command → List ℕ
 command_word Decode = codes "decode"
@@ -10,6 +10,7 @@ command_word Describe = codes "describe"
 command_word Reference = codes "reference"
 command_word Talk = codes "talk"
 command_word Run = codes "run"
+command_word Replay = codes "replay"
 
 -- some command has this word
 abbrev pub IsWord : List ℕ → Type 0

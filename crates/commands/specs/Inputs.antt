@@ -5,22 +5,18 @@ use Rattle.dcp_io.specs.Faults.{Rose}
 use Rattle.commands.specs.declared.inputs.Gathered.{Gathered}
 use Rattle.commands.specs.declared.inputs.Gathered.TheVariants as gathered
 
--- the most bytes of an input
-abbrev pub input_limit : ℕ
-input_limit = 1048576
-
 -- the input is what was left, but no more than one byte past the limit, and what follows it is left now
-abbrev pub TakesInput : Option (List ℕ) → Option (List ℕ) → List ℕ → Type 0
-TakesInput None new input = Unit {0}
-TakesInput (Some all) new input = (input ≡ take (input_limit + 1) all) × (new ≡ Some (drop (input_limit + 1) all))
+abbrev pub TakesInput : (limit : ℕ) → Option (List ℕ) → Option (List ℕ) → List ℕ → Type 0
+TakesInput limit None new input = Unit {0}
+TakesInput limit (Some all) new input = (input ≡ take (limit + 1) all) × (new ≡ Some (drop (limit + 1) all))
 
 -- some bytes were taken, and none past that one
-abbrev pub TakesSome : Option (List ℕ) → Option (List ℕ) → Type 0
-TakesSome old new = (taken : List ℕ) × (length taken ≤ input_limit + 1) × Consumes old new taken
+abbrev pub TakesSome : (limit : ℕ) → Option (List ℕ) → Option (List ℕ) → Type 0
+TakesSome limit old new = (taken : List ℕ) × (length taken ≤ limit + 1) × Consumes old new taken
 
 -- how the reading of an input ended, with the counts of faults before and now
-module _ (old new : Option (List ℕ)) (before now : ℕ) where
+module _ (limit : ℕ) (old new : Option (List ℕ)) (before now : ℕ) where
   abbrev pub Gathers : Gathered → Type 0
-  Gathers (gathered.Bytes input) = TakesInput old new input.items × TakesSome old new × (now ≡ before)
-  Gathers gathered.Failed = TakesSome old new × Rose before now
-  Gathers gathered.OutOfMemory = TakesSome old new × (now ≡ before)
+  Gathers (gathered.Bytes input) = TakesInput limit old new input.items × TakesSome limit old new × (now ≡ before)
+  Gathers gathered.Failed = TakesSome limit old new × Rose before now
+  Gathers gathered.OutOfMemory = TakesSome limit old new × (now ≡ before)

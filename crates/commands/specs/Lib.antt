@@ -1,6 +1,7 @@
 -- What is promised: the words and the statuses, what is taken of a source and written to a sink, what each command says of an input, and which answer comes why.
 pub mod CommandWords
 pub mod Statuses
+pub mod Limits
 pub mod Inputs
 pub mod Said
 pub mod Refusals
@@ -10,8 +11,10 @@ pub mod SaysDescribed
 pub mod SaysReference
 pub mod SaysTalk
 pub mod SaysRun
+pub mod SaysReplay
 pub mod Says
 pub mod Answers
+pub mod Replays
 pub mod Changes
 pub mod Outcomes
 pub mod Programs

@@ -7,12 +7,14 @@ use Rattle.commands.specs.declared.statuses.Status.{Status}
 use Rattle.commands.specs.declared.statuses.Status.TheVariants.{Done, Usage, BadInput, RunFailed, ReadFault, WriteFault, NetFault, OutOfMemory, Differs}
 use Rattle.commands.specs.declared.statuses.Judgement.{Judgement}
 use Rattle.commands.specs.declared.statuses.Judgement.TheVariants.{Good, Failed, Refused}
+use Rattle.commands.specs.declared.statuses.Judgement.TheVariants as judged
 use Rattle.byte_spool.specs.declared.outputs.Delivery.{Delivery}
 use Rattle.byte_spool.specs.declared.outputs.Delivery.TheVariants.{Whole, Cut}
 use Rattle.run_text.specs.Runs.{DeliversBoth}
 use Rattle.commands.specs.Changes.{Change, NetChange, HasFailed, HasNotFailed}
 use Rattle.commands.specs.CommandWords.{Names, IsCommand}
 use Rattle.commands.specs.Inputs.{TakesInput, TakesSome}
+use Rattle.commands.specs.Limits.{limit_of}
 use Rattle.commands.specs.Says.{Says}
 use Rattle.commands.specs.SaysRun.{StopsRun}
 
@@ -30,26 +32,27 @@ module _ (words : List (List ℕ)) (source out trace : Change) (net : NetChange)
   abbrev pub Answered : Judgement → Delivery → Type 0
   Answered judgement delivery =
       (command : Command) × (input : List ℕ) × (text : List ℕ) × (traced : List ℕ)
-      × Names words command × TakesInput source.was source.is input × HasNotFailed source
+      × Names words command × TakesInput (limit_of command) source.was source.is input × HasNotFailed source
       × Says command net.told input judgement text traced × Wrote text traced delivery × (net.now ≡ net.before)
 
   abbrev pub Outcome : Status → Type 0
   Outcome Done = Answered Good Whole
   Outcome RunFailed = Answered Failed Whole
-  Outcome WriteFault = Answered Good Cut ⊎ Answered Failed Cut
+  Outcome WriteFault = Answered Good Cut ⊎ (Answered Failed Cut ⊎ Answered judged.Differs Cut)
   Outcome BadInput = (delivery : Delivery) × Answered Refused delivery
   Outcome Usage = (delivery : Delivery) × (IsCommand words → ⊥) × HasNotFailed source × Wrote (codes "usage\n") [] delivery
-  Outcome ReadFault = IsCommand words × TakesSome source.was source.is × HasFailed source × WritesNothing
+  Outcome ReadFault = (command : Command) × Names words command × TakesSome (limit_of command) source.was source.is × HasFailed source × WritesNothing
   Outcome NetFault =
-      (input : List ℕ) × Names words Run × TakesInput source.was source.is input × HasNotFailed source
+      (input : List ℕ) × Names words Run × TakesInput (limit_of Run) source.was source.is input × HasNotFailed source
       × StopsRun input net.before net.now unsaid.NetFault × WritesNothing
-  Outcome OutOfMemory = IsCommand words × TakesSome source.was source.is × HasNotFailed source × WritesNothing × (net.now ≡ net.before)
-  Outcome Differs = ⊥
+  Outcome OutOfMemory = (command : Command) × Names words command × TakesSome (limit_of command) source.was source.is × HasNotFailed source × WritesNothing × (net.now ≡ net.before)
+  Outcome Differs = Answered judged.Differs Whole
 
 -- the answers to a command whose objects do not fail
 abbrev pub IsFree : Status → Type 0
 IsFree Done = Unit {0}
 IsFree RunFailed = Unit {0}
 IsFree BadInput = Unit {0}
+IsFree Differs = Unit {0}
 IsFree OutOfMemory = Unit {0}
 IsFree _ = ⊥

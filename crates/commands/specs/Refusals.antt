@@ -6,7 +6,7 @@ use Rattle.text_lines.specs.declared.reasons.TextRefused.TheVariants as refused
 use Rattle.commands.specs.declared.said.Said.{Said}
 use Rattle.commands.specs.declared.statuses.Judgement.{Judgement}
 use Rattle.commands.specs.declared.statuses.Judgement.TheVariants.{Refused}
-use Rattle.commands.specs.Inputs.{input_limit}
+use Rattle.commands.specs.Limits.{input_limit}
 use Rattle.commands.specs.Said.{past_limit, text_of}
 
 -- the line of a text that is refused, and the word that says why

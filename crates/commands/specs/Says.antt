@@ -1,7 +1,7 @@
 -- What each command says of an input: the judgement, the text that is written, and the trace.
 use Rattle.std.specs.Prelude.{◌≡◌, ℕ, List, []}
 use Rattle.commands.specs.declared.command_words.Command.{Command}
-use Rattle.commands.specs.declared.command_words.Command.TheVariants.{Decode, Encode, Describe, Reference, Talk, Run}
+use Rattle.commands.specs.declared.command_words.Command.TheVariants.{Decode, Encode, Describe, Reference, Talk, Run, Replay}
 use Rattle.commands.specs.declared.statuses.Judgement.{Judgement}
 use Rattle.commands.specs.Refusals.{OfText}
 use Rattle.commands.specs.SaysDecoded.{SaysDecoded}
@@ -9,6 +9,7 @@ use Rattle.commands.specs.SaysEncoded.{SaysEncoded}
 use Rattle.commands.specs.SaysDescribed.{SaysDescribed}
 use Rattle.commands.specs.SaysReference.{SaysReference}
 use Rattle.commands.specs.SaysTalk.{SaysTalk}
+use Rattle.commands.specs.SaysReplay.{SaysReplay}
 use Rattle.commands.specs.SaysRun.{NetTold, SaysRun, StopsRun}
 use Rattle.commands.specs.declared.answers.Unsaid.{Unsaid}
 use Rattle.commands.specs.declared.answers.Unsaid.TheVariants.{OutOfMemory}
@@ -24,6 +25,7 @@ Says Describe net = Alone (OfText SaysDescribed)
 Says Reference net = Alone (OfText SaysReference)
 Says Talk net = Alone (OfText SaysTalk)
 Says Run net = SaysRun net
+Says Replay net = Alone SaysReplay
 
 -- why a command says nothing: only a run has another reason than want of memory
 abbrev pub Stops : Command → (input : List ℕ) → (before now : ℕ) → Unsaid → Type 0

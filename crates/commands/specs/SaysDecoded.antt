@@ -24,3 +24,4 @@ abbrev pub SaysDecoded : List ℕ → Judgement → List ℕ → Type 0
 SaysDecoded input judged.Good text = (message : Message) × Spells message input × (text ≡ line_of message)
 SaysDecoded input judged.Refused text = (at : ℕ) × (why : DecodeWhy) × Refusal input at why × (text ≡ byte_refusal at (decode_word why))
 SaysDecoded input judged.Failed text = ⊥
+SaysDecoded input judged.Differs text = ⊥

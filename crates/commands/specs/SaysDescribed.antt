@@ -16,3 +16,4 @@ abbrev pub SaysDescribed : List ℕ → Judgement → List ℕ → Type 0
 SaysDescribed input judged.Good text = (desc : SlaveDesc) × ReadsAsDesc input desc × (text ≡ canonical desc)
 SaysDescribed input judged.Refused text = (line : ℕ) × (why : TextWhy) × FirstBad desc_why_at input line why × (text ≡ line_refusal line (cause_word why))
 SaysDescribed input judged.Failed text = ⊥
+SaysDescribed input judged.Differs text = ⊥

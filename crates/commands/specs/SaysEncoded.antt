@@ -14,3 +14,4 @@ abbrev pub SaysEncoded : List ℕ → Judgement → List ℕ → Type 0
 SaysEncoded input judged.Good text = (message : Message) × Reads input message × Spells message text
 SaysEncoded input judged.Refused text = (why : PduTextWhy) × Refused input why × (text ≡ line_refusal 1 (why_word why))
 SaysEncoded input judged.Failed text = ⊥
+SaysEncoded input judged.Differs text = ⊥

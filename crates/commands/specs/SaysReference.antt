@@ -20,3 +20,4 @@ SaysReference input judged.Good text =
     × ReadsAsScenario input scenario × IsReference scenario rows fault × (text ≡ reference_text scenario.steps rows fault)
 SaysReference input judged.Refused text = (line : ℕ) × (why : TextWhy) × FirstBad scenario_why_at input line why × (text ≡ line_refusal line (cause_word why))
 SaysReference input judged.Failed text = ⊥
+SaysReference input judged.Differs text = ⊥

@@ -22,7 +22,7 @@ use Rattle.commands.specs.declared.answers.Unsaid.{Unsaid}
 use Rattle.commands.specs.declared.answers.Unsaid.TheVariants.{NetFault, OutOfMemory}
 use Rattle.commands.specs.declared.statuses.Judgement.{Judgement}
 use Rattle.commands.specs.declared.statuses.Judgement.TheVariants as judged
-use Rattle.commands.specs.Inputs.{input_limit}
+use Rattle.commands.specs.Limits.{input_limit}
 use Rattle.commands.specs.Refusals.{OfText}
 use Rattle.commands.specs.SaysReference.{SaysReference}
 
@@ -74,6 +74,7 @@ pub record RunsTo (net : NetTold) (input : List ℕ) (report : Report) (text tra
 abbrev pub SaysRun : NetTold → List ℕ → Judgement → (text trace : List ℕ) → Type 0
 SaysRun net input judged.Good text trace = (steps : ℕ) × RunsTo net input (reports.Finished steps) text trace
 SaysRun net input judged.Failed text trace = (slave : ℕ) × (phase : ℕ) × (cause : Cause) × RunsTo net input (reports.Failed slave phase cause) text trace
+SaysRun net input judged.Differs text trace = ⊥
 SaysRun net input judged.Refused text trace = OfText SaysReference input judged.Refused text × (trace ≡ [])
 
 -- a run has no end only for want of memory, or where the network's count of faults rose; its text is a scenario then

@@ -21,3 +21,4 @@ abbrev pub SaysTalk : List ℕ → Judgement → List ℕ → Type 0
 SaysTalk input judged.Good text = (t : Talk) × IsTalk input t × (text ≡ talk_lines t)
 SaysTalk input judged.Refused text = (line : ℕ) × (why : TextWhy) × FirstBad talk_why_at input line why × (text ≡ line_refusal line (cause_word why))
 SaysTalk input judged.Failed text = ⊥
+SaysTalk input judged.Differs text = ⊥

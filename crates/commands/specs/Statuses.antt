@@ -4,6 +4,10 @@ use Rattle.commands.specs.declared.statuses.Status.{Status}
 use Rattle.commands.specs.declared.statuses.Status.TheVariants.{Done, Usage, BadInput, RunFailed, ReadFault, WriteFault, NetFault, OutOfMemory, Differs}
 use Rattle.commands.specs.declared.statuses.Judgement.{Judgement}
 use Rattle.commands.specs.declared.statuses.Judgement.TheVariants.{Good, Failed, Refused}
+use Rattle.commands.specs.declared.statuses.Judgement.TheVariants as judged
+use Rattle.master_spec.specs.declared.reports.Report.{Report}
+use Rattle.master_spec.specs.declared.reports.Report.TheVariants.{Finished}
+use Rattle.master_spec.specs.declared.reports.Report.TheVariants as reports
 use Rattle.byte_spool.specs.declared.outputs.Delivery.{Delivery}
 use Rattle.byte_spool.specs.declared.outputs.Delivery.TheVariants.{Whole, Cut}
 
@@ -19,11 +23,18 @@ status_code OutOfMemory = 7
 status_code Differs = 8
 
 -- a refusal stays one where its line could not be written
+-- a run that finished is good
+abbrev pub judgement_of_report : Report → Judgement
+judgement_of_report (Finished steps) = Good
+judgement_of_report (reports.Failed slave phase cause) = Failed
+
 abbrev pub status_after : Judgement → Delivery → Status
 status_after Good Whole = Done
 status_after Good Cut = WriteFault
 status_after Failed Whole = RunFailed
 status_after Failed Cut = WriteFault
+status_after judged.Differs Whole = Differs
+status_after judged.Differs Cut = WriteFault
 status_after Refused Whole = BadInput
 status_after Refused Cut = BadInput
 

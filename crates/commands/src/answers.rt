@@ -1,8 +1,12 @@
 //! What a command answers to an input, and the writing of it.
 
-ghost use Rattle.std.specs.Prelude.{◌≡◌};
-ghost use Rattle.commands.specs.Answers.{Delivered, Gives, IsRefusal, IsText, IsWritable, IsWritableAnswer, RunDelivered, judgement_of_report};
-ghost use Rattle.commands.specs.Statuses.{ComesBeforeWriting, ComesWithoutNet};
+ghost use Rattle.std.specs.Prelude.{◌≡◌, List};
+ghost use Rattle.commands.specs.Answers.{Delivered, Gives, IsRefusal, IsAlone, IsWritable, IsWritableAnswer, RunDelivered};
+ghost use Rattle.commands.specs.Replays.{FollowsReport, ReplayDelivered};
+ghost use Rattle.replays.specs.Replays.{IsReplayed};
+ghost use Rattle.scenario.specs.Sound.{IsScenario};
+ghost use Rattle.dcp_ends.specs.declared.entries.LogEntry.{LogEntry};
+ghost use Rattle.commands.specs.Statuses.{ComesBeforeWriting, ComesWithoutNet, judgement_of_report};
 ghost use Rattle.commands.specs.SaysRun.{NetTold};
 ghost use Rattle.commands.specs.declared.command_words.Command.{Command};
 
@@ -12,7 +16,9 @@ use dcp_io::Sink;
 use dcp_types::OutOfMemory;
 use host::Host;
 use master_spec::Report;
-use run_text::write_run;
+use replays::Replayed;
+use run_text::{write_report, write_run};
+use scenario::Scenario;
 
 /// What a command answers to an input.
 #[derive(Drop)]
@@ -21,6 +27,11 @@ pub enum Answer {
     Said(Said),
     /// The host of all ends of a scenario, which have run until the master had its report.
     Ran(Host),
+    /// A trace of this scenario that went through, with the master that has its rows and its report.
+    Replayed {
+        scenario: Scenario,
+        replayed: Replayed,
+    },
 }
 
 /// Why a command has no answer.
@@ -77,12 +88,23 @@ fn deliver_run<K: Sink, R: Sink>(out: &mut K, trace: &mut R, host: &Host, input:
     judgement_of(report).status(delivery)
 }
 
+/// Writes the rows and the report of a trace that went through.
+fn deliver_replayed<K: Sink>(out: &mut K, scenario: &Scenario, replayed: &Replayed) -> Status
+    requires { IsScenario scenario.now }
+    ensures follows { FollowsReport replayed.now.report result }
+    ensures delivered { (entries : List LogEntry) → IsReplayed scenario.now entries replayed.now
+        → ReplayDelivered (K.written out.old) (K.written out.new) (K.faults out.old) (K.faults out.new) scenario.now entries replayed.now result }
+{
+    let delivery = write_report(out, scenario, &replayed.master, replayed.report);
+    judgement_of(replayed.report).status(delivery)
+}
+
 /// Writes a text to the one sink and nothing to the other; or what a run leaves to both.
 pub fn deliver<K: Sink, R: Sink>(out: &mut K, trace: &mut R, answer: Answer, input: &[u8]) -> Status
     requires { IsWritableAnswer input.now answer }
     ensures delivered { (command : Command) (net : NetTold) → Gives command net input.now answer
         → Delivered (K.written out.old) (K.written out.new) (K.faults out.old) (K.faults out.new) (R.written trace.old) (R.written trace.new) (R.faults trace.old) (R.faults trace.new) command net input.now result }
-    ensures untouched { IsText answer → trace.new ≡ trace.old }
+    ensures untouched { IsAlone answer → trace.new ≡ trace.old }
     ensures written { ComesBeforeWriting result → ⊥ }
     ensures used { result ≡ Status.Usage → ⊥ }
     ensures refused { ComesWithoutNet result → IsRefusal answer }
@@ -90,5 +112,6 @@ pub fn deliver<K: Sink, R: Sink>(out: &mut K, trace: &mut R, answer: Answer, inp
     match answer {
         Answer::Said(said) => said.judgement.status(write_text(out, &said.text)),
         Answer::Ran(host) => deliver_run(out, trace, &host, input),
+        Answer::Replayed { scenario, replayed } => deliver_replayed(out, &scenario, &replayed),
     }
 }

@@ -2,6 +2,9 @@
 
 ghost use Rattle.std.specs.Prelude.{◌≡◌, MatchOption};
 ghost use Rattle.commands.specs.CommandWords.{command_word, IsWord};
+ghost use Rattle.commands.specs.Limits.{limit_of};
+
+use crate::inputs::{LIMIT, TRACE_LIMIT};
 
 /// What the program can be asked for.
 #[derive(Clone, Copy, Debug, PartialEq, Eq)]
@@ -18,6 +21,8 @@ pub enum Command {
     Talk,
     /// Runs a scenario over the network, and prints its rows and its report.
     Run,
+    /// Goes through the trace of a run again, and prints the rows and the report that it goes to.
+    Replay,
 }
 
 impl Command {
@@ -43,6 +48,19 @@ impl Command {
         if word == "run" {
             return Some(Command::Run);
         }
+        if word == "replay" {
+            return Some(Command::Replay);
+        }
         None
+    }
+
+    /// The most bytes of its input: a trace is longer than a text.
+    pub fn limit(self) -> usize
+        ensures { result ≡ limit_of self }
+    {
+        match self {
+            Command::Replay => TRACE_LIMIT,
+            _ => LIMIT,
+        }
     }
 }

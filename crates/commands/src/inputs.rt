@@ -1,13 +1,17 @@
 //! Reading an input to its end, or to one byte past its limit.
 
+ghost use Rattle.std.specs.Prelude.{◌≤◌};
 ghost use Rattle.commands.specs.Inputs.{Gathers};
 
 use bytes::BytesMut;
 use dcp_io::{Read, Source};
 use std::alloc::Global;
 
-/// The most bytes of an input.
+/// The most bytes of a text, or of a message.
 pub const LIMIT: usize = 1_048_576;
+
+/// The most bytes of a trace.
+pub const TRACE_LIMIT: usize = 1_073_741_824;
 
 /// How many bytes are asked for at once.
 const PIECE: usize = 4_096;
@@ -23,13 +27,14 @@ pub enum Gathered {
 }
 
 /// Reads what is left, up to one byte past the limit.
-pub fn read_input<S: Source>(alloc: Global, source: &mut S) -> Gathered
-    ensures { Gathers (S.left source.old) (S.left source.new) (S.faults source.old) (S.faults source.new) result }
+pub fn read_input<S: Source>(alloc: Global, source: &mut S, limit: usize) -> Gathered
+    requires { limit ≤ 1073741824 }
+    ensures { Gathers limit (S.left source.old) (S.left source.new) (S.faults source.old) (S.faults source.new) result }
 {
     let mut gathered = BytesMut::new(alloc);
     let mut room = [0u8; PIECE];
-    while gathered.len() <= LIMIT {
-        let size = (LIMIT + 1 - gathered.len()).min(PIECE);
+    while gathered.len() <= limit {
+        let size = (limit + 1 - gathered.len()).min(PIECE);
         match source.read(&mut room[..size]) {
             Read::End => return Gathered::Bytes(gathered),
             Read::Failed => return Gathered::Failed,

@@ -18,7 +18,7 @@ mod top_calls;
 mod word_lists;
 
 pub use command_words::Command;
-pub use inputs::LIMIT;
+pub use inputs::{LIMIT, TRACE_LIMIT};
 pub use programs::{Ended, run_program};
 pub use statuses::Status;
 pub use top_calls::run_words;

@@ -1,13 +1,14 @@
 //! What each command says of an input.
 
 ghost use Rattle.std.specs.Prelude.{◌≡◌, ◌⊎◌, IfErr, IfOk};
-ghost use Rattle.commands.specs.Answers.{Gives, IsRefusal, IsText, IsWritableAnswer};
+ghost use Rattle.commands.specs.Answers.{Gives, IsRefusal, IsAlone, IsWritableAnswer};
 ghost use Rattle.commands.specs.Says.{Stops};
 
 mod decode;
 mod describe;
 mod encode;
 mod reference;
+mod replay;
 mod run;
 mod talk;
 
@@ -29,7 +30,7 @@ pub fn say<N: Net>(
     ensures refused { IfOk result (λ answer. IsRefusal answer → net.new ≡ net.old) }
     ensures still { IfOk result (λ answer. N.count net.new ≡ N.count net.old) }
     ensures stopped { IfErr result (Stops command input.now (N.count net.old) (N.count net.new)) }
-    ensures alone { (command ≡ Command.Run) ⊎ (IfOk result IsText × (net.new ≡ net.old)) }
+    ensures alone { (command ≡ Command.Run) ⊎ (IfOk result IsAlone × (net.new ≡ net.old)) }
 {
     match command {
         Command::Decode => Ok(Answer::Said(decode::say_decoded(alloc, input)?)),
@@ -38,5 +39,6 @@ pub fn say<N: Net>(
         Command::Reference => Ok(Answer::Said(reference::say_reference(alloc, input)?)),
         Command::Talk => Ok(Answer::Said(talk::say_talk(alloc, input)?)),
         Command::Run => run::say_run(alloc, input, net),
+        Command::Replay => Ok(replay::say_replay(alloc, input)?),
     }
 }

@@ -27,7 +27,7 @@ pub enum Status {
     NetFault,
     /// Memory was refused.
     OutOfMemory,
-    /// A record differs from what its scenario gives.
+    /// A trace differs from what its scenario gives, or breaks off.
     Differs,
 }
 
@@ -64,6 +64,8 @@ pub enum Judgement {
     Good,
     /// The form of the input is good, and what is said is how the simulation failed.
     Failed,
+    /// The trace does not go through, and what is said is where it stops.
+    Differs,
     /// The form of the input is refused, and what is said is the line that names the place and the
     /// reason.
     Refused,
@@ -78,7 +80,10 @@ impl Judgement {
         match (self, delivery) {
             (Judgement::Good, Delivery::Whole) => Status::Done,
             (Judgement::Failed, Delivery::Whole) => Status::RunFailed,
-            (Judgement::Good | Judgement::Failed, Delivery::Cut) => Status::WriteFault,
+            (Judgement::Differs, Delivery::Whole) => Status::Differs,
+            (Judgement::Good | Judgement::Failed | Judgement::Differs, Delivery::Cut) => {
+                Status::WriteFault
+            }
             (Judgement::Refused, _) => Status::BadInput,
         }
     }

@@ -45,7 +45,7 @@ pub fn run_words<S: Source, K: Sink, R: Sink, N: Net>(
         let _ = write_all(out, b"usage\n");
         return Status::Usage;
     };
-    let input = match read_input(alloc, source) {
+    let input = match read_input(alloc, source, command.limit()) {
         Gathered::Bytes(input) => input,
         Gathered::Failed => return Status::ReadFault,
         Gathered::OutOfMemory => return Status::OutOfMemory,

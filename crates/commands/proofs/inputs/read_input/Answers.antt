@@ -1,4 +1,4 @@
-use Rattle.std.proofs.Common.{◌≡◌, ◌≤◌, length, take, drop, arith, rules, sym, ap, ◌∙◌, ◌++◌, subst, List, ℕ}
+use Rattle.std.proofs.Common.{◌≡◌, ◌≤◌, ◌+◌, length, take, drop, arith, rules, sym, ap, ◌∙◌, ◌++◌, subst, List, ℕ}
 use Rattle.std.proofs.lemmas.List.{length-append, length-take}
 use Rattle.std.specs.Io.KnownBytes.{Consumes}
 use Rattle.commands.proofs.Pieces.{end_is, full_is, read_more, then_none_taken, then_taken}
@@ -7,7 +7,7 @@ use Rattle.commands.proofs.inputs.read_input.Goals as goal
 pub returns-in-End : goal.returns-in-End
 returns-in-End g c =
     let i = c.loop-room.invariant in (
-      end_is _ _ _ _ (search rules) i.taken c.in-End.ensures.bytes.0 c.in-End.ensures.bytes.1,
+      end_is _ _ _ _ _ (search rules) i.taken c.in-End.ensures.bytes.0 c.in-End.ensures.bytes.1,
       (c.loop-room.gathered.items, i.within, then_none_taken _ _ _ _ i.taken c.in-End.ensures.bytes.1),
       c.in-End.ensures.cause ∙ i.no_fault,
     )
@@ -41,5 +41,5 @@ loop-room-preserved g c =
 pub returns : goal.returns
 returns g c =
     let i = c.loop-room.invariant in
-    let full : length c.loop-room.gathered.items ≡ 1048577 = omega (arith, i.within, c.len.ensures.value, c.loop-room-test.false) in
-    (full_is _ _ _ full i.taken, (c.loop-room.gathered.items, i.within, i.taken), i.no_fault)
+    let full : length c.loop-room.gathered.items ≡ c.args.limit + 1 = omega (arith, i.within, c.len.ensures.value, c.loop-room-test.false) in
+    (full_is _ _ _ _ full i.taken, (c.loop-room.gathered.items, i.within, i.taken), i.no_fault)

@@ -1,4 +1,4 @@
-use Rattle.std.proofs.Common.{◌≡◌, ap, subst, sym}
+use Rattle.std.proofs.Common.{ap, subst, sym}
 use Rattle.commands.specs.Changes.{Change, NetChange}
 use Rattle.commands.specs.Outcomes.{Outcome}
 use Rattle.commands.specs.Programs.{change_of}

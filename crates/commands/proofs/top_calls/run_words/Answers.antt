@@ -1,11 +1,13 @@
-use Rattle.std.proofs.Common.{◌≡◌, ℕ, List, refl, sym, subst, ◌∙◌, inl, inr}
+use Rattle.std.proofs.Common.{ℕ, List, refl, sym, subst, ◌∙◌, inl, inr}
 use Rattle.commands.specs.declared.answers.Unsaid.{Unsaid}
 use Rattle.commands.specs.declared.command_words.Command.{Command}
+use Rattle.commands.specs.declared.command_words.Command.TheVariants.{Run}
 use Rattle.commands.specs.declared.statuses.Status.{Status}
 use Rattle.commands.specs.Answers.{Gives}
-use Rattle.commands.specs.Changes.{Change, NetChange}
+use Rattle.commands.specs.Changes.{NetChange}
 use Rattle.commands.specs.CommandWords.{Names}
 use Rattle.commands.specs.Inputs.{TakesInput}
+use Rattle.commands.specs.Limits.{limit_of}
 use Rattle.commands.specs.Outcomes.{Outcome}
 use Rattle.commands.specs.Says.{Stops}
 use Rattle.commands.specs.SaysRun.{NetTold}
@@ -22,12 +24,13 @@ returns-in-Ok-clause-outcome g c =
     let command = c.in-Some.command in
     let input = c.as_slice-in-Ok.result.now in
     let Given : List ℕ → Type 0 = λ bytes. Gives command told bytes c.in-Ok.answer in
-    let Taken : List ℕ → Type 0 = λ bytes. TakesInput source.was source.is bytes in
+    let Taken : List ℕ → Type 0 = λ bytes. TakesInput c.limit.result source.was source.is bytes in
+    let Limited : ℕ → Type 0 = λ limit. TakesInput limit source.was source.is input in
     let Ended : Status → Type 0 = λ status. Outcome c.args.words.now source out trace net status in
     let done = c.deliver.ensures.delivered command told (subst Given (c.as_slice.ensures ∙ sym c.as_slice-in-Ok.ensures) c.in-Ok.ensures.says) in
     subst Ended (sym done.6)
     (outcome_is c.args.words.now source out trace net done.0 done.1
-    (command, input, done.2, done.3, c.in-Some.ensures, subst Taken (sym c.as_slice-in-Ok.ensures) c.in-Bytes.ensures.0, c.in-Bytes.ensures.2, done.4, done.5, c.in-Ok.ensures.still))
+    (command, input, done.2, done.3, c.in-Some.ensures, subst Limited c.limit.ensures (subst Taken (sym c.as_slice-in-Ok.ensures) c.in-Bytes.ensures.0), c.in-Bytes.ensures.2, done.4, done.5, c.in-Ok.ensures.still))
 
 pub returns-in-Ok-clause-uncalled : goal.returns-in-Ok-clause-uncalled
 returns-in-Ok-clause-uncalled g c = λ without. c.in-Ok.ensures.refused (c.deliver.ensures.refused without)
@@ -54,9 +57,13 @@ returns-in-Err-NetFault-clause-outcome g c =
     let now = g.N.Net.count c.say.new.net in
     let Stopped : Unsaid → Type 0 = λ reason. Stops command input before now reason in
     let Named : Command → Type 0 = λ word. Names c.args.words.now word in
-    let Taken : List ℕ → Type 0 = λ bytes. TakesInput (g.S.Source.left c.args.source.now) (g.S.Source.left c.read_input.new.source) bytes in
+    let Taken : List ℕ → Type 0 = λ bytes. TakesInput c.limit.result (g.S.Source.left c.args.source.now) (g.S.Source.left c.read_input.new.source) bytes in
+    let Limited : ℕ → Type 0 = λ limit. TakesInput limit (g.S.Source.left c.args.source.now) (g.S.Source.left c.read_input.new.source) input in
     let run = stops_run command input before now (subst Stopped c.in-Err-NetFault.field-0-is c.in-Err-NetFault.ensures.stopped) in
-    (input, subst Named run.0 c.in-Some.ensures, subst Taken (sym c.as_slice.ensures) c.in-Bytes.ensures.0, c.in-Bytes.ensures.2, run.1, (refl, refl))
+    let Bounded : Command → Type 0 = λ word. TakesInput (limit_of word) (g.S.Source.left c.args.source.now) (g.S.Source.left c.read_input.new.source) input in
+    let limited : TakesInput (limit_of Run) (g.S.Source.left c.args.source.now) (g.S.Source.left c.read_input.new.source) input =
+    subst Bounded run.0 (subst Limited c.limit.ensures (subst Taken (sym c.as_slice.ensures) c.in-Bytes.ensures.0)) in
+    (input, subst Named run.0 c.in-Some.ensures, limited, c.in-Bytes.ensures.2, run.1, (refl, refl))
 
 pub returns-in-Ok-clause-unread : goal.returns-in-Ok-clause-unread
 returns-in-Ok-clause-unread g c = λ usage. absurd (c.deliver.ensures.used usage)
