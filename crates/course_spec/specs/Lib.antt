@@ -1,0 +1,4 @@
+-- What exchanges tell of a slave.
+pub mod Taken
+-- What may be asked after them.
+pub mod Courses

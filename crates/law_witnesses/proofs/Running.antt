@@ -1,0 +1,259 @@
+-- All behave in the small run.
+use Rattle.std.proofs.Common.{◌≡◌, ℕ, ◌+◌, ◌≤◌, ◌==◌, Bool, true, false, if◌then◌else◌, ◌⊎◌, inl, inr, Option, Some, None, List, [], ◌∷◌, ◌++◌, length, map, refl, ap, subst, arith}
+use Rattle.std.specs.List.{cons_option}
+use Rattle.dcp_types.specs.declared.addresses.Address.{Address}
+use Rattle.dcp_types.specs.Values.{digits}
+use Rattle.dcp_ends.specs.declared.entries.LogEntry.{LogEntry}
+use Rattle.dcp_ends.specs.declared.entries.LogEntry.TheVariants.{Sent, Turn}
+use Rattle.fixed_models.specs.Steps.{start}
+use Rattle.pdu_layout.specs.Reading.{message_in, spelling}
+use Rattle.slave_states.specs.Transitions.{next_on}
+use Rattle.slave_spec.specs.Heard as spec
+use Rattle.slave_spec.specs.Requests.{refusal, accepted, answer}
+use Rattle.log_spec.specs.Messages.{Note}
+use Rattle.log_spec.specs.Channel.{number_changes}
+use Rattle.log_spec.specs.Log.{PartiesApart, IsSlaveOf, same, Channel, sent_in, sends_in, requests_sent, AreAtEnds}
+use Rattle.log_spec.specs.Honest.{IsRepeatedNewest, HonestNewest}
+use Rattle.log_spec.specs.Moves.{move, decided_exchanges}
+use Rattle.lockstep_laws.specs.Slaves.{SlaveRun}
+use Rattle.lockstep_laws.specs.Master.{MasterMay, MasterConverses, OnlyAsks}
+use Rattle.lockstep_laws.specs.Runs.{AreSlaves, Behaves}
+use Rattle.slave_sends.proofs.Sending.{are_lawful}
+use Rattle.law_witnesses.specs.Small.{address, parties, setup, slaves, register, acknowledgement, question, configuration, asked, came, told, heard, log}
+
+-- ---- the parties
+apart : PartiesApart parties
+apart = record {
+  master = λ s is e. absurd (omega (arith, is.0, ap (λ (a : Address). a.port) e));
+  slaves = λ s t p q e. omega (arith, ap (λ (a : Address). a.port) e);
+}
+
+pub are_slaves : AreSlaves parties slaves
+are_slaves = are_lawful parties setup 1 1 (λ s es n. true) (λ s run es. false) apart (λ b. refl)
+
+-- there is one slave
+alone : (P : ℕ → Type 0) → P 1 → (s : ℕ) → IsSlaveOf parties s → P s
+alone P h s is = let e : 1 ≡ s = omega (arith, is.0, is.1) in subst P e h
+
+-- ---- the network: so few entries are never too old
+changes_few : (ns : List Note) → number_changes ns ≤ length ns
+changes_few [] = omega arith
+changes_few (n ∷ []) = omega arith
+changes_few (n ∷ k ∷ ns) = by (changes_few (k ∷ ns)) (n.number == k.number)
+  where
+    by : number_changes (k ∷ ns) ≤ length (k ∷ ns) → (b : Bool) → (if b then number_changes (k ∷ ns) else number_changes (k ∷ ns) + 1) ≤ length (n ∷ k ∷ ns)
+    by h true = omega (arith, h)
+    by h false = omega (arith, h)
+
+sends_few : (c : Channel) (es : List LogEntry) → length (sends_in parties c es) ≤ length es
+sends_few c [] = omega arith
+sends_few c (e ∷ es) = by (sends_few c es) (sent_in parties c e)
+  where
+    by : length (sends_in parties c es) ≤ length es → (o : Option Note) → length (cons_option o (sends_in parties c es)) ≤ length (e ∷ es)
+    by h None = omega (arith, h)
+    by h (Some n) = omega (arith, h)
+
+repeated : (at from : Address) (bytes : List ℕ) (later earlier : List LogEntry) → length (later ++ Sent from at bytes ∷ earlier) ≤ 32767 → IsRepeatedNewest parties (later ++ Sent from at bytes ∷ earlier) at from bytes
+repeated at from bytes later earlier few = record {
+  later = later;
+  earlier = earlier;
+  is = refl;
+  young = λ c n h. omega (arith, changes_few (sends_in parties c (later ++ Sent from at bytes ∷ earlier)), sends_few c (later ++ Sent from at bytes ∷ earlier));
+}
+
+abbrev l0 : List LogEntry
+l0 = Turn (address 0) ∷ []
+
+abbrev l1 : List LogEntry
+l1 = asked register ∷ l0
+
+abbrev l2 : List LogEntry
+l2 = asked register ∷ l1
+
+abbrev l3 : List LogEntry
+l3 = came register ∷ l2
+
+abbrev l4 : List LogEntry
+l4 = told acknowledgement ∷ l3
+
+abbrev l5 : List LogEntry
+l5 = came register ∷ l4
+
+abbrev l6 : List LogEntry
+l6 = told acknowledgement ∷ l5
+
+abbrev l7 : List LogEntry
+l7 = heard acknowledgement ∷ l6
+
+abbrev l8 : List LogEntry
+l8 = asked question ∷ l7
+
+abbrev l9 : List LogEntry
+l9 = came question ∷ l8
+
+abbrev l10 : List LogEntry
+l10 = told configuration ∷ l9
+
+abbrev l11 : List LogEntry
+l11 = heard configuration ∷ l10
+
+honest : HonestNewest parties log
+honest = (
+  repeated (address 0) (address 1) acknowledgement (heard configuration ∷ told configuration ∷ came question ∷ asked question ∷ heard acknowledgement ∷ []) l5 (omega arith),
+  (
+    repeated (address 0) (address 1) configuration [] l9 (omega arith),
+    (
+      tt,
+      (
+        repeated (address 1) (address 0) question [] l7 (omega arith),
+        (
+          tt,
+          (
+            repeated (address 0) (address 1) acknowledgement [] l5 (omega arith),
+            (
+              tt,
+              (
+                repeated (address 1) (address 0) register (told acknowledgement ∷ came register ∷ []) l1 (omega arith),
+                (
+                  tt,
+                  (
+                    repeated (address 1) (address 0) register [] l1 (omega arith),
+                    (tt, (tt, (tt, tt))),
+                  ),
+                ),
+              ),
+            ),
+          ),
+        ),
+      ),
+    ),
+  ),
+)
+
+-- ---- all are at ends
+hosted : AreAtEnds parties log
+hosted = (m, (m, (s, (s, (m, (m, (s, (s, (s, (s, (m, (m, (m, tt)))))))))))))
+  where
+    m : (address 0 ≡ address 0) ⊎ ((n : ℕ) × IsSlaveOf parties n × (address 0 ≡ address n))
+    m = inl refl
+
+    s : (address 1 ≡ address 0) ⊎ ((n : ℕ) × IsSlaveOf parties n × (address 1 ≡ address n))
+    s = inr (1, (omega arith, omega arith), refl)
+
+-- ---- the master
+every : (e : LogEntry) (l : List LogEntry) → MasterMay parties slaves 1 (move parties 1 e) l → (s : ℕ) → IsSlaveOf parties s → MasterMay parties slaves s (move parties s e) l
+every e l h = alone (λ s. MasterMay parties slaves s (move parties s e) l) h
+
+no_turn : MasterMay parties slaves 1 (move parties 1 (Turn (address 0))) []
+unfolding same
+no_turn = tt
+
+registers : MasterMay parties slaves 1 (move parties 1 (asked register)) l0
+unfolding same message_in
+registers = inr (record { closed = refl; number = refl; first = λ e. refl; may = refl; barrier = λ k e. absurd cc })
+
+registers_again : MasterMay parties slaves 1 (move parties 1 (asked register)) l1
+unfolding same message_in
+registers_again = inl refl
+
+questions : MasterMay parties slaves 1 (move parties 1 (asked question)) l7
+unfolding same message_in
+questions = inr (record { closed = refl; number = refl; first = λ e. absurd cc; may = refl; barrier = λ k e. absurd cc })
+
+came_register : (l : List LogEntry) → MasterMay parties slaves 1 (move parties 1 (came register)) l
+unfolding same message_in
+came_register l = tt
+
+came_question : (l : List LogEntry) → MasterMay parties slaves 1 (move parties 1 (came question)) l
+unfolding same message_in
+came_question l = tt
+
+told_acknowledgement : (l : List LogEntry) → MasterMay parties slaves 1 (move parties 1 (told acknowledgement)) l
+unfolding same message_in
+told_acknowledgement l = tt
+
+told_configuration : (l : List LogEntry) → MasterMay parties slaves 1 (move parties 1 (told configuration)) l
+unfolding same message_in
+told_configuration l = tt
+
+heard_acknowledgement : (l : List LogEntry) → MasterMay parties slaves 1 (move parties 1 (heard acknowledgement)) l
+unfolding same message_in
+heard_acknowledgement l = tt
+
+heard_configuration : (l : List LogEntry) → MasterMay parties slaves 1 (move parties 1 (heard configuration)) l
+unfolding same message_in
+heard_configuration l = tt
+
+master : MasterConverses parties slaves log
+master = (
+  every (heard acknowledgement) l11 (heard_acknowledgement l11),
+  (
+    every (heard configuration) l10 (heard_configuration l10),
+    (
+      every (told configuration) l9 (told_configuration l9),
+      (
+        every (came question) l8 (came_question l8),
+        (
+          every (asked question) l7 questions,
+          (
+            every (heard acknowledgement) l6 (heard_acknowledgement l6),
+            (
+              every (told acknowledgement) l5 (told_acknowledgement l5),
+              (
+                every (came register) l4 (came_register l4),
+                (
+                  every (told acknowledgement) l3 (told_acknowledgement l3),
+                  (
+                    every (came register) l2 (came_register l2),
+                    (
+                      every (asked register) l1 registers_again,
+                      (
+                        every (asked register) l0 registers,
+                        (every (Turn (address 0)) [] no_turn, tt),
+                      ),
+                    ),
+                  ),
+                ),
+              ),
+            ),
+          ),
+        ),
+      ),
+    ),
+  ),
+)
+
+-- the slave is no master
+told_by_slave : (k : Type 0) → address 1 ≡ address 0 → k
+told_by_slave k e = absurd (omega (arith, ap (λ (a : Address). a.port) e))
+
+asks : OnlyAsks parties log
+unfolding message_in
+asks = (tt, (tt, (told_by_slave _, (tt, ((λ e. (1, _, refl)), (tt, (told_by_slave _, (tt, (told_by_slave _, (tt, ((λ e. (1, _, refl)), ((λ e. (1, _, refl)), (tt, tt)))))))))))))
+
+-- ---- the slave
+sends : SlaveRun parties 1 (slaves.desk 1) log
+unfolding same message_in spec.heard spelling digits refusal accepted answer next_on start
+sends = (tt, (tt, ((refl, refl), (refl, (tt, (tt, ((refl, refl), (refl, ((refl, refl), (refl, (tt, (tt, (tt, tt)))))))))))))
+
+pub behaves : Behaves parties slaves log
+behaves = record {
+  honest = honest;
+  hosted = hosted;
+  master = master;
+  asks = asks;
+  slaves = λ s is. alone (λ s. SlaveRun parties s (slaves.desk s) log) sends s is;
+}
+
+-- ---- what it shows
+pub two_sent : length (requests_sent parties 1 log) ≡ 2
+unfolding same message_in
+two_sent = refl
+
+pub taken : map (λ e. e.request) (slaves.desk 1 log).served ≡ requests_sent parties 1 log
+unfolding same message_in spec.heard spelling digits refusal accepted answer next_on start
+taken = refl
+
+pub decided : decided_exchanges parties 1 log ≡ (slaves.desk 1 log).served
+unfolding same message_in spec.heard spelling digits refusal accepted answer next_on start
+decided = refl

@@ -1,0 +1,5 @@
+pub mod Lists
+pub mod Staged
+pub mod Stages
+pub mod Courses
+pub mod Counting

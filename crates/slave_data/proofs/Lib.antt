@@ -1,0 +1,4 @@
+pub mod Ended
+pub mod Held
+pub mod Owing
+pub mod Keeping

@@ -1,0 +1,3 @@
+-- What fits a field of a message.
+pub mod Ranges
+pub mod Laws
