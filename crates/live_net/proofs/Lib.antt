@@ -1,0 +1,3 @@
+mod Sockets
+mod Finding
+mod Gathering

@@ -1,0 +1,30 @@
+//! The network over sockets, by UDP or by TCP, and the wait for something to take.
+//!
+//! What it promises: a network of sockets fails only where its count of faults rose; it takes and sends
+//! only for the ends that it was opened for; over TCP what is handed out of a connection are the messages
+//! whose frames its stream gave, in order and whole, and the connections that are kept at one end are no
+//! more than 32. What the system does with a call is not known: `PROMISES.md` lists each call.
+#![tactic(auto)]
+
+mod addresses;
+mod arrivals;
+mod datagrams;
+mod departures;
+mod failures;
+mod intakes;
+mod live_ends;
+mod live_nets;
+mod motions;
+mod refusals;
+mod streams;
+mod tcp_ends;
+mod waits;
+mod wakes;
+
+pub use arrivals::MOST_INWARD;
+pub use intakes::{Intake, Taking};
+pub use live_nets::LiveNet;
+pub use motions::{Motion, motion_of};
+pub use refusals::Refused;
+pub use streams::Stream;
+pub use waits::MioReady;

@@ -1,0 +1,190 @@
+//! The network over sockets.
+
+ghost use Rattle.std.specs.Prelude.{◌≡◌, ◌≤◌, ◌<◌, ⊤, [], false, true, length, IfOk, IsTrue, MatchOption};
+ghost use Rattle.dcp_net.specs.Nets.{HasCause, IsWithinRoom};
+ghost use Rattle.live_net.specs.Live.{is_hosted};
+
+use crate::live_ends::LiveEnd;
+use crate::refusals::Refused;
+use crate::waits::MioReady;
+use dcp_net::{Done, Net, Opening, Taken};
+use dcp_types::Address;
+use mio::Registry;
+use std::alloc::Global;
+use std::marker::Model;
+use std::net;
+
+/// A network over sockets, by UDP or TCP as it is opened. It tells neither its calls nor what it was opened
+/// with, since no one knows what a socket does; a plan of what is to be lost or held back it ignores.
+///
+/// Contracts see the addresses that have a socket of their own, and how often it has failed.
+#[derive(Drop)]
+pub struct LiveNet<H: net::Net + Clone + Drop> {
+    net: H,
+    alloc: Global,
+    registry: Registry,
+    all: Vec<Address>,
+    ends: Vec<LiveEnd>,
+    faults: u64,
+}
+
+impl<H: net::Net + Clone + Drop> Model for LiveNet<H> {
+    ghost use Rattle.std.specs.Prelude.{map};
+    ghost use Rattle.live_net.specs.Live.{Live, place_of};
+
+    ghost Value = { Live };
+
+    ghost view = { λ s. record { hosted = map place_of s.ends.items; faults = s.faults } };
+}
+
+impl<H: net::Net + Clone + Drop> LiveNet<H> {
+    /// A network with no socket yet, whose sockets wake the waits of `ready`.
+    ///
+    /// System where the system does not share that set of sockets.
+    pub fn new(rt: &H, alloc: Global, ready: &MioReady<H>) -> Result<LiveNet<H>, Refused>
+        ensures { IfOk result (λ made. made ≡ record { hosted = []; faults = 0 }) }
+    {
+        let net = rt.clone()?;
+        let registry = ready.registry().try_clone()?;
+        Ok(LiveNet {
+            net,
+            alloc,
+            registry,
+            all: Vec::new(alloc),
+            ends: Vec::new(alloc),
+            faults: 0,
+        })
+    }
+
+    /// Opens a socket for each of the ends that are hosted. Where one cannot be had, none stays open.
+    fn open(&mut self, plan: &Opening) -> Result<(), Refused>
+        ensures hosted { IfOk result (λ _. self.new.hosted ≡ plan.now.ends) }
+        ensures faults { self.new.faults ≡ self.old.faults }
+    {
+        self.ends = Vec::new(self.alloc);
+        self.all = plan.all.as_slice().to_vec(self.alloc)?;
+        let mut ends = Vec::new(self.alloc);
+        for place in plan.ends.as_slice() {
+            let end = LiveEnd::open(
+                &self.net,
+                &self.registry,
+                self.alloc,
+                plan.protocol,
+                *place,
+                &self.all,
+            )?;
+            ends.push(end)?;
+        }
+        self.ends = ends;
+        Ok(())
+    }
+
+    /// The place of the hosted end at this address.
+    fn find(&self, at: Address) -> Option<usize>
+        ensures { MatchOption result (is_hosted self.now at ≡ false) (λ i. (i < length self.now.hosted) × (is_hosted self.now at ≡ true)) }
+    {
+        for (i, end) in self.ends.iter().enumerate() {
+            if end.place() == at {
+                return Some(i);
+            }
+        }
+        None
+    }
+
+    /// Sends by the socket of the sending end, where it has one.
+    fn send_by(&mut self, from: Address, to: Address, bytes: &[u8]) -> Done
+        requires low { 1 ≤ length bytes.now }
+        requires high { length bytes.now ≤ 1024 }
+        ensures same { self.new ≡ self.old }
+        ensures elsewhere { is_hosted self.old from ≡ false → result ≡ Done.Ok }
+    {
+        match self.find(from) {
+            Some(i) => self.ends[i].send(&self.net, &self.registry, self.alloc, to, bytes),
+            None => Done::Ok,
+        }
+    }
+
+    /// Takes by the socket of this end, where it has one.
+    fn take_at(&mut self, at: Address, room: &mut [u8; 1025]) -> Taken
+        ensures same { self.new ≡ self.old }
+        ensures len { IsWithinRoom result }
+        ensures elsewhere { is_hosted self.old at ≡ false → result ≡ Taken.Nothing }
+    {
+        match self.find(at) {
+            Some(i) => self.ends[i].take(&self.registry, self.alloc, &self.all, room),
+            None => Taken::Nothing,
+        }
+    }
+}
+
+impl<H: net::Net + Clone + Drop> Net for LiveNet<H> {
+    ghost use Rattle.std.specs.Prelude.{None, true};
+
+    ghost calls = { λ s. None };
+
+    ghost opening = { λ s. None };
+
+    ghost count = { λ s. s.faults };
+
+    ghost is_open = { λ s. true };
+
+    /// Opens a socket for each of the ends that are hosted, after it has closed those that it had. Failed
+    /// where the system refuses one, as where a port is in use.
+    fn begin(&mut self, plan: &Opening) -> Done
+        ensures opened { result ≡ Done.Ok → IsTrue true }
+        ensures empty { result ≡ Done.Ok → ⊤ }
+        ensures plan { result ≡ Done.Ok → ⊤ }
+        ensures cause { HasCause self.old.faults self.new.faults (result ≡ Done.Failed) }
+        ensures hosted { result ≡ Done.Ok → self.new.hosted ≡ plan.now.ends }
+    {
+        match self.open(plan) {
+            Ok(()) => Done::Ok,
+            Err(Refused::OutOfMemory) => Done::OutOfMemory,
+            Err(Refused::System) => {
+                self.faults = self.faults.saturating_add(1);
+                Done::Failed
+            }
+        }
+    }
+
+    /// Sends by the socket of the sending end. The message of an end that has none is lost.
+    fn send(&mut self, from: Address, to: Address, bytes: &[u8]) -> Done
+        requires is_open { IsTrue true }
+        requires low { 1 ≤ length bytes.now }
+        requires high { length bytes.now ≤ 1024 }
+        ensures is_open { IsTrue true }
+        ensures calls { Unit {0} }
+        ensures opening { Unit {0} }
+        ensures cause { HasCause self.old.faults self.new.faults (result ≡ Done.Failed) }
+        ensures hosted { self.new.hosted ≡ self.old.hosted }
+        ensures elsewhere { is_hosted self.old from ≡ false → result ≡ Done.Ok }
+    {
+        let sent = self.send_by(from, to, bytes);
+        if sent == Done::Failed {
+            self.faults = self.faults.saturating_add(1);
+        }
+        sent
+    }
+
+    /// Takes by the socket of the end. An end that has none is given nothing.
+    fn take(&mut self, at: Address, room: &mut [u8; 1025]) -> Taken
+        requires { IsTrue true }
+        ensures is_open { IsTrue true }
+        ensures len { IsWithinRoom result }
+        ensures calls { Unit {0} }
+        ensures opening { Unit {0} }
+        ensures cause { HasCause self.old.faults self.new.faults (result ≡ Taken.Failed) }
+        ensures hosted { self.new.hosted ≡ self.old.hosted }
+        ensures elsewhere { is_hosted self.old at ≡ false → result ≡ Taken.Nothing }
+    {
+        let taken = self.take_at(at, room);
+        if taken == Taken::Failed {
+            self.faults = self.faults.saturating_add(1);
+        }
+        taken
+    }
+
+    fn faults(&self) -> u64 {
+        self.faults
+    }
+}

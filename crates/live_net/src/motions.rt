@@ -1,0 +1,33 @@
+//! What a call on a stream that does not wait came to.
+
+ghost use Rattle.live_net.specs.Motions.{Means};
+
+use std::io;
+use std::io::ErrorKind;
+
+/// What a read or a write of a stream that does not wait came to.
+#[derive(Clone, Copy, Debug, PartialEq, Eq)]
+pub enum Motion {
+    /// So many bytes were moved: at least one.
+    Moved(usize),
+    /// No byte was moved, and none will be: a reader is at its end, and a writer takes nothing.
+    Ended,
+    /// The call would wait, or was interrupted. It may be made again later.
+    Later,
+    /// The stream is broken.
+    Broken,
+}
+
+/// What the result of a read or a write means.
+pub fn motion_of(called: &io::Result<usize>) -> Motion
+    ensures { Means result called.now }
+{
+    match called {
+        Ok(0) => Motion::Ended,
+        Ok(count) => Motion::Moved(*count),
+        Err(error) => match error.kind() {
+            ErrorKind::WouldBlock | ErrorKind::Interrupted => Motion::Later,
+            _ => Motion::Broken,
+        },
+    }
+}

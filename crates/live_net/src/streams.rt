@@ -1,0 +1,88 @@
+//! A stream that does not wait, as a source and as a sink.
+
+ghost use Rattle.std.specs.Prelude.{◌≡◌, ◌||◌, false};
+ghost use Rattle.live_net.specs.Motions.{is_last};
+
+use crate::motions::{Motion, motion_of};
+use dcp_io::{Read, Sink, Source, Written};
+use std::io;
+
+/// A stream that does not wait. A call that would wait counts as failed, and may be made again later; it
+/// tells its bytes where the stream does.
+#[derive(Drop)]
+pub struct Stream<T> {
+    inner: T,
+    faults: u64,
+    is_over: bool,
+}
+
+impl<T> Stream<T> {
+    /// A stream that has had no fault.
+    pub fn new(inner: T) -> Stream<T>
+        ensures inner { result.inner ≡ inner }
+        ensures faults { result.faults ≡ 0 }
+        ensures open { result.is_over ≡ false }
+    {
+        Stream {
+            inner,
+            faults: 0,
+            is_over: false,
+        }
+    }
+
+    /// Takes note of what a call came to.
+    fn note(&mut self, motion: Motion)
+        ensures inner { self.new.inner ≡ self.old.inner }
+        ensures faults { self.new.faults ≡ self.old.faults }
+        ensures over { self.new.is_over ≡ (self.old.is_over || is_last motion) }
+    {
+        match motion {
+            Motion::Ended | Motion::Broken => self.is_over = true,
+            Motion::Moved(_) | Motion::Later => {}
+        }
+    }
+
+    /// Whether the stream has ended or is broken, so that no later call on it moves a byte.
+    pub fn is_over(&self) -> bool
+        ensures { result ≡ self.now.is_over }
+    {
+        self.is_over
+    }
+}
+
+impl<T: io::Write> Sink for Stream<T> {
+    ghost written = { λ s. T.contents s.inner };
+
+    ghost faults = { λ s. s.faults };
+
+    fn write(&mut self, piece: &[u8]) -> Written {
+        let motion = motion_of(&self.inner.write(piece));
+        self.note(motion);
+        match motion {
+            Motion::Moved(count) => Written::Wrote(count),
+            Motion::Ended | Motion::Later | Motion::Broken => {
+                self.faults = self.faults.saturating_add(1);
+                Written::Failed
+            }
+        }
+    }
+}
+
+impl<T: io::Read> Source for Stream<T> {
+    ghost left = { λ s. T.remaining s.inner };
+
+    ghost faults = { λ s. s.faults };
+
+    fn read(&mut self, room: &mut [u8]) -> Read {
+        let motion = motion_of(&self.inner.read(room));
+        self.note(motion);
+        match motion {
+            Motion::Moved(count) => Read::Bytes(count),
+            Motion::Ended => Read::End,
+            Motion::Later | Motion::Broken => {
+                self.faults = self.faults.saturating_add(1);
+                Read::Failed
+            }
+        }
+    }
+}
