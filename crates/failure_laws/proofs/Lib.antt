@@ -1,0 +1,13 @@
+pub mod Because
+pub mod Turns
+pub mod Ends
+pub mod Lasts
+pub mod Places
+pub mod Answers
+pub mod Silences
+pub mod Missing
+pub mod Kept
+pub mod Calm
+pub mod Steady
+pub mod Passed
+pub mod First

@@ -1,0 +1,11 @@
+pub mod Index
+pub mod Events
+pub mod Steps
+pub mod Mine
+pub mod Dates
+pub mod Outputs
+pub mod Runs
+pub mod Late
+pub mod Reported
+pub mod Laws
+pub mod ByEntry

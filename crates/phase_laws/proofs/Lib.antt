@@ -1,0 +1,10 @@
+pub mod Now
+pub mod Inverse
+pub mod Mains
+pub mod Counts
+pub mod Stage
+pub mod Stages
+pub mod Soon
+pub mod Tags
+pub mod Someone
+pub mod Numbered
