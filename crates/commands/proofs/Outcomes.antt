@@ -1,14 +1,20 @@
 -- What was made of an input and written is the outcome of its status.
-use Rattle.std.proofs.Common.{◌≡◌, ◌⊎◌, ◌≤◌, inl, inr, ℕ, List, [], length, Option, refl, sym, ap, subst, ◌∙◌}
+use Rattle.std.proofs.Common.{◌≡◌, ◌⊎◌, ◌≤◌, inl, inr, ℕ, List, [], length, Option, Some, refl, sym, ap, subst, ◌∙◌}
 use Rattle.dcp_io.specs.Faults.{Rose}
 use Rattle.byte_spool.specs.declared.outputs.Delivery.{Delivery}
 use Rattle.byte_spool.specs.declared.outputs.Delivery.TheVariants.{Whole, Cut}
 use Rattle.byte_spool.specs.Outputs.{Delivers}
 use Rattle.byte_spool.proofs.Pieces.{nothing_added}
-use Rattle.host.specs.Views.{HostView}
+use Rattle.host.specs.Views.{HostView, master_in}
 use Rattle.master_spec.specs.declared.reports.Report.{Report}
 use Rattle.master_spec.specs.declared.reports.Report.TheVariants as reports
-use Rattle.std.specs.Prelude.{Err, reverse}
+use Rattle.std.specs.Prelude.{Err, IfSome, reverse}
+use Rattle.rounds.specs.Told.{Follows}
+use Rattle.master_spec.specs.Rules.{MasterRun}
+use Rattle.scenario.specs.Sound.{IsScenario}
+use Rattle.scenario_laws.proofs.Scenarios.{failed_first, finished_acknowledged}
+use Rattle.scenario_runs.specs.Runs.{all_ends}
+use Rattle.host.specs.Hosting.{master_of}
 use Rattle.dcp_ends.specs.Logs.{events_at}
 use Rattle.scenario.specs.declared.scenarios.Scenario.{Scenario}
 use Rattle.master_spec.specs.Setup.{setup_from}
@@ -43,7 +49,7 @@ use Rattle.commands.specs.Said.{text_of}
 use Rattle.commands.specs.CommandWords.{IsCommand}
 use Rattle.commands.specs.Outcomes.{Answered, IsFree, Outcome}
 use Rattle.commands.specs.Says.{Stops}
-use Rattle.commands.specs.SaysRun.{HasEnded, NetTold, RunsTo, SaysRun, StopsRun, run_text, run_trace}
+use Rattle.commands.specs.SaysRun.{HasEnded, NetTold, RunsTo, SaysRun, ShowsEnd, StopsRun, report_after, run_text, run_trace}
 use Rattle.commands.specs.Statuses.{ComesBeforeWriting, ComesWithoutNet, judgement_of_report, status_after}
 
 -- a text that was written to the one sink, with nothing for the other
@@ -83,6 +89,17 @@ refused_run net input (refusals.Fault fault) said short bad refuses =
     subst Judged (sym refuses.0) (inl (short, (fault.line, fault.why, bad, refuses.1)), refl)
 refused_run net input refusals.OutOfMemory said short bad refuses = absurd refuses
 
+-- the hosted master follows its rules
+of_master : (host : HostView) → host.hosted ≡ all_ends → IfSome (master_in host) (λ rules. Follows rules host.log) → MasterRun host.scenario host.log
+of_master host hosted follows =
+    let Own : Hosted → Type 0 = λ h. IfSome (master_of host.scenario h) (λ rules. Follows rules host.log) in
+    subst Own hosted follows
+
+-- the log of a run shows its end
+shown : (host : HostView) → IsScenario host.scenario → MasterRun host.scenario host.log → (report : Report) → report_after host ≡ Some report → ShowsEnd host.scenario host.log report
+shown host sound run (reports.Finished steps) reported = finished_acknowledged host.scenario sound host.log run steps reported
+shown host sound run (reports.Failed slave phase cause) reported = failed_first host.scenario sound host.log run slave phase cause reported
+
 -- what is delivered of a run is what the command says of its text
 pub run_says : (held holds : Option (List ℕ)) (before now : ℕ) (kept keeps : Option (List ℕ)) (began ends : ℕ) (net : NetTold) (input : List ℕ) (host : HostView) (status : Status)
     → HasEnded net input host → RunDelivered held holds before now kept keeps began ends input host status → Delivered held holds before now kept keeps began ends Run net input status
@@ -90,7 +107,7 @@ run_says held holds before now kept keeps began ends net input host status ended
     let text = run_text host run.report in
     let traced = run_trace input host in
     let runs : RunsTo net input run.report text traced =
-    record { host = host; ended = ended; master = run.master; slaves = run.slaves; reported = run.reported; text_is = refl; trace_is = refl } in
+    record { host = host; ended = ended; master = run.master; slaves = run.slaves; reported = run.reported; shows = shown host run.sound (of_master host run.hosted run.master) run.report run.reported; text_is = refl; trace_is = refl } in
     (judgement_of_report run.report, run.delivery, text, traced, says run.report text traced runs, run.delivered, run.status_is)
   where
     says : (report : Report) (text traced : List ℕ) → RunsTo net input report text traced → SaysRun net input (judgement_of_report report) text traced

@@ -63,6 +63,8 @@ module _ (held holds : Option (List ℕ)) (before now : ℕ) (kept keeps : Optio
   pub record RunDelivered (input : List ℕ) (host : HostView) (status : Status) : Type 0 where
     pub report : Report
     pub delivery : Delivery
+    pub sound : IsScenario host.scenario
+    pub hosted : host.hosted ≡ all_ends
     pub master : IfSome (master_in host) (λ rules. Follows rules host.log)
     pub slaves : All (λ rules. Follows rules host.log) (slaves_in host)
     pub reported : report_after host ≡ Some report

@@ -43,6 +43,8 @@ returns g c =
     record {
       report = report;
       delivery = delivery;
+      sound = c.requires.sound;
+      hosted = c.requires.hosted;
       master = c.log.ensures.follows_master c.requires.unfaulted;
       slaves = c.log.ensures.follows c.requires.unfaulted;
       reported = sym (ap Master c.requires.hosted) ∙ sym c.report.ensures ∙ c.in-Some-report.is;
