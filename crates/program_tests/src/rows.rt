@@ -56,7 +56,7 @@ fn run(alloc: Global, row: &Row<'_>) -> Result<(Status, Vec<u8>), Fail> {
         room.push(0)?;
     }
     let mut out = MemorySink::new(room, numbers_of(alloc, row.failing_writes)?);
-    let mut trace = MemorySink::new(Vec::new(alloc), Vec::new(alloc));
+    let mut trace = MemorySink::new([0; 262_144].to_vec(alloc)?, Vec::new(alloc));
     let mut net = MemoryNet::new(alloc);
     let status = run_words(alloc, &words, &mut source, &mut out, &mut trace, &mut net);
     Ok((status, out.written().to_vec(alloc)?))

@@ -23,11 +23,21 @@ model counter 1000
 output 1 uint32
 ";
 
-/// The status of a run, its output, and its trace.
+/// The status of a run of the counter, its output, and its trace.
 fn run_over<N: Net>(alloc: Global, net: &mut N) -> Result<(Status, Vec<u8>, Vec<u8>), Fail> {
+    call_over(alloc, "run", COUNTER.to_vec(alloc)?, net)
+}
+
+/// The status of a command, its output, and its trace.
+fn call_over<N: Net>(
+    alloc: Global,
+    word: &str,
+    input: Vec<u8>,
+    net: &mut N,
+) -> Result<(Status, Vec<u8>, Vec<u8>), Fail> {
     let mut words = Words::new(alloc);
-    words.push(alloc, "run")?;
-    let mut source = MemorySource::new(COUNTER.to_vec(alloc)?, Vec::new(alloc), Vec::new(alloc));
+    words.push(alloc, word)?;
+    let mut source = MemorySource::new(input, Vec::new(alloc), Vec::new(alloc));
     let mut out = MemorySink::new([0; 256].to_vec(alloc)?, Vec::new(alloc));
     let mut room = Vec::new(alloc);
     for _ in 0..8_192 {
@@ -52,6 +62,78 @@ fn the_trace_of_a_counter_is_that_of_the_model(rt: HostRuntime) -> Result<(), Fa
     hasher.update(trace.as_slice());
     let digest = hex::decode(rt.alloc(), "81314946f354625122e5fe1f3bf36a03")?;
     assert!(rt; hasher.finalize().as_slice() == digest.as_slice());
+    Ok(())
+}
+
+/// What `replay` says of this trace, with one byte of it changed and cut to a length.
+fn replayed(alloc: Global, trace: &[u8], case: &Damage) -> Result<(Status, Vec<u8>), Fail> {
+    let mut bytes = trace.to_vec(alloc)?;
+    if let Some(place) = bytes.get_mut(case.at) {
+        *place = case.byte;
+    }
+    bytes.truncate(case.len);
+    let mut net = MemoryNet::new(alloc);
+    let (status, out, _trace) = call_over(alloc, "replay", bytes, &mut net)?;
+    Ok((status, out))
+}
+
+/// A byte of a trace that is changed, its length, and the answer.
+#[derive(Drop)]
+struct Damage {
+    at: usize,
+    byte: u8,
+    len: usize,
+    status: Status,
+    out: &'static [u8],
+}
+
+#[test]
+fn a_trace_goes_to_its_run_or_stops_where_it_differs(rt: HostRuntime) -> Result<(), Fail> {
+    let (_, _, trace) = run_over(rt.alloc(), &mut MemoryNet::new(rt.alloc()))?;
+    let damages = [
+        (
+            0,
+            b'D',
+            4_634,
+            Status::Done,
+            b"0 0\n1 1\n2 2\n3 3\nfinished 3\n".as_slice(),
+        ),
+        (193, 1, 4_634, Status::Differs, b"differs at 3\n".as_slice()),
+        (0, b'D', 222, Status::Differs, b"unended 5\n".as_slice()),
+        (
+            5,
+            7,
+            4_634,
+            Status::BadInput,
+            b"input: byte 5 HEADER\n".as_slice(),
+        ),
+        (
+            13,
+            b'x',
+            4_634,
+            Status::BadInput,
+            b"input: byte 13 HEADER\n".as_slice(),
+        ),
+        (
+            0,
+            b'D',
+            3,
+            Status::BadInput,
+            b"input: byte 3 HEADER\n".as_slice(),
+        ),
+    ];
+    for (at, byte, len, status, out) in damages {
+        let damage = Damage {
+            at,
+            byte,
+            len,
+            status,
+            out,
+        };
+        let told = replayed(rt.alloc(), trace.as_slice(), &damage)?;
+        assert_eq!(rt; told.0, damage.status);
+        assert!(rt; told.1.as_slice() == damage.out);
+    }
     Ok(())
 }
 
