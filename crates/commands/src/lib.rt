@@ -18,8 +18,10 @@ mod top_calls;
 mod word_lists;
 
 pub use command_words::Command;
-pub use inputs::{LIMIT, TRACE_LIMIT};
+pub use inputs::{Gathered, LIMIT, TRACE_LIMIT, read_input};
 pub use programs::{Ended, run_program};
-pub use statuses::Status;
+pub use refusals::{refuse_line, refuse_past_limit, refuse_text};
+pub use said::{Said, Text, write_text};
+pub use statuses::{Judgement, Status};
 pub use top_calls::run_words;
 pub use word_lists::Words;
