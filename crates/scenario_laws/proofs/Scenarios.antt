@@ -47,7 +47,7 @@ one setup (Turn at) = ap (λ (b : Bool). with_event b Tick []) (address_turned a
     by true = refl
     by false = refl
 
-events_reverse : (setup : Setup) (log : List LogEntry) → events setup (reverse log) ≡ reverse (events_at setup.address log)
+pub events_reverse : (setup : Setup) (log : List LogEntry) → events setup (reverse log) ≡ reverse (events_at setup.address log)
 events_reverse setup [] = refl
 events_reverse setup (e ∷ log) =
     ap (events setup) (reverse-append (e ∷ []) log) ∙ events_more setup (reverse log) (e ∷ [])

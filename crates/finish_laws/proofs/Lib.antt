@@ -1,0 +1,11 @@
+pub mod Lists
+pub mod Codes
+pub mod Rising
+pub mod Segments
+pub mod Singles
+pub mod Cuts
+pub mod Scripts
+pub mod Starts
+pub mod Steps
+pub mod Finished
+pub mod Whole
