@@ -142,8 +142,9 @@ module _ (w : Parties) (x : Slaves) (ok : AreSlaves w x) (m : Machines) (are : A
             let C : List Decision → Type 0 = λ es. Counts x.steps (view es) (x.bench t log) in
             let d = served_done x.steps (view (y ∷ decided_exchanges w t log)) (x.bench t log) (subst C p.1 (fits w x ok log b t it).counts) in
             let g = view_grows (told_of y) (view (decided_exchanges w t log)) in
+            let before = place_near j (view (decided_exchanges w t log)).done even (least.least t it) (omega (arith, g, d.0, n.1)) in
             let same = place_near j (view (y ∷ decided_exchanges w t log)).done even (omega (arith, g, least.least t it)) (omega (arith, d.0, n.1)) in
-            subst P (sym p.1) ((are.course t it).stays r y (decided_exchanges w t log) asked' o (ap (λ z. z / (x.steps + 1) + 1) same ∙ e))
+            subst P (sym p.1) ((are.course t it).stays r y (decided_exchanges w t log) asked' o (ap (λ z. z / (x.steps + 1) + 1) before ∙ e) (ap (λ z. z / (x.steps + 1) + 1) same ∙ e))
 
     opened_here : (t : ℕ) → IsSlaveOf w t → x.opened t ((x.bench t log).resets + 1) (x.desk t log).served ≡ true
     opened_here t it =

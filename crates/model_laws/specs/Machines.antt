@@ -134,7 +134,7 @@ Begun steps v = (v.waiting ≡ true) ⊎ (v.done % (2 * (steps + 1)) ≡ 0 → �
 -- what asking in order gives: who has begun a run was opened for it, and stays so until the next; and who is opened is tuned
 pub record IsCourse (x : Slaves) (m : Machines) (s : ℕ) : Type 0 where
   pub begun : (es : List Decision) → Asked (x.may s) es → Begun x.steps (view es) → x.opened s (run_after x.steps (view es).done) es ≡ true
-  pub stays : (r : ℕ) (e : Decision) (es : List Decision) → Asked (x.may s) (e ∷ es) → x.opened s r es ≡ true → run_after x.steps (view (e ∷ es)).done ≡ r → x.opened s r (e ∷ es) ≡ true
+  pub stays : (r : ℕ) (e : Decision) (es : List Decision) → Asked (x.may s) (e ∷ es) → x.opened s r es ≡ true → run_after x.steps (view es).done ≡ r → run_after x.steps (view (e ∷ es)).done ≡ r → x.opened s r (e ∷ es) ≡ true
   pub tuned : (r : ℕ) (es : List Decision) → x.opened s r es ≡ true → m.tuned s r es ≡ true
 
 -- the slaves are those of the scenario

@@ -55,15 +55,15 @@ use Rattle.slave_data.specs.Holding.{OwesItsOwn}
 use Rattle.slave_data.proofs.Held.{of_scenario, reads}
 
 -- ---- no data of an id is among what is owed
-abbrev NoneOf : Parties → ℕ → List Post → Type 0
+abbrev pub NoneOf : Parties → ℕ → List Post → Type 0
 NoneOf w id [] = Unit {0}
 NoneOf w id (p ∷ posts) = (value_of_id id (role_heard w p.bytes) ≡ None) × NoneOf w id posts
 
-none_owed : (w : Parties) (id : ℕ) (posts : List Post) → NoneOf w id posts → values_owed w id posts ≡ []
+pub none_owed : (w : Parties) (id : ℕ) (posts : List Post) → NoneOf w id posts → values_owed w id posts ≡ []
 none_owed w id [] h = refl
 none_owed w id (p ∷ posts) h = ap (λ o. cons_option o (values_owed w id posts)) h.0 ∙ none_owed w id posts h.1
 
-none_joined : (w : Parties) (id : ℕ) (xs ys : List Post) → NoneOf w id xs → NoneOf w id ys → NoneOf w id (xs ++ ys)
+pub none_joined : (w : Parties) (id : ℕ) (xs ys : List Post) → NoneOf w id xs → NoneOf w id ys → NoneOf w id (xs ++ ys)
 none_joined w id [] ys h k = k
 none_joined w id (x ∷ xs) ys h k = (h.0, none_joined w id xs ys h.1 k)
 
@@ -72,7 +72,7 @@ none_tail w id [] h = tt
 none_tail w id (p ∷ posts) h = h.1
 
 -- ---- answers and notices are none
-notices_none : (w : Parties) (id : ℕ) (ps : List Send) → AreElse w ps → NoneOf w id (map post ps)
+pub notices_none : (w : Parties) (id : ℕ) (ps : List Send) → AreElse w ps → NoneOf w id (map post ps)
 notices_none w id [] h = tt
 notices_none w id (p ∷ ps) h = (ap (value_of_id id) h.0, notices_none w id ps h.1)
 
@@ -87,7 +87,7 @@ module _ (s : Setup) (w : Parties) (id : ℕ) where
   request_none x rb from bytes r e Repeated = kept_none from x.served (rb.again from)
   request_none x rb from bytes r e Taken = let h = rb.answer bytes r e from in (ap (value_of_id id) h.0, notices_none w id (transport.notice_sends from r.receiver (answers s r.asked x.inner).notices) h.1)
 
-  heard_none : (x : Slave Plant) → IsReadBack (machine s) w x → (from : Address) (bytes : List ℕ) (h : spec.Heard) → spec.heard bytes ≡ h → NoneOf w id (map post (transport.heard_sends (machine s) x from h))
+  pub heard_none : (x : Slave Plant) → IsReadBack (machine s) w x → (from : Address) (bytes : List ℕ) (h : spec.Heard) → spec.heard bytes ≡ h → NoneOf w id (map post (transport.heard_sends (machine s) x from h))
   heard_none x rb from bytes (spec.Asks r) e = request_none x rb from bytes r e (transport.fate (machine s) x from r)
   heard_none x rb from bytes (spec.Brings number i payload') e = tt
   heard_none x rb from bytes spec.Nothing e = tt
@@ -111,24 +111,24 @@ small_more (cfg.Tunable a b c d) changes id f g h = g h
 small_more (cfg.ParamNet a b c d) changes id f g h = g h
 small_more (cfg.Scope a b) changes id f g h = g h
 
-small_ids : (changes : List Change) (id : ℕ) → SettingsFit changes → has_id output id changes ≡ true → id < 65536
+pub small_ids : (changes : List Change) (id : ℕ) → SettingsFit changes → has_id output id changes ≡ true → id < 65536
 small_ids [] id f h = absurd cc
 small_ids (Set body ∷ changes) id f h = small_more body changes id f.0 (small_ids changes id f.1) h
 small_ids (Restart n ∷ changes) id f h = small_ids changes id f.1 h
 
 -- ---- the data of a turn is of the slave's ids
-abbrev is_other : (id : ℕ) → ℕ → Bool
+abbrev pub is_other : (id : ℕ) → ℕ → Bool
 is_other id i = nat_lt i 65536 && (if i == id then false else true)
 
-payload_are : (d : SlaveDesc) (id : ℕ) (changes : List Change) (vs : List ℤ) → AreBytes (payload d id changes vs)
+pub payload_are : (d : SlaveDesc) (id : ℕ) (changes : List Change) (vs : List ℤ) → AreBytes (payload d id changes vs)
 payload_are d id changes vs = parts_are (bytes_for d.outputs vs) (reverse (entries output id changes)) (λ vr. digits_are _ _)
 
-payload_length : (d : SlaveDesc) (id : ℕ) (changes : List Change) (vs : List ℤ) → PayloadsFit changes → length (payload d id changes vs) ≤ 64
+pub payload_length : (d : SlaveDesc) (id : ℕ) (changes : List Change) (vs : List ℤ) → PayloadsFit changes → length (payload d id changes vs) ≤ 64
 payload_length d id changes vs h =
     let all = parts_length (bytes_for d.outputs vs) 8 (reverse (entries output id changes)) (λ vr. value_length (kind_of (port_with vr d.outputs)) (output_value vr d.outputs vs)) in
     omega (arith, all, length-reverse (entries output id changes), h id)
 
-all_chosen : (t f : ℕ → Bool) (xs : List ℕ) → list_all f xs ≡ true → list_all f (filter t xs) ≡ true
+pub all_chosen : (t f : ℕ → Bool) (xs : List ℕ) → list_all f xs ≡ true → list_all f (filter t xs) ≡ true
 all_chosen t f [] h = refl
 all_chosen t f (x ∷ xs) h = by (all_chosen t f xs (and_parts (f x) (list_all f xs) h).1) (t x)
   where
@@ -142,14 +142,14 @@ all_chosen t f (x ∷ xs) h = by (all_chosen t f xs (and_parts (f x) (list_all f
     by k false = k
 
 module _ (w : Parties) (rd : ReadsMessages w) (d : SlaveDesc) (changes : List Change) (steps : ℕ) (vs : List ℤ) (fits : PayloadsFit changes) (id : ℕ) where
-  other_value : (i : ℕ) (k : _) → (if i == id then false else true) ≡ true → value_of_id id (Value i k) ≡ None
+  pub other_value : (i : ℕ) (k : _) → (if i == id then false else true) ≡ true → value_of_id id (Value i k) ≡ None
   other_value i k h = by (i == id) h
     where
       by : (b : Bool) → (if b then false else true) ≡ true → (if b then Some k else None) ≡ None
       by true e = absurd cc
       by false e = refl
 
-  parcels_none : (is : List ℕ) → list_all (is_other id) is ≡ true → NoneOf w id (map post (map parcel_send (filter_map (parcel d changes steps vs) is)))
+  pub parcels_none : (is : List ℕ) → list_all (is_other id) is ≡ true → NoneOf w id (map post (map parcel_send (filter_map (parcel d changes steps vs) is)))
   parcels_none [] h = tt
   parcels_none (i ∷ is) h = by (parcels_none is all.1) (target i changes)
     where
@@ -171,10 +171,10 @@ module _ (w : Parties) (rd : ReadsMessages w) (d : SlaveDesc) (changes : List Ch
   data_none : list_all (is_other id) (ids output changes) ≡ true → NoneOf w id (map post (map parcel_send (data_parcels d changes steps vs)))
   data_none h = parcels_none (filter (λ i. is_due output i changes steps) (ids output changes)) (all_chosen (λ i. is_due output i changes steps) (is_other id) (ids output changes) h)
 
-sending_past : (t : State) → is_sending t ≡ true → is_past t ≡ true
+pub sending_past : (t : State) → is_sending t ≡ true → is_past t ≡ true
 sending_past t h = grind arith
 
-not_same : (i id n m : ℕ) → i < 65536 → n ≡ m → (i ≡ id → n ≡ m → ⊥) → ((nat_lt i 65536) && (if i == id then false else true)) ≡ true
+pub not_same : (i id n m : ℕ) → i < 65536 → n ≡ m → (i ≡ id → n ≡ m → ⊥) → ((nat_lt i 65536) && (if i == id then false else true)) ≡ true
 not_same i id n m lt e f = by (nat_lt i 65536) (lt-ltb i 65536 lt) (i == id) refl
   where
     by : (a : Bool) → a ≡ true → (b : Bool) → (i == id) ≡ b → (a && (if b then false else true)) ≡ true
@@ -182,7 +182,7 @@ not_same i id n m lt e f = by (nat_lt i 65536) (lt-ltb i 65536 lt) (i == id) ref
     by true g false k = refl
     by false g b k = absurd cc
 
-map_joined : (xs ys : List Send) → map post (xs ++ ys) ≡ map post xs ++ map post ys
+pub map_joined : (xs ys : List Send) → map post (xs ++ ys) ≡ map post xs ++ map post ys
 map_joined [] ys = refl
 map_joined (x ∷ xs) ys = ap (λ l. post x ∷ l) (map_joined xs ys)
 
@@ -254,7 +254,7 @@ module _ (sc : Scenario) (other : SlaveDesc) (ok : IsScenario sc) (s : ℕ) (is 
   sent_served Rests x = refl
   sent_served Other x = refl
 
-  none_at : (log : List LogEntry) → Asked (may sc s X.desc) (at (machine X) W s log).desk.served → NoneOf W id (at (machine X) W s log).desk.owed
+  pub none_at : (log : List LogEntry) → Asked (may sc s X.desc) (at (machine X) W s log).desk.served → NoneOf W id (at (machine X) W s log).desk.owed
   none_at [] a = tt
   none_at (Sent from to bytes ∷ log) a =
       let x = at (machine X) W s log in

@@ -1,0 +1,4 @@
+pub mod Taken
+pub mod Due
+pub mod Shown
+pub mod Goes

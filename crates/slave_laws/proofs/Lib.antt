@@ -1,0 +1,4 @@
+pub mod Stepping
+pub mod Feeding
+pub mod Whole
+pub mod Asking
