@@ -13,6 +13,7 @@ use Rattle.rounds.specs.Told.{Follows}
 use Rattle.master_spec.specs.Rules.{MasterRun}
 use Rattle.scenario.specs.Sound.{IsScenario}
 use Rattle.scenario_laws.proofs.Scenarios.{failed_first, finished_acknowledged}
+use Rattle.finish_laws.proofs.Whole.{finished_is_exchanged}
 use Rattle.scenario_runs.specs.Runs.{all_ends}
 use Rattle.host.specs.Hosting.{master_of}
 use Rattle.dcp_ends.specs.Logs.{events_at}
@@ -97,7 +98,8 @@ of_master host hosted follows =
 
 -- the log of a run shows its end
 shown : (host : HostView) → IsScenario host.scenario → MasterRun host.scenario host.log → (report : Report) → report_after host ≡ Some report → ShowsEnd host.scenario host.log report
-shown host sound run (reports.Finished steps) reported = finished_acknowledged host.scenario sound host.log run steps reported
+shown host sound run (reports.Finished steps) reported =
+    (finished_acknowledged host.scenario sound host.log run steps reported, finished_is_exchanged host.scenario sound host.log run steps reported)
 shown host sound run (reports.Failed slave phase cause) reported = failed_first host.scenario sound host.log run slave phase cause reported
 
 -- what is delivered of a run is what the command says of its text

@@ -12,6 +12,7 @@ use Rattle.master_spec.specs.declared.causes.Cause.{Cause}
 use Rattle.master_spec.specs.declared.reports.Report.{Report}
 use Rattle.master_spec.specs.declared.reports.Report.TheVariants as reports
 use Rattle.master_spec.specs.declared.setups.Slave.{Slave}
+use Rattle.master_spec.specs.Exchanged.{AllExchanged}
 use Rattle.master_spec.specs.Shown.{First}
 use Rattle.master_spec.specs.Course.{course}
 use Rattle.master_spec.specs.Setup.{setup_from}
@@ -63,9 +64,9 @@ run_text host report = text_after host.scenario (setup_from host.scenario) (mast
 abbrev pub run_trace : (input : List ℕ) → HostView → List ℕ
 run_trace input host = trace_bytes (all_bits (length host.scenario.slaves)) input host.log
 
--- What the log of a run shows of its end. Where it finished, it had all steps of the scenario, and each slave acknowledged as many requests as its spine has. Where a slave failed, the log shows that it ended so, and nothing of the kind of any lesser slave.
+-- What the log of a run shows of its end. Where it finished, it had all steps of the scenario, each slave acknowledged as many requests as its spine has, and every step was exchanged whole with every slave, run by run. Where a slave failed, the log shows that it ended so, and nothing of the kind of any lesser slave.
 abbrev pub ShowsEnd : Scenario → List LogEntry → Report → Type 0
-ShowsEnd sc log (reports.Finished steps) = IsFinished (setup_from sc) (reverse log) steps
+ShowsEnd sc log (reports.Finished steps) = IsFinished (setup_from sc) (reverse log) steps × AllExchanged (setup_from sc) (reverse log)
 ShowsEnd sc log (reports.Failed id phase cause) = (slave : Slave) × ((slave.id ≡ id) × First (setup_from sc) (reverse log) slave phase cause)
 
 -- There is a run of the scenario that the text is, in whose log each end follows its rules, and after which its master has this report, which the log shows. The text is its rows and the report, and the trace is that of the run.
