@@ -1,0 +1,5 @@
+pub mod Sends
+pub mod Answers
+pub mod Known
+pub mod Asking
+pub mod Only
