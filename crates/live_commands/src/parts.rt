@@ -1,0 +1,115 @@
+//! The ends that the words name.
+
+ghost use Rattle.std.specs.Prelude.{◌≡◌, ◌⊎◌, codes, ◌≢◌, ◌≤◌, ◌<◌, ◌^◌, ⊤, true, length, map, string_bytes, All, MatchOption};
+ghost use Rattle.live_commands.specs.Parts.{HasNoPart, IsLive, IsPart, IsNamed, NamesPart, bits_in, hosted_of};
+
+use host::Hosted;
+use scenario::Scenario;
+use slave_desc::SlaveDesc;
+
+/// The ends of a scenario that one process hosts.
+#[derive(Clone, Copy, Debug, PartialEq, Eq)]
+pub enum Part {
+    /// All of them.
+    All,
+    /// The master alone.
+    Master,
+    /// The slave of this number alone, 1 to 16.
+    Slave(u8),
+}
+
+impl Part {
+    /// The ends as a host takes them.
+    pub(crate) fn hosted(self) -> Hosted
+        requires { IsPart self }
+        ensures { result ≡ hosted_of self }
+    {
+        match self {
+            Part::All => Hosted {
+                master: true,
+                slaves: u16::MAX,
+            },
+            Part::Master => Hosted {
+                master: true,
+                slaves: 0,
+            },
+            Part::Slave(slave) => Hosted {
+                master: false,
+                slaves: 2u16.pow(u32::from(slave) - 1),
+            },
+        }
+    }
+
+    /// The ends as bits of a trace, in a scenario of so many slaves: bit 0 for the master, and bit s for
+    /// slave s.
+    pub(crate) fn bits(self, slaves: usize) -> u32
+        requires part { IsPart self }
+        requires slaves { slaves ≤ 16 }
+        ensures bits { result ≡ bits_in self slaves }
+        ensures few { result < 2 ^ 17 }
+    {
+        match self {
+            Part::All => 2u32.pow(slaves as u32 + 1) - 1,
+            Part::Master => 1,
+            Part::Slave(slave) => 2u32.pow(u32::from(slave)),
+        }
+    }
+}
+
+/// Whether this word names a command by itself.
+fn is_alone(word: &str) -> bool
+    ensures yes { result ≡ true → (word.now ≡ codes "live") ⊎ (word.now ≡ codes "master") }
+    ensures no { (word.now ≡ codes "live") ⊎ (word.now ≡ codes "master") → result ≡ true }
+{
+    word == "live" || word == "master"
+}
+
+/// Whether this word stands before a name.
+fn is_slave(word: &str) -> bool
+    ensures yes { result ≡ true → word.now ≡ codes "slave" }
+    ensures no { word.now ≡ codes "slave" → result ≡ true }
+{
+    word == "slave"
+}
+
+/// Whether the words name a command over sockets.
+pub fn is_live(words: &[String]) -> bool
+    ensures yes { result ≡ true → IsLive (map string_bytes words.now) }
+    ensures no { IsLive (map string_bytes words.now) → result ≡ true }
+{
+    match words {
+        [word] => is_alone(word.as_str()),
+        [word, _name] => is_slave(word.as_str()),
+        _ => false,
+    }
+}
+
+/// The number of the slave with this name; none where there is none.
+fn slave_named(slaves: &[SlaveDesc], name: &str) -> Option<u8>
+    requires { length slaves.now ≤ 16 }
+    ensures { MatchOption result (All (λ d. d.name ≢ name.now) slaves.now) (λ s. IsNamed slaves.now s name.now) }
+{
+    for place in 0..slaves.len() {
+        if slaves[place].name.as_str() == name {
+            return Some(place as u8 + 1);
+        }
+    }
+    None
+}
+
+/// The ends of the scenario that the words name; none where it has no such slave.
+pub(crate) fn part_of(words: &[String], scenario: &Scenario) -> Option<Part>
+    requires live { IsLive (map string_bytes words.now) }
+    requires few { length scenario.now.slaves ≤ 16 }
+    ensures part { MatchOption result (HasNoPart (map string_bytes words.now) scenario.now) (NamesPart (map string_bytes words.now) scenario.now) }
+    ensures few { MatchOption result ⊤ IsPart }
+{
+    match words {
+        [_word, name] => match slave_named(scenario.slaves.as_slice(), name.as_str()) {
+            Some(slave) => Some(Part::Slave(slave)),
+            None => None,
+        },
+        [word] if word.as_str() == "live" => Some(Part::All),
+        _ => Some(Part::Master),
+    }
+}
