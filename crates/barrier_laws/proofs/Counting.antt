@@ -1,5 +1,5 @@
 -- By the marks of a conversation: how many row events were acknowledged, phase by phase.
-use Rattle.std.proofs.Common.{◌≡◌, ℕ, zero, suc, ◌+◌, ◌%◌, ◌<◌, ◌≤◌, Bool, true, false, if◌then◌else◌, ◌⊎◌, inl, inr, Option, Some, None, List, [], ◌∷◌, ◌++◌, map, length, refl, sym, ap, ◌∙◌, subst, arith}
+use Rattle.std.proofs.Common.{◌≡◌, ℕ, zero, suc, ◌+◌, ◌%◌, ◌≤◌, Bool, true, false, if◌then◌else◌, ◌⊎◌, inl, inr, Option, Some, None, List, [], ◌∷◌, ◌++◌, map, length, refl, sym, ap, ◌∙◌, subst, arith}
 use Rattle.std.specs.Prelude.{◌==◌, ◌&&◌, ◌||◌, is_some, nat_le, slice_get, count_by}
 use Rattle.std.proofs.lemmas.Bool.{eqb-true}
 use Rattle.std.proofs.lemmas.List.Sums.{sum_by-cons}
@@ -10,7 +10,6 @@ use Rattle.lockstep_laws.specs.Steps.{RowEvent, Show, Step, Restart, told_by, Pr
 use Rattle.lockstep_laws.specs.Steps as steps
 use Rattle.master_spec.specs.declared.causes.Cause.{Cause}
 use Rattle.master_spec.specs.declared.causes.Verdict.TheVariants as verdicts
-use Rattle.master_spec.specs.declared.reactions.Reaction.{Reaction}
 use Rattle.master_spec.specs.declared.reactions.Reaction.TheVariants.{Wait, Ask}
 use Rattle.master_spec.specs.declared.requests.Request.{Request}
 use Rattle.master_spec.specs.declared.requests.Request.TheVariants.{Configure, AskState}
@@ -22,14 +21,14 @@ use Rattle.master_spec.specs.declared.tasks.Task.TheVariants as tasks
 use Rattle.master_spec.specs.Jobs.{Job, asked_by}
 use Rattle.master_spec.specs.Marks.{Mark, Begun, Asked, Again, Answered, Hinted, Brought, Turned, Ended, asked, count, is_begun, latest, open_in, open_request, job_of, cause_of, verdict_of, is_passed}
 use Rattle.master_spec.specs.Conversation.{reaction}
-use Rattle.master_spec.specs.Requests.{Asking, Decision, decided_by, is_main, is_ack, is_acked_by, is_acked, acked}
+use Rattle.master_spec.specs.Requests.{Asking, Decision, decided_by, is_main, is_acked_by, is_acked, acked}
 use Rattle.asking_laws.specs.Legal.{Does, Rests, IsLegal, AreLegal}
 use Rattle.asking_laws.proofs.Legal.{own_rests}
 use Rattle.index_laws.specs.Index.{Placed, at, marks_of, code_of, first_at, again_at, decided_at, told}
 use Rattle.index_laws.specs.Late.{AreLate}
 use Rattle.index_laws.proofs.Events.{acts}
 use Rattle.phase_laws.specs.Laws.{AreDecided}
-use Rattle.phase_laws.proofs.Now.{now_by, now, past_by, past, IsOf, IsDecidedBy, Linked, linked, open_latest, split}
+use Rattle.phase_laws.proofs.Now.{now_by, now, past_by, past, Linked, linked, open_latest, split}
 use Rattle.phase_laws.proofs.Mains.{acked_more, AreMains, AreQuestions, of_main, one_if}
 use Rattle.phase_laws.proofs.Numbered.{ordered}
 use Rattle.phase_laws.proofs.Stage.{Main, Question, Stage, idling, main_open, question_open, trying, mains_done, state_told, mains_acked}

@@ -1,6 +1,6 @@
 -- Which row event each job asks for, by how many the jobs before it ask for.
-use Rattle.std.proofs.Common.{◌≡◌, ℕ, zero, suc, ◌+◌, ◌-◌, ◌*◌, ◌/◌, ◌%◌, ◌<◌, ◌≤◌, Bool, true, false, if◌then◌else◌, Option, Some, None, List, [], ◌∷◌, ◌++◌, refl, sym, ap, ◌∙◌, subst, arith}
-use Rattle.std.specs.Prelude.{◌==◌, is_some, take, slice_get, slice_index_or, count_by}
+use Rattle.std.proofs.Common.{◌≡◌, ℕ, zero, suc, ◌+◌, ◌-◌, ◌*◌, ◌/◌, ◌%◌, ◌<◌, ◌≤◌, Bool, true, false, if◌then◌else◌, Some, None, List, [], ◌∷◌, ◌++◌, refl, sym, ap, ◌∙◌, subst, arith}
+use Rattle.std.specs.Prelude.{◌==◌, is_some, take, slice_get, slice_index_or}
 use Rattle.std.specs.List.{flat_map, range_with_len}
 use Rattle.std.proofs.lemmas.Bool.{eq-eqb, eqb-true}
 use Rattle.std.proofs.lemmas.List.{append_assoc}
@@ -9,7 +9,6 @@ use Rattle.std.proofs.lemmas.Nat.{div-mul-add, mod-mul-add}
 use Rattle.lockstep.specs.Lockstep.{row_index}
 use Rattle.lockstep_laws.specs.Steps.{RowEvent, Show, Step, Restart, row_event_at, run_after}
 use Rattle.master_spec.specs.declared.setups.Script.{Script}
-use Rattle.master_spec.specs.declared.tasks.Task.{Task}
 use Rattle.master_spec.specs.declared.tasks.Task.TheVariants as tasks
 use Rattle.master_spec.specs.Tasks.{row_of}
 use Rattle.master_spec.specs.Jobs.{Job, step_jobs, run_jobs, between_jobs, jobs_from, jobs}
@@ -182,13 +181,12 @@ module _ (steps runs q : ℕ) (few : q + 1 ≤ runs) where
       let one : row_at steps q b + 1 ≡ row_at steps q a = omega (arith, g) in
       let u : q ≡ r - 1 = omega (arith, f) in
       let row : row_at steps q a ≡ row_index steps r a = ap (λ (i : ℕ). i * (steps + 1) + a) u in
-      let m : n + 1 ≡ 2 * row_at steps q a = omega (arith, e, one) in
-      (
+      let m : n + 1 ≡ 2 * row_at steps q a = omega (arith, e, one) in (
         event_place steps runs n (record { task = tasks.Step a; list = [] }) Step refl refl (odd_steps steps q b n (omega (arith, l)) e) (within b n (omega (arith, l)) (omega (arith, e))),
         (
           show_place steps runs (n + 1) (record { task = tasks.Outputs a (row_index steps r a); list = [] }) (row_index steps r a) refl refl (m ∙ ap (λ (i : ℕ). 2 * i) row) (within a (n + 1) (omega (arith, l, g)) (omega (arith, m))),
-          steps_place r f a more (n + 1 + 1) (omega (arith, l, g)) (omega (arith, m)) js k (a + 1) refl
-        )
+          steps_place r f a more (n + 1 + 1) (omega (arith, l, g)) (omega (arith, m)) js k (a + 1) refl,
+        ),
       )
 
   -- run q + 1, and what follows it
@@ -202,8 +200,7 @@ module _ (steps runs q : ℕ) (few : q + 1 ≤ runs) where
       let Q : List Job → Type 0 = λ xs. AreInPlace steps runs (n + 1 + 0) xs in
       let after : AreInPlace steps runs (n + 1 + 0) ((flat_map (step_jobs steps r) (range_with_len 1 steps) ++ (stop ∷ [])) ++ js) =
       subst Q (sym (append_assoc (flat_map (step_jobs steps r) (range_with_len 1 steps)) (stop ∷ []) js))
-      (steps_place r f 0 steps (n + 1 + 0) (omega arith) (omega (arith, e)) (stop ∷ js) (λ i h. (idle_place steps runs i stop refl refl, k (i + 0) (omega (arith, h)))) 1 (omega arith)) in
-      (
+      (steps_place r f 0 steps (n + 1 + 0) (omega arith) (omega (arith, e)) (stop ∷ js) (λ i h. (idle_place steps runs i stop refl refl, k (i + 0) (omega (arith, h)))) 1 (omega arith)) in (
         idle_place steps runs n (record { task = tasks.Prepare; list = [] }) refl refl,
         (
           idle_place steps runs (n + 0) (record { task = tasks.Configure; list = [] }) refl refl,
@@ -211,10 +208,10 @@ module _ (steps runs q : ℕ) (few : q + 1 ≤ runs) where
             idle_place steps runs (n + 0 + 0) (record { task = tasks.Initialize; list = [] }) refl refl,
             subst P (sym z) (
               show_place steps runs n (record { task = tasks.FirstOutputs (row_index steps r 0); list = [] }) (row_index steps r 0) refl refl (e ∙ ap (λ (i : ℕ). 2 * i) row) (within 0 n (omega arith) (omega (arith, e))),
-              (idle_place steps runs (n + 1) (record { task = tasks.Run; list = [] }) refl refl, after)
-            )
-          )
-        )
+              (idle_place steps runs (n + 1) (record { task = tasks.Run; list = [] }) refl refl, after),
+            ),
+          ),
+        ),
       )
 
 from_place : (steps runs : ℕ) (script : Script) (q more r n : ℕ) → q + 1 + more ≤ runs → r ≡ q + 1 → n ≡ 2 * row_at steps q 0 → AreInPlace steps runs n (jobs_from steps script r more)
@@ -240,4 +237,4 @@ in_place steps runs script h p job e =
     let z : 0 + events_before (jobs steps runs script) p ≡ events_before (jobs steps runs script) p = omega arith in
     let Q : ℕ → Type 0 = λ i. IsInPlace steps runs i job in
     subst Q z (get_in_place steps runs 0 (jobs steps runs script) p job
-      (idle_place steps runs 0 register refl refl, (idle_place steps runs (0 + 0) setup refl refl, from_place steps runs script 0 (runs - 1) 1 (0 + 0 + 0) (omega (arith, h)) refl first)) e)
+    (idle_place steps runs 0 register refl refl, (idle_place steps runs (0 + 0) setup refl refl, from_place steps runs script 0 (runs - 1) 1 (0 + 0 + 0) (omega (arith, h)) refl first)) e)

@@ -1,31 +1,29 @@
 -- In the log: a slave goes with the phases.
-use Rattle.std.proofs.Common.{◌≡◌, ℕ, ◌+◌, ◌*◌, ◌≤◌, Option, Some, None, List, refl, sym, ap, ◌∙◌, subst, arith}
+use Rattle.std.proofs.Common.{◌≡◌, ℕ, ◌+◌, ◌≤◌, Option, Some, None, List, refl, sym, ◌∙◌, subst, arith}
 use Rattle.std.specs.Prelude.{slice_get}
 use Rattle.dcp_ends.specs.declared.entries.LogEntry.{LogEntry}
-use Rattle.log_spec.specs.Log.{Parties, IsSlaveOf}
 use Rattle.log_spec.specs.Moves.{decided_exchanges}
 use Rattle.lockstep_laws.specs.Steps.{Progress, events_counted, view}
 use Rattle.master_spec.specs.declared.reports.Report.{Report}
 use Rattle.master_spec.specs.declared.setups.Slave.{Slave}
 use Rattle.master_spec.specs.declared.setups.Setup.{Setup}
-use Rattle.master_spec.specs.Marks.{Mark, count, is_begun}
+use Rattle.master_spec.specs.Marks.{Mark}
 use Rattle.master_spec.specs.Requests.{Asking, asks}
 use Rattle.master_spec.specs.Setup.{jobs_of}
 use Rattle.asking_laws.specs.Legal.{GoesByRule}
 use Rattle.asking_laws.proofs.Legal.{going}
 use Rattle.index_laws.specs.Runs.{events, course_at, owed, IsRun}
-use Rattle.index_laws.specs.Index.{marks_of, told, ReadBack}
+use Rattle.index_laws.specs.Index.{marks_of, ReadBack}
 use Rattle.index_laws.specs.Follows.{mine, talk_with}
 use Rattle.index_laws.specs.Laws.{AreHeard}
 use Rattle.index_laws.proofs.Laws.{listens}
 use Rattle.index_laws.proofs.Reported.{reported}
 use Rattle.index_laws.proofs.Runs.{followed, owes_count, with_at}
 use Rattle.phase_laws.proofs.Numbered.{legal_below}
-use Rattle.master_meets.specs.Laws.{IsParty, ArePartiesOf}
 use Rattle.row_laws.specs.Laws.{progress}
 use Rattle.row_laws.proofs.Views.{progress_told}
-use Rattle.barrier_laws.specs.Laws.{events_before, StandsIn, ProgressGoesByPhase, RowsAreShownInTheirPhase}
-use Rattle.barrier_laws.proofs.Scripts.{events_of, before_next, IsInPlace, in_place}
+use Rattle.barrier_laws.specs.Laws.{StandsIn, ProgressGoesByPhase, RowsAreShownInTheirPhase}
+use Rattle.barrier_laws.proofs.Scripts.{events_of, before_next, in_place}
 use Rattle.barrier_laws.proofs.Counting.{stands, late_stands}
 
 module _ (setup : Setup) (h : AreHeard setup) (i : ℕ) (slave : Slave) (is : slice_get setup.slaves i ≡ Some slave) (log : List LogEntry) where

@@ -43,7 +43,7 @@ use Rattle.master_meets.proofs.Asking.{same_as, mine_first, not_sent}
 use Rattle.row_laws.specs.Laws.{event_for, progress}
 use Rattle.row_laws.proofs.Views.{progress_told}
 use Rattle.barrier_laws.specs.Laws.{event_in, events_before, IsLeastDone, RowEventsWaitForAll}
-use Rattle.barrier_laws.proofs.Scripts.{IsInPlace, in_place, same_before}
+use Rattle.barrier_laws.proofs.Scripts.{in_place, same_before}
 use Rattle.barrier_laws.proofs.Counting.{IsOpen, open_event}
 use Rattle.barrier_laws.proofs.Standing.{goes_at, progress_by_phase}
 
