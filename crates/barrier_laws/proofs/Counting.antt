@@ -47,7 +47,7 @@ events_acked bs = count_by (λ a. asks_event a && is_acked a) bs
 pub events_more : (b : Asking) (bs : List Asking) → events_acked (b ∷ bs) ≡ one_if (asks_event b && is_acked b) + events_acked bs
 events_more b bs = sum_by-cons (λ (a : Asking). if asks_event a && is_acked a then 1 else 0) b bs
 
-events_append : (bs cs : List Asking) → events_acked (bs ++ cs) ≡ events_acked bs + events_acked cs
+pub events_append : (bs cs : List Asking) → events_acked (bs ++ cs) ≡ events_acked bs + events_acked cs
 events_append [] cs = let z : events_acked [] ≡ 0 = refl in omega (arith, z)
 events_append (b ∷ bs) cs =
     let h = events_append bs cs in
@@ -59,7 +59,7 @@ abbrev main_code : ℕ → Bool
 main_code n = (nat_le 1 n && nat_le n 10) || (nat_le 32 n && nat_le n 43)
 
 -- who asks for a row event asks a request of the spine
-event_main : (n : ℕ) → is_some (event_for n) ≡ true → main_code n ≡ true
+pub event_main : (n : ℕ) → is_some (event_for n) ≡ true → main_code n ≡ true
 event_main n h = by (n == 8) (n == 7) (n == 10) refl refl refl h
   where
     by : (a b c : Bool) → (n == 8) ≡ a → (n == 7) ≡ b → (n == 10) ≡ c → is_some (if a then Some Show else (if b then Some Step else (if c then Some Restart else None))) ≡ true → main_code n ≡ true
@@ -85,17 +85,17 @@ events_few (b ∷ bs) = by (asks_event b) (is_main b) refl refl (events_few bs)
         omega (arith, h, k, m, n)
 
 -- a question asks for none
-not_event : (b : Asking) → is_main b ≡ false → asks_event b ≡ false
+pub not_event : (b : Asking) → is_main b ≡ false → asks_event b ≡ false
 not_event b m = by (asks_event b) refl
   where
     by : (x : Bool) → asks_event b ≡ x → x ≡ false
     by true e = let z : false ≡ true = sym m ∙ event_main b.code e in absurd cc
     by false e = refl
 
-events_off : (b : Asking) (bs : List Asking) → asks_event b ≡ false → events_acked (b ∷ bs) ≡ events_acked bs
+pub events_off : (b : Asking) (bs : List Asking) → asks_event b ≡ false → events_acked (b ∷ bs) ≡ events_acked bs
 events_off b bs e = let m = events_more b bs in let z : one_if (asks_event b && is_acked b) ≡ 0 = ap (λ (t : Bool). one_if (t && is_acked b)) e in omega (arith, m, z)
 
-questions_off : (qs cs : List Asking) → AreQuestions qs → events_acked (qs ++ cs) ≡ events_acked cs
+pub questions_off : (qs cs : List Asking) → AreQuestions qs → events_acked (qs ++ cs) ≡ events_acked cs
 questions_off [] cs q = refl
 questions_off (b ∷ qs) cs q = events_off b (qs ++ cs) (not_event b q.0) ∙ questions_off qs cs q.1
 
@@ -142,7 +142,7 @@ pub slot_event : (job : Job) (n : ℕ) (r : Request) → slice_get (asked_by job
 slot_event job n r e = task_event job.task job.list n r e
 
 -- and it is the one request of its job
-task_alone : (task : Task) (list : List Cfg) → is_some (event_in task) ≡ true → length (asked_by (record { task = task; list = list })) ≡ 1
+pub task_alone : (task : Task) (list : List Cfg) → is_some (event_in task) ≡ true → length (asked_by (record { task = task; list = list })) ≡ 1
 task_alone (tasks.FirstOutputs row) list h = refl
 task_alone (tasks.Step k) list h = refl
 task_alone (tasks.Outputs k row) list h = refl
@@ -183,7 +183,7 @@ mains_events job (Some k) e (b ∷ ms) m =
     events_more b ms ∙ ap (λ (t : Bool). one_if (t && is_acked b) + events_acked ms) z ∙ ap (λ (n : ℕ). one_if (true && is_acked b) + n) h
     ∙ ap (λ (t : Bool). one_if (t && is_acked b) + acked ms) (sym y) ∙ sym (acked_more b ms)
 
-whole_events : (job : Job) (ms : List Asking) → AreMains job ms → acked ms ≡ length (asked_by job) → events_acked ms ≡ events_of job
+pub whole_events : (job : Job) (ms : List Asking) → AreMains job ms → acked ms ≡ length (asked_by job) → events_acked ms ≡ events_of job
 whole_events job ms m w = by (event_in job.task) refl
   where
     by : (o : Option RowEvent) → event_in job.task ≡ o → events_acked ms ≡ events_of job
@@ -412,7 +412,7 @@ progress_rises : (bs cs : List Asking) → (progress cs).done ≤ (progress (bs 
 progress_rises [] cs = omega arith
 progress_rises (b ∷ bs) cs = let h = progress_rises bs cs in let e = one_rises b.code b.decision (progress (bs ++ cs)) in omega (arith, h, e)
 
-at_rest : (v : Progress) → v.waiting ≡ false → events_counted v ≡ v.done
+pub at_rest : (v : Progress) → v.waiting ≡ false → events_counted v ≡ v.done
 at_rest v e = ap (λ (b : Bool). if b then v.done + 1 else v.done) e
 
 abbrev Placing : Limits → List Job → List Placed → ℕ → Type 0
@@ -440,7 +440,7 @@ stands limits js xs p l c =
     subst P (sym (split limits js xs l)) (stands_by limits js xs p (l, c) (now xs) (few limits js xs l).few)
 
 -- the newest request may be answered late
-same_progress : (n : ℕ) (cs bs : List Asking) → AreLate n cs bs → AreDecided bs → progress cs ≡ progress bs
+pub same_progress : (n : ℕ) (cs bs : List Asking) → AreLate n cs bs → AreDecided bs → progress cs ≡ progress bs
 same_progress n [] [] l d = refl
 same_progress n [] (b ∷ bs) l d = absurd l
 same_progress n (c ∷ cs) [] l d = absurd l

@@ -6,13 +6,16 @@ use Rattle.log_spec.specs.Channel.{Repeats}
 use Rattle.log_spec.specs.Log.{Parties, IsSlaveOf, requests_sent}
 use Rattle.log_spec.specs.Moves.{Asks, move, decided_exchanges}
 use Rattle.lockstep_laws.specs.Steps.{RowEvent, Show, Step, Restart, row_event_at, event_asked, run_after, Progress, events_counted, view}
+use Rattle.master_spec.specs.declared.causes.Verdict.TheVariants as verdicts
 use Rattle.master_spec.specs.declared.tasks.Task.{Task}
 use Rattle.master_spec.specs.declared.tasks.Task.TheVariants as tasks
 use Rattle.master_spec.specs.declared.setups.Slave.{Slave}
 use Rattle.master_spec.specs.declared.setups.Setup.{Setup}
 use Rattle.master_spec.specs.Tasks.{row_of}
 use Rattle.master_spec.specs.Jobs.{Job}
+use Rattle.master_spec.specs.Marks.{Mark, verdict_of}
 use Rattle.master_spec.specs.Setup.{jobs_of}
+use Rattle.index_laws.specs.Follows.{talk_with}
 use Rattle.index_laws.specs.Laws.{AreHeard}
 use Rattle.index_laws.specs.Runs.{course_at, IsRun}
 use Rattle.master_meets.specs.Laws.{IsParty, ArePartiesOf}
@@ -51,6 +54,12 @@ abbrev pub RowsAreShownInTheirPhase : Type 0
 RowsAreShownInTheirPhase = (setup : Setup) → AreHeard setup → (w : Parties) → ArePartiesOf setup w → (log : List LogEntry) → IsRun setup log → (s : ℕ) → IsSlaveOf w s → (slave : Slave) → IsParty setup w s slave
     → (f : ℕ) → (course_at setup log).phase ≡ f + 1 → (job : Job) → slice_get (jobs_of setup slave) f ≡ Some job → (row : ℕ) → row_of job.task ≡ Some row
     → (2 * row ≤ (view (decided_exchanges w s log)).done) × ((view (decided_exchanges w s log)).done ≤ 2 * row + 1)
+
+-- once the phase has passed there, its own row event is done too, and none is under way
+abbrev pub PassedPhasesAreDone : Type 0
+PassedPhasesAreDone = (setup : Setup) → AreHeard setup → (w : Parties) → ArePartiesOf setup w → (log : List LogEntry) → IsRun setup log → (s : ℕ) → IsSlaveOf w s → (slave : Slave) → IsParty setup w s slave
+    → (f : ℕ) → (course_at setup log).phase ≡ f + 1 → (i : ℕ) (marks : List Mark) → slice_get setup.slaves i ≡ Some slave → slice_get (course_at setup log).talks i ≡ Some (talk_with slave marks) → verdict_of marks ≡ verdicts.Passed
+    → view (decided_exchanges w s log) ≡ record { done = events_before (jobs_of setup slave) (f + 1); waiting = false }
 
 -- ---- the barrier
 -- what the laws over a run want of a row event that is asked for, but for what the slaves have been opened for
