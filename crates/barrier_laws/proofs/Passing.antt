@@ -1,6 +1,6 @@
 -- By the marks of a conversation: a phase that has passed leaves its row event done.
-use Rattle.std.proofs.Common.{◌≡◌, ℕ, ◌+◌, ◌%◌, Bool, true, false, if◌then◌else◌, ◌⊎◌, inl, inr, Option, Some, None, List, [], ◌∷◌, ◌++◌, refl, sym, ap, ◌∙◌, subst, arith}
-use Rattle.std.specs.Prelude.{◌==◌, ◌&&◌, ◌||◌, nat_le, is_some, slice_get}
+use Rattle.std.proofs.Common.{◌≡◌, ℕ, ◌+◌, Bool, true, false, if◌then◌else◌, Option, Some, None, List, [], ◌∷◌, ◌++◌, refl, sym, ap, ◌∙◌, subst, arith}
+use Rattle.std.specs.Prelude.{◌&&◌, ◌||◌, is_some}
 use Rattle.std.specs.List.{list_any}
 use Rattle.std.proofs.lemmas.Bool.{eqb-true, and_parts}
 use Rattle.std.proofs.lemmas.List.{append_assoc}
@@ -13,25 +13,25 @@ use Rattle.master_spec.specs.declared.requests.Answer.TheVariants.{Ack, Nack, St
 use Rattle.master_spec.specs.declared.tasks.Task.{Task}
 use Rattle.master_spec.specs.declared.tasks.Task.TheVariants as tasks
 use Rattle.master_spec.specs.Tasks.{is_by_list, is_by_end, target_of}
-use Rattle.master_spec.specs.Jobs.{Job, asked_by}
-use Rattle.master_spec.specs.Marks.{count, is_begun, is_reached, is_passed}
+use Rattle.master_spec.specs.Jobs.{Job}
+use Rattle.master_spec.specs.Marks.{count, is_begun, is_passed}
 use Rattle.master_spec.specs.Conversation.{is_state}
 use Rattle.master_spec.specs.Requests.{Asking, Decision, is_state_question, acked}
 use Rattle.master_spec.specs.Shown.{names_in, names_target}
 use Rattle.asking_laws.specs.Legal.{Rests, AreLegal}
-use Rattle.index_laws.specs.Index.{Placed, marks_of, code_of, told}
-use Rattle.phase_laws.proofs.Now.{now, past, IsOf, IsDecidedBy, split}
-use Rattle.phase_laws.proofs.Mains.{AreMains, AreQuestions, is_main_request, of_main, asked_main}
+use Rattle.index_laws.specs.Index.{Placed, marks_of, told}
+use Rattle.phase_laws.proofs.Now.{now, past, split}
+use Rattle.phase_laws.proofs.Mains.{AreMains, AreQuestions, of_main}
 use Rattle.phase_laws.proofs.Counts.{names_it, reached_now}
 use Rattle.phase_laws.proofs.Stage.{Main, Question, Stage, idling, main_open, question_open, trying, mains_done, state_told, mains_acked}
 use Rattle.phase_laws.proofs.Stages.{stage}
 use Rattle.phase_laws.proofs.Tags.{job_phase, HasPassed, mains_name, passed_reached, tried_not_passed}
 use Rattle.rest_laws.proofs.Resting.{rest_before}
-use Rattle.row_laws.specs.Laws.{event_for, asks_event, reply_by, progress_after, progress}
+use Rattle.row_laws.specs.Laws.{event_for, reply_by, progress_after, progress}
 use Rattle.row_laws.proofs.Views.{acknowledged}
 use Rattle.barrier_laws.specs.Laws.{event_in, events_before}
 use Rattle.barrier_laws.proofs.Scripts.{events_of, before_next}
-use Rattle.barrier_laws.proofs.Counting.{events_acked, events_append, event_main, not_event, events_off, questions_off, slot_event, whole_events, past_events, at_rest}
+use Rattle.barrier_laws.proofs.Counting.{events_acked, events_append, not_event, events_off, questions_off, slot_event, whole_events, past_events, at_rest}
 
 -- ---- requests that are for no row event
 abbrev AreOff : List Asking → Type 0
@@ -153,7 +153,7 @@ question_done job r d bs before h k =
     let Q : List Asking → Type 0 = λ z. (progress z).waiting ≡ false in
     subst P (sym k.is) (
       subst Q (sym (append_assoc qs k.ms before)) (named_rests job.task qs (k.ms ++ before) (questions_are_off qs q) (any_append job.task qs k.ms (mains_name job job.task k.ms k.mains) any)),
-      questions_off qs k.ms q ∙ whole_events job k.ms k.mains k.whole
+      questions_off qs k.ms q ∙ whole_events job k.ms k.mains k.whole,
     )
 
 event_task : (task : Task) (k : RowEvent) → event_in task ≡ Some k → (is_by_list task ≡ false) × (is_by_end task ≡ false)
