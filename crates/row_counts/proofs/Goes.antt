@@ -18,16 +18,19 @@ use Rattle.master_spec.specs.declared.tasks.Task.{Task}
 use Rattle.master_spec.specs.declared.tasks.Task.TheVariants as tasks
 use Rattle.master_spec.specs.Tasks.{is_by_list, is_by_end, row_of}
 use Rattle.master_spec.specs.Jobs.{Job}
-use Rattle.master_spec.specs.Marks.{Mark, Turned, acks_change, this_phase, configured, kept, is_reached, has_outputs, is_passed, job_of, cause_of, verdict_of}
+use Rattle.master_spec.specs.Setup.{jobs_of}
+use Rattle.master_spec.specs.Marks.{Mark, Turned, acks_change, this_phase, configured, kept, is_reached, has_outputs, is_passed, job_of, verdict_of}
 use Rattle.master_spec.specs.Conversation.{after}
 use Rattle.master_spec.specs.Course.{Talk, Course, course, is_passed_as, has_passed, is_settled, is_quiet, failed, phases, with_next, with_report, decided, with_turns, decided_if, turned, still, after_turn, row_in_job, row_now, values_in, outputs_in, counted_at, counted}
+use Rattle.asking_laws.specs.Legal.{GoesByRule}
 use Rattle.asking_laws.proofs.Legal.{turn_goes, going}
 use Rattle.index_laws.specs.Runs.{events, with_event, course_at}
-use Rattle.index_laws.proofs.Runs.{step_gram, step_tick, step_still, talks_of}
+use Rattle.index_laws.specs.Follows.{talk_with}
+use Rattle.index_laws.proofs.Runs.{step_gram, step_tick, step_still, talks_of, with_at}
 use Rattle.phase_laws.proofs.Tags.{HasPassed, verdict_passed}
 use Rattle.row_counts.specs.Laws.{CameInPhase, values_by, CountsRow, RowsGoOneByOne}
 use Rattle.row_counts.proofs.Kept.{Came}
-use Rattle.row_counts.proofs.Phases.{due, AllGo, talk_due, talk_of, now_due, slaves_stay, TalksCame, turns_came, talks_came}
+use Rattle.row_counts.proofs.Phases.{due, in_row, AllGo, talk_due, talk_of, now_due, slaves_stay, TalksCame, turns_came, talks_came}
 
 -- ---- who has passed the phase of a row keeps outputs of it
 row_task : (task : Task) (row : ℕ) → row_of task ≡ Some row → (is_by_list task ≡ false) × (is_by_end task ≡ false)
@@ -70,24 +73,29 @@ each_passed talks i u a e = verdict_passed u.marks (passed_verdict (verdict_of u
     by (v ∷ vs) zero a e = let z : v ≡ u = cc in ap has_passed (sym z) ∙ (and_parts (has_passed v) (list_all has_passed vs) a).0
     by (v ∷ vs) (suc j) a e = by vs j (and_parts (has_passed v) (list_all has_passed vs) a).1 e
 
-came_in_phase : (setup : Setup) (i : ℕ) (slave : Slave) (row : ℕ) (payload : List ℕ) (log : List LogEntry) (marks : List Mark) → Came setup i slave row payload log marks → cause_of marks ≡ None → row_in_job (job_of marks) ≡ Some row
-    → CameInPhase setup i slave row payload log
-came_in_phase setup i slave row payload log marks c none r = record {
-  later = c.later;
-  earlier = c.earlier;
-  at = c.at;
-  from = c.from;
-  bytes = c.bytes;
-  is = c.is;
-  own = c.own;
-  sender = c.sender;
-  brings = c.brings;
-  unreported = c.unreported;
-  marks = c.before;
-  here = c.here;
-  row_is = ap row_in_job c.job_is ∙ r;
-  live = c.live none;
-}
+came_in_phase : (setup : Setup) → 1 ≤ setup.runs → (i : ℕ) (slave : Slave) (row : ℕ) (payload : List ℕ) (log : List LogEntry) (marks : List Mark) → Came setup i slave row payload log marks → row_in_job (job_of marks) ≡ Some row
+    → CameInPhase setup slave row payload log
+came_in_phase setup runs i slave row payload log marks c r =
+    let earlier = course_at setup c.earlier in
+    let g = with_at (λ s m. GoesByRule setup.limits (jobs_of setup s) earlier.phase m) earlier.talks i (talk_with slave c.before) (going setup runs (events setup c.earlier)).goes c.here in
+    let k = in_row setup slave earlier.phase c.before row g (ap row_in_job c.job_is ∙ r) in
+    record {
+      later = c.later;
+      earlier = c.earlier;
+      at = c.at;
+      from = c.from;
+      bytes = c.bytes;
+      is = c.is;
+      own = c.own;
+      sender = c.sender;
+      brings = c.brings;
+      unreported = c.unreported;
+      before = k.before;
+      phase_is = k.phase_is;
+      job = k.job;
+      job_is = k.job_is;
+      row_is = k.row_is;
+    }
 
 -- ---- the values of a row
 abbrev part_of : ℕ → Option Talk → List ℕ
@@ -105,13 +113,13 @@ values_same row part i (u ∷ us) h =
 -- ---- one more row
 record Counted (setup : Setup) (log : List LogEntry) (rows new : List (List ℤ)) : Type 0 where
   pub part : ℕ → List ℕ
-  pub came : (i : ℕ) (slave : Slave) → slice_get setup.slaves i ≡ Some slave → CameInPhase setup i slave (length rows) (part i) log
+  pub came : (i : ℕ) (slave : Slave) → slice_get setup.slaves i ≡ Some slave → CameInPhase setup slave (length rows) (part i) log
   pub is : new ≡ rows ++ values_by part 0 setup.slaves ∷ []
 
 abbrev Counts : Setup → List LogEntry → (rows new : List (List ℤ)) → Type 0
 Counts setup log rows new = (new ≡ rows) ⊎ Counted setup log rows new
 
-module _ (setup : Setup) (slave : Slave) (first : slice_get setup.slaves 0 ≡ Some slave) where
+module _ (setup : Setup) (runs : 1 ≤ setup.runs) (slave : Slave) (first : slice_get setup.slaves 0 ≡ Some slave) where
   counts : (log : List LogEntry) (rows : List (List ℤ)) (phase : ℕ) (talks : List Talk) → AllGo setup phase talks → map (λ u. u.slave) talks ≡ setup.slaves → TalksCame setup log talks → Counts setup log rows (counted talks rows)
   counts log rows phase talks g m h = by (row_now talks) refl
     where
@@ -125,18 +133,18 @@ module _ (setup : Setup) (slave : Slave) (first : slice_get setup.slaves 0 ≡ S
         is = ap (λ (q : List ℤ). rows ++ q ∷ []) (values_same row (λ i. part_of row (slice_get talks i)) 0 talks (λ j u z. let k : 0 + j ≡ j = omega arith in ap (λ i. part_of row (slice_get talks i)) k ∙ ap (part_of row) z) ∙ ap (values_by (λ i. part_of row (slice_get talks i)) 0) m);
       }
         where
-          came : (i : ℕ) (s : Slave) → slice_get setup.slaves i ≡ Some s → CameInPhase setup i s (length rows) (part_of row (slice_get talks i)) log
+          came : (i : ℕ) (s : Slave) → slice_get setup.slaves i ≡ Some s → CameInPhase setup s (length rows) (part_of row (slice_get talks i)) log
           came i s f =
               let t = talk_of talks setup.slaves i s m f in
               let u = t.0 in
               let p = each_passed talks i u all (t.1).0 in
               let r : row_in_job (job_of u.marks) ≡ Some row = talk_due setup phase talks i u g (t.1).0 ∙ sym now ∙ e in
               let k = some_of (kept row u.marks) (passed_keeps p.job u.marks row (ap row_in_job (sym p.job_is) ∙ r) p.passed) in
-              let c = came_in_phase setup i u.slave row k.0 log u.marks ((h i u (t.1).0).each row k.0 k.1) p.cause_is r in
+              let c = came_in_phase setup runs i u.slave row k.0 log u.marks ((h i u (t.1).0).each row k.0 k.1) r in
               let part : k.0 ≡ part_of row (slice_get talks i) = ap (λ (o : Option (List ℕ)). unwrap_or o []) (sym k.1) ∙ ap (part_of row) (sym (t.1).0) in
-              let P : List ℕ → Type 0 = λ q. CameInPhase setup i u.slave row q log in
-              let Q : ℕ → Type 0 = λ n. CameInPhase setup i u.slave n (part_of row (slice_get talks i)) log in
-              let R : Slave → Type 0 = λ v. CameInPhase setup i v (length rows) (part_of row (slice_get talks i)) log in
+              let P : List ℕ → Type 0 = λ q. CameInPhase setup u.slave row q log in
+              let Q : ℕ → Type 0 = λ n. CameInPhase setup u.slave n (part_of row (slice_get talks i)) log in
+              let R : Slave → Type 0 = λ v. CameInPhase setup v (length rows) (part_of row (slice_get talks i)) log in
               subst R (t.1).1 (subst Q (sym n) (subst P part c))
 
       by : (o : Option ℕ) → row_now talks ≡ o → Counts setup log rows (counted_at o talks rows)
@@ -164,69 +172,68 @@ module _ (setup : Setup) (slave : Slave) (first : slice_get setup.slaves 0 ≡ S
   turned_rows c true = decided_rows c (failed c.phase c.talks)
   turned_rows c false = refl
 
-  module _ (runs : 1 ≤ setup.runs) where
-    tick_counts : (e : LogEntry) (log : List LogEntry) → let c = course_at setup log in Counts setup (e ∷ log) c.rows (after_turn setup c).rows
-    tick_counts e log = by (c.phase == 0)
-      where
-        c : Course
-        c = course_at setup log
+  tick_counts : (e : LogEntry) (log : List LogEntry) → let c = course_at setup log in Counts setup (e ∷ log) c.rows (after_turn setup c).rows
+  tick_counts e log = by (c.phase == 0)
+    where
+      c : Course
+      c = course_at setup log
 
-        settled : Bool
-        settled = list_all is_settled c.talks
+      settled : Bool
+      settled = list_all is_settled c.talks
 
-        d : Course
-        d = with_turns setup settled c
+      d : Course
+      d = with_turns setup settled c
 
-        by : (b : Bool) → Counts setup (e ∷ log) c.rows (if b then with_next setup (still c) else turned setup d).rows
-        by true = inl refl
-        by false = same_rows (e ∷ log) c.rows d.rows (turned setup d).rows (turned_rows d (list_all is_quiet d.talks))
-            (counts (e ∷ log) c.rows c.phase d.talks (turn_goes setup runs c.phase settled c.talks (going setup runs (events setup log)).goes)
-            (slaves_stay (λ u. after setup.limits (Turned settled) u.marks) c.talks ∙ talks_of setup (events setup log)) (turns_came setup e log settled c (talks_came setup log)))
+      by : (b : Bool) → Counts setup (e ∷ log) c.rows (if b then with_next setup (still c) else turned setup d).rows
+      by true = inl refl
+      by false = same_rows (e ∷ log) c.rows d.rows (turned setup d).rows (turned_rows d (list_all is_quiet d.talks))
+          (counts (e ∷ log) c.rows c.phase d.talks (turn_goes setup runs c.phase settled c.talks (going setup runs (events setup log)).goes)
+          (slaves_stay (λ u. after setup.limits (Turned settled) u.marks) c.talks ∙ talks_of setup (events setup log)) (turns_came setup e log settled c (talks_came setup log)))
 
-    got_counts : (at from : Address) (bytes : List ℕ) (log : List LogEntry) (b : Bool) → (same_address at setup.address) ≡ b → Counts setup (Got at from bytes ∷ log) (course_at setup log).rows (course setup (with_event b (Gram from bytes) (events setup log))).rows
-    got_counts at from bytes log false own = inl refl
-    got_counts at from bytes log true own = by c.report refl
-      where
-        c : Course
-        c = course_at setup log
+  got_counts : (at from : Address) (bytes : List ℕ) (log : List LogEntry) (b : Bool) → (same_address at setup.address) ≡ b → Counts setup (Got at from bytes ∷ log) (course_at setup log).rows (course setup (with_event b (Gram from bytes) (events setup log))).rows
+  got_counts at from bytes log false own = inl refl
+  got_counts at from bytes log true own = by c.report refl
+    where
+      c : Course
+      c = course_at setup log
 
-        d : Course
-        d = course setup (Gram from bytes ∷ events setup log)
+      d : Course
+      d = course setup (Gram from bytes ∷ events setup log)
 
-        L : List LogEntry
-        L = Got at from bytes ∷ log
+      L : List LogEntry
+      L = Got at from bytes ∷ log
 
-        is : course_at setup L ≡ d
-        is = ap (λ (b : Bool). course setup (with_event b (Gram from bytes) (events setup log))) own
+      is : course_at setup L ≡ d
+      is = ap (λ (b : Bool). course setup (with_event b (Gram from bytes) (events setup log))) own
 
-        by : (o : Option Report) → c.report ≡ o → Counts setup L c.rows d.rows
-        by (Some r) e = inl (ap (λ (x : Course). x.rows) (step_still setup (Gram from bytes) c r e))
-        by None e =
-            let s = step_gram setup from bytes c e in
-            let n : d.rows ≡ counted d.talks c.rows = ap (λ (x : Course). x.rows) s ∙ ap (λ (x : Course). counted x.talks c.rows) (sym s) in
-            let P : Course → Type 0 = λ x. TalksCame setup L x.talks in
-            same_rows L c.rows (counted d.talks c.rows) d.rows n
-            (counts L c.rows d.phase d.talks (going setup runs (Gram from bytes ∷ events setup log)).goes (talks_of setup (Gram from bytes ∷ events setup log)) (subst P is (talks_came setup L)))
+      by : (o : Option Report) → c.report ≡ o → Counts setup L c.rows d.rows
+      by (Some r) e = inl (ap (λ (x : Course). x.rows) (step_still setup (Gram from bytes) c r e))
+      by None e =
+          let s = step_gram setup from bytes c e in
+          let n : d.rows ≡ counted d.talks c.rows = ap (λ (x : Course). x.rows) s ∙ ap (λ (x : Course). counted x.talks c.rows) (sym s) in
+          let P : Course → Type 0 = λ x. TalksCame setup L x.talks in
+          same_rows L c.rows (counted d.talks c.rows) d.rows n
+          (counts L c.rows d.phase d.talks (going setup runs (Gram from bytes ∷ events setup log)).goes (talks_of setup (Gram from bytes ∷ events setup log)) (subst P is (talks_came setup L)))
 
-    turn_counts : (at : Address) (log : List LogEntry) (b : Bool) → Counts setup (Turn at ∷ log) (course_at setup log).rows (course setup (with_event b Tick (events setup log))).rows
-    turn_counts at log false = inl refl
-    turn_counts at log true = by c.report refl
-      where
-        c : Course
-        c = course_at setup log
+  turn_counts : (at : Address) (log : List LogEntry) (b : Bool) → Counts setup (Turn at ∷ log) (course_at setup log).rows (course setup (with_event b Tick (events setup log))).rows
+  turn_counts at log false = inl refl
+  turn_counts at log true = by c.report refl
+    where
+      c : Course
+      c = course_at setup log
 
-        by : (o : Option Report) → c.report ≡ o → Counts setup (Turn at ∷ log) c.rows (course setup (Tick ∷ events setup log)).rows
-        by (Some r) e = inl (ap (λ (x : Course). x.rows) (step_still setup Tick c r e))
-        by None e = same_rows (Turn at ∷ log) c.rows (after_turn setup c).rows (course setup (Tick ∷ events setup log)).rows (ap (λ (x : Course). x.rows) (step_tick setup c e)) (tick_counts (Turn at) log)
+      by : (o : Option Report) → c.report ≡ o → Counts setup (Turn at ∷ log) c.rows (course setup (Tick ∷ events setup log)).rows
+      by (Some r) e = inl (ap (λ (x : Course). x.rows) (step_still setup Tick c r e))
+      by None e = same_rows (Turn at ∷ log) c.rows (after_turn setup c).rows (course setup (Tick ∷ events setup log)).rows (ap (λ (x : Course). x.rows) (step_tick setup c e)) (tick_counts (Turn at) log)
 
-    entry_counts : (e : LogEntry) (log : List LogEntry) → Counts setup (e ∷ log) (course_at setup log).rows (course_at setup (e ∷ log)).rows
-    entry_counts (Sent from to bytes) log = inl refl
-    entry_counts (Got at from bytes) log = got_counts at from bytes log (same_address at setup.address) refl
-    entry_counts (Idle at) log = inl refl
-    entry_counts (Turn at) log = turn_counts at log (same_address at setup.address)
+  entry_counts : (e : LogEntry) (log : List LogEntry) → Counts setup (e ∷ log) (course_at setup log).rows (course_at setup (e ∷ log)).rows
+  entry_counts (Sent from to bytes) log = inl refl
+  entry_counts (Got at from bytes) log = got_counts at from bytes log (same_address at setup.address) refl
+  entry_counts (Idle at) log = inl refl
+  entry_counts (Turn at) log = turn_counts at log (same_address at setup.address)
 
 pub one_by_one : RowsGoOneByOne
-one_by_one setup runs slave first e log = by (entry_counts setup slave first runs e log)
+one_by_one setup runs slave first e log = by (entry_counts setup runs slave first e log)
   where
     by : Counts setup (e ∷ log) (course_at setup log).rows (course_at setup (e ∷ log)).rows → ((course_at setup (e ∷ log)).rows ≡ (course_at setup log).rows) ⊎ CountsRow setup e log
     by (inl z) = inl z

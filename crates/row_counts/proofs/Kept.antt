@@ -7,7 +7,6 @@ use Rattle.dcp_types.specs.declared.limits.Limits.{Limits}
 use Rattle.dcp_ends.specs.declared.entries.LogEntry.{LogEntry}
 use Rattle.dcp_ends.specs.declared.entries.LogEntry.TheVariants.{Got}
 use Rattle.dcp_ends.specs.Logs.{same_address}
-use Rattle.master_spec.specs.declared.causes.Cause.{Cause}
 use Rattle.master_spec.specs.declared.reactions.Reaction.{Reaction}
 use Rattle.master_spec.specs.declared.reactions.Reaction.TheVariants.{Wait, Ask, Repeat, GiveUp}
 use Rattle.master_spec.specs.declared.requests.Request.{Request}
@@ -17,7 +16,7 @@ use Rattle.master_spec.specs.declared.setups.Setup.{Setup}
 use Rattle.master_spec.specs.Jobs.{Job}
 use Rattle.master_spec.specs.News.{News, Answers, Hints, Nothing, news_of}
 use Rattle.master_spec.specs.News as news
-use Rattle.master_spec.specs.Marks.{Mark, Begun, Asked, Again, Answered, Hinted, Brought, Turned, Ended, or_else, kept, job_of, cause_of, newest_number, open_request}
+use Rattle.master_spec.specs.Marks.{Mark, Begun, Asked, Again, Answered, Hinted, Brought, Turned, Ended, or_else, kept, job_of, newest_number, open_request}
 use Rattle.master_spec.specs.Conversation.{if_open, reaction, done, after, extended}
 use Rattle.master_spec.specs.Course.{mark_for, mark_of_gram, begun_with, payload_size}
 use Rattle.index_laws.specs.Runs.{course_at}
@@ -76,9 +75,8 @@ pub record Came (setup : Setup) (i : ℕ) (slave : Slave) (row : ℕ) (payload :
   pub unreported : (course_at setup earlier).report ≡ None
   pub before : List Mark
   pub here : slice_get (course_at setup earlier).talks i ≡ Some (talk_with slave before)
-  -- in the same phase, and live as long as it is now
+  -- in the same phase
   pub job_is : job_of before ≡ job_of marks
-  pub live : cause_of marks ≡ None → cause_of before ≡ None
 
 module _ (setup : Setup) (i : ℕ) (slave : Slave) where
   pub record AllCame (log : List LogEntry) (marks : List Mark) : Type 0 where
@@ -88,14 +86,14 @@ module _ (setup : Setup) (i : ℕ) (slave : Slave) where
   came_longer e log marks h = record { each = λ row payload k. by row payload (h.each row payload k) }
     where
       by : (row : ℕ) (payload : List ℕ) → Came setup i slave row payload log marks → Came setup i slave row payload (e ∷ log) marks
-      by row payload c = record { later = e ∷ c.later; earlier = c.earlier; at = c.at; from = c.from; bytes = c.bytes; is = ap (λ (z : List LogEntry). e ∷ z) c.is; own = c.own; sender = c.sender; brings = c.brings; unreported = c.unreported; before = c.before; here = c.here; job_is = c.job_is; live = c.live }
+      by row payload c = record { later = e ∷ c.later; earlier = c.earlier; at = c.at; from = c.from; bytes = c.bytes; is = ap (λ (z : List LogEntry). e ∷ z) c.is; own = c.own; sender = c.sender; brings = c.brings; unreported = c.unreported; before = c.before; here = c.here; job_is = c.job_is }
 
   kept_more : (o : Option (List ℕ)) (payload : List ℕ) → or_else o None ≡ Some payload → o ≡ Some payload
   kept_more None payload h = h
   kept_more (Some p) payload h = h
 
-  came_on : (row : ℕ) (payload : List ℕ) (log : List LogEntry) (marks later : List Mark) → Came setup i slave row payload log marks → job_of marks ≡ job_of later → (cause_of later ≡ None → cause_of marks ≡ None) → Came setup i slave row payload log later
-  came_on row payload log marks more c j l = record { later = c.later; earlier = c.earlier; at = c.at; from = c.from; bytes = c.bytes; is = c.is; own = c.own; sender = c.sender; brings = c.brings; unreported = c.unreported; before = c.before; here = c.here; job_is = c.job_is ∙ j; live = λ e. c.live (l e) }
+  came_on : (row : ℕ) (payload : List ℕ) (log : List LogEntry) (marks later : List Mark) → Came setup i slave row payload log marks → job_of marks ≡ job_of later → Came setup i slave row payload log later
+  came_on row payload log marks more c j = record { later = c.later; earlier = c.earlier; at = c.at; from = c.from; bytes = c.bytes; is = c.is; own = c.own; sender = c.sender; brings = c.brings; unreported = c.unreported; before = c.before; here = c.here; job_is = c.job_is ∙ j }
 
   -- a mark that brings nothing
   abbrev pub IsDry : Mark → Type 0
@@ -108,20 +106,17 @@ module _ (setup : Setup) (i : ℕ) (slave : Slave) where
   IsDry (Turned settled) = Unit {0}
   IsDry (Ended cause) = Unit {0}
 
-  no_cause : (cause : Cause) → Some cause ≡ None → ⊥
-  no_cause cause e = cc
-
   pub came_dry : (m : Mark) (log : List LogEntry) (marks : List Mark) → IsDry m → AllCame log marks → AllCame log (m ∷ marks)
   came_dry (Begun job) log marks d h = record { each = λ row payload k. absurd (none payload k) }
     where
       none : (payload : List ℕ) → None ≡ Some payload → ⊥
       none payload k = cc
-  came_dry (Asked request) log marks d h = record { each = λ row payload k. came_on row payload log marks (Asked request ∷ marks) (h.each row payload (kept_more (kept row marks) payload k)) refl (λ e. e) }
-  came_dry Again log marks d h = record { each = λ row payload k. came_on row payload log marks (Again ∷ marks) (h.each row payload (kept_more (kept row marks) payload k)) refl (λ e. e) }
-  came_dry (Answered request answer) log marks d h = record { each = λ row payload k. came_on row payload log marks (Answered request answer ∷ marks) (h.each row payload (kept_more (kept row marks) payload k)) refl (λ e. e) }
-  came_dry Hinted log marks d h = record { each = λ row payload k. came_on row payload log marks (Hinted ∷ marks) (h.each row payload (kept_more (kept row marks) payload k)) refl (λ e. e) }
-  came_dry (Turned settled) log marks d h = record { each = λ row payload k. came_on row payload log marks (Turned settled ∷ marks) (h.each row payload (kept_more (kept row marks) payload k)) refl (λ e. e) }
-  came_dry (Ended cause) log marks d h = record { each = λ row payload k. came_on row payload log marks (Ended cause ∷ marks) (h.each row payload (kept_more (kept row marks) payload k)) refl (λ e. absurd (no_cause cause e)) }
+  came_dry (Asked request) log marks d h = record { each = λ row payload k. came_on row payload log marks (Asked request ∷ marks) (h.each row payload (kept_more (kept row marks) payload k)) refl }
+  came_dry Again log marks d h = record { each = λ row payload k. came_on row payload log marks (Again ∷ marks) (h.each row payload (kept_more (kept row marks) payload k)) refl }
+  came_dry (Answered request answer) log marks d h = record { each = λ row payload k. came_on row payload log marks (Answered request answer ∷ marks) (h.each row payload (kept_more (kept row marks) payload k)) refl }
+  came_dry Hinted log marks d h = record { each = λ row payload k. came_on row payload log marks (Hinted ∷ marks) (h.each row payload (kept_more (kept row marks) payload k)) refl }
+  came_dry (Turned settled) log marks d h = record { each = λ row payload k. came_on row payload log marks (Turned settled ∷ marks) (h.each row payload (kept_more (kept row marks) payload k)) refl }
+  came_dry (Ended cause) log marks d h = record { each = λ row payload k. came_on row payload log marks (Ended cause ∷ marks) (h.each row payload (kept_more (kept row marks) payload k)) refl }
   came_dry (Brought number payload) log marks d h = absurd d
 
   -- outputs that come
@@ -134,7 +129,7 @@ module _ (setup : Setup) (i : ℕ) (slave : Slave) where
       E = Got at from bytes
 
       by : (row : ℕ) (q : List ℕ) (o : Option (List ℕ)) → kept row marks ≡ o → (b : Bool) → (number == row % 65536) ≡ b → or_else o (if b then Some payload else None) ≡ Some q → Came setup i slave row q (E ∷ log) (Brought number payload ∷ marks)
-      by row q (Some p) e b f k = came_on row q (E ∷ log) marks (Brought number payload ∷ marks) ((came_longer E log marks h).each row q (e ∙ k)) refl (λ z. z)
+      by row q (Some p) e b f k = came_on row q (E ∷ log) marks (Brought number payload ∷ marks) ((came_longer E log marks h).each row q (e ∙ k)) refl
       by row q None e false f k = absurd cc
       by row q None e true f k =
           let s = gram_brings slave marks from bytes number payload g in
@@ -154,7 +149,6 @@ module _ (setup : Setup) (i : ℕ) (slave : Slave) where
             before = marks;
             here = here;
             job_is = refl;
-            live = λ c. c;
           }
 
   -- and what follows from a mark

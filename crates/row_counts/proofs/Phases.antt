@@ -11,6 +11,8 @@ use Rattle.master_spec.specs.declared.reports.Report.{Report}
 use Rattle.master_spec.specs.declared.reports.Report.TheVariants as reports
 use Rattle.master_spec.specs.declared.setups.Slave.{Slave}
 use Rattle.master_spec.specs.declared.setups.Setup.{Setup}
+use Rattle.master_spec.specs.Tasks.{row_of}
+use Rattle.master_spec.specs.Jobs.{Job}
 use Rattle.master_spec.specs.Setup.{jobs_of}
 use Rattle.master_spec.specs.Marks.{Mark, Begun, Asked, Again, Answered, Hinted, Brought, Turned, Ended, count, is_begun, job_of}
 use Rattle.master_spec.specs.Course.{Talk, Course, course, fresh, mark_of_gram, marked, is_settled, is_quiet, failed, begun, phases, with_next, with_report, decided, with_turns, decided_if, turned, still, after_turn, row_in_job, row_now}
@@ -52,6 +54,25 @@ AllGo setup phase talks = AllWith (λ slave marks. GoesByRule setup.limits (jobs
 
 pub talk_due : (setup : Setup) (phase : ℕ) (talks : List Talk) (i : ℕ) (u : Talk) → AllGo setup phase talks → slice_get talks i ≡ Some u → row_in_job (job_of u.marks) ≡ due setup phase
 talk_due setup phase talks i u g e = row_due setup u.slave phase u.marks (with_at (λ slave marks. GoesByRule setup.limits (jobs_of setup slave) phase marks) talks i u g e)
+
+-- the job of the phase, of a conversation that is in the phase of a row
+pub record InRow (setup : Setup) (slave : Slave) (phase row : ℕ) : Type 0 where
+  pub before : ℕ
+  pub phase_is : phase ≡ before + 1
+  pub job : Job
+  pub job_is : slice_get (jobs_of setup slave) before ≡ Some job
+  pub row_is : row_of job.task ≡ Some row
+
+pub in_row : (setup : Setup) (slave : Slave) (phase : ℕ) (marks : List Mark) (row : ℕ) → GoesByRule setup.limits (jobs_of setup slave) phase marks → row_in_job (job_of marks) ≡ Some row → InRow setup slave phase row
+in_row setup slave zero marks row g e = absurd (clash (ap row_in_job (sym (job_none marks g.phase_is)) ∙ e))
+  where
+    clash : None ≡ Some row → ⊥
+    clash z = cc
+in_row setup slave (suc p) marks row g e =
+    let n = g.phase_is in
+    let c : count is_begun marks ≡ p + 1 = omega (arith, n) in
+    let j = job_some marks p c in
+    record { before = p; phase_is = omega arith; job = j.0; job_is = job_phase setup.limits (jobs_of setup slave) marks g.legal j.0 j.1 p c; row_is = ap row_in_job (sym j.1) ∙ e }
 
 row_first : (talks : List Talk) (u : Talk) → slice_get talks 0 ≡ Some u → row_now talks ≡ row_in_job (job_of u.marks)
 row_first [] u e = absurd cc

@@ -8,13 +8,14 @@ use Rattle.master_spec.specs.declared.reports.Report.TheVariants as reports
 use Rattle.master_spec.specs.declared.setups.Slave.{Slave}
 use Rattle.master_spec.specs.declared.setups.Setup.{Setup}
 use Rattle.master_spec.specs.News.{Brings, news_of}
-use Rattle.master_spec.specs.Marks.{Mark, job_of, cause_of}
-use Rattle.master_spec.specs.Course.{row_in_job, values_in}
+use Rattle.master_spec.specs.Setup.{jobs_of}
+use Rattle.master_spec.specs.Jobs.{Job}
+use Rattle.master_spec.specs.Tasks.{row_of}
+use Rattle.master_spec.specs.Course.{values_in}
 use Rattle.index_laws.specs.Runs.{course_at}
-use Rattle.index_laws.specs.Follows.{talk_with}
 
--- The outputs of the slave at a place of the setup came under the number of a row, while its conversation was in the phase of that row and went on.
-pub record CameInPhase (setup : Setup) (i : ℕ) (slave : Slave) (row : ℕ) (payload : List ℕ) (log : List LogEntry) : Type 0 where
+-- The outputs of a slave came under the number of a row, before the report and in the phase of that row.
+pub record CameInPhase (setup : Setup) (slave : Slave) (row : ℕ) (payload : List ℕ) (log : List LogEntry) : Type 0 where
   pub later : List LogEntry
   pub earlier : List LogEntry
   pub at : Address
@@ -24,12 +25,12 @@ pub record CameInPhase (setup : Setup) (i : ℕ) (slave : Slave) (row : ℕ) (pa
   pub own : same_address at setup.address ≡ true
   pub sender : same_address from slave.address ≡ true
   pub brings : news_of bytes ≡ Brings (row % 65536) slave.id payload
-  -- what there was before
   pub unreported : (course_at setup earlier).report ≡ None
-  pub marks : List Mark
-  pub here : slice_get (course_at setup earlier).talks i ≡ Some (talk_with slave marks)
-  pub row_is : row_in_job (job_of marks) ≡ Some row
-  pub live : cause_of marks ≡ None
+  pub before : ℕ
+  pub phase_is : (course_at setup earlier).phase ≡ before + 1
+  pub job : Job
+  pub job_is : slice_get (jobs_of setup slave) before ≡ Some job
+  pub row_is : row_of job.task ≡ Some row
 
 -- the values of a row: of each slave, from a place on, those in its payload
 abbrev pub values_by : (ℕ → List ℕ) → ℕ → List Slave → List ℤ
@@ -39,7 +40,7 @@ values_by part i (slave ∷ slaves) = values_in slave.types (part i) ++ values_b
 -- one more row: of each slave what came in this phase under the row's number
 pub record CountsRow (setup : Setup) (e : LogEntry) (log : List LogEntry) : Type 0 where
   pub part : ℕ → List ℕ
-  pub came : (i : ℕ) (slave : Slave) → slice_get setup.slaves i ≡ Some slave → CameInPhase setup i slave (length (course_at setup log).rows) (part i) (e ∷ log)
+  pub came : (i : ℕ) (slave : Slave) → slice_get setup.slaves i ≡ Some slave → CameInPhase setup slave (length (course_at setup log).rows) (part i) (e ∷ log)
   pub is : (course_at setup (e ∷ log)).rows ≡ (course_at setup log).rows ++ values_by part 0 setup.slaves ∷ []
 
 abbrev pub RowsGoOneByOne : Type 0
