@@ -3,7 +3,7 @@
 ghost use Rattle.std.specs.Prelude.{◌≡◌, ◌≤◌, ◌↔◌, [], Some, length, IfSome, IsTrue, MatchOption, is_some, ⊤};
 ghost use Rattle.dcp_net.specs.Nets.{HasCause, IsWithinRoom, sent_entries, told_more, took_entries};
 ghost use Rattle.net_world.specs.Calls.{AllRecent, GivesDue};
-ghost use Rattle.net_world.specs.World.{TakesOpened, calls_of, is_opened, opening_of};
+ghost use Rattle.net_world.specs.World.{TakesOpened, calls_of, is_opened, opening_of, sent_of};
 
 use crate::traffics::Traffic;
 use dcp_ends::LogEntry;
@@ -45,6 +45,19 @@ impl SureNet {
         match &self.traffic {
             Some(traffic) => Some(traffic.calls()),
             None => None,
+        }
+    }
+
+    /// How many messages were sent since the network was opened, and none before that. It takes no memory,
+    /// and says what `told` says of the takes.
+    pub fn sent(&self) -> u64
+        ensures sent { result ≡ sent_of self.now.traffic }
+        ensures given { IfSome self.now.traffic (λ carried. GivesDue carried.opening [] carried.calls) }
+        ensures recent { IfSome self.now.traffic (λ carried. AllRecent [] carried.calls) }
+    {
+        match &self.traffic {
+            Some(traffic) => traffic.sent(),
+            None => 0,
         }
     }
 }
