@@ -99,7 +99,7 @@ shown_near p done events a b c d = by (cases_lt events (2 * p + 1))
     by (inl lt) = inl (omega (arith, lt, a, c))
     by (inr ge) = inr (omega (arith, ge, b, d))
 
-module _ (w : Parties) (x : Slaves) (m : Machines) (c : Collector) (ok : AreSlaves w x) (are : AreMachines w x m) (col : Collects w x m c) (rows : List (List ℤ)) (fault : Option RefFault) (ref : IsReference m.sc rows fault) where
+module _ (w : Parties) (x : Slaves) (m : Machines) (c : Collector) (ok : AreSlaves w x) (are : AreMachines w x m) (rows : List (List ℤ)) (fault : Option RefFault) (ref : IsReference m.sc rows fault) (whole : List LogEntry) (col : Collects w x m c whole) where
   events_near : (log : List LogEntry) → Behaves w x log → (s : ℕ) → IsSlaveOf w s → ((view (decided_exchanges w s log)).done ≤ (x.bench s log).events) × ((x.bench s log).events ≤ (view (decided_exchanges w s log)).done + 1)
   events_near log b s is = by (ahead w x ok log b s is)
     where
@@ -178,9 +178,9 @@ module _ (w : Parties) (x : Slaves) (m : Machines) (c : Collector) (ok : AreSlav
   one_slave : (log : List LogEntry) → 0 < w.count → IsSlaveOf w 1
   one_slave log pos = (omega arith, omega (arith, pos))
 
-  pub front : 0 < w.count → (log : List LogEntry) → Behaves w x log → RowsAreFront c rows log
-  front pos [] b = (rows, ap (λ l. l ++ rows) (sym col.begins))
-  front pos (e ∷ log) b = by (front pos log (earlier w x ok e log b)) (col.goes e log b.master)
+  pub front : 0 < w.count → (later log : List LogEntry) → whole ≡ later ++ log → Behaves w x log → RowsAreFront c rows log
+  front pos later [] is b = (rows, ap (λ l. l ++ rows) (sym col.begins))
+  front pos later (e ∷ log) is b = by (front pos (later ++ e ∷ []) log (is ∙ sym (append_assoc later (e ∷ []) log)) (earlier w x ok e log b)) (col.goes later log e is)
     where
       by : RowsAreFront c rows log → (c.rows (e ∷ log) ≡ c.rows log) ⊎ NextRow w m c e log → RowsAreFront c rows (e ∷ log)
       by before (inl same) = (before.0, before.1 ∙ ap (λ l. l ++ before.0) (sym same))
@@ -190,14 +190,14 @@ module _ (w : Parties) (x : Slaves) (m : Machines) (c : Collector) (ok : AreSlav
           let f = next_front rows (c.rows log) before.0 before.1 lt in
           (f.0, f.1 ∙ ap (λ z. (c.rows log ++ z ∷ []) ++ f.0) (next_row e log b r lt) ∙ ap (λ l. l ++ f.0) (sym r.is))
 
-  pub whole : 0 < w.count → (log : List LogEntry) → Behaves w x log → FinishedIsWhole c rows fault log
-  whole pos log b fin = by fault ref.ends
+  pub all_rows : 0 < w.count → (later log : List LogEntry) → whole ≡ later ++ log → Behaves w x log → FinishedIsWhole c rows fault log
+  all_rows pos later log is b fin = by fault ref.ends
     where
       f : RowsAreFront c rows log
-      f = front pos log b
+      f = front pos later log is b
 
       many : length (c.rows log) ≡ m.sc.runs * (m.sc.steps + 1)
-      many = col.all log b.master fin ∙ sym (ap (λ j. m.sc.runs * (j + 1)) are.steps ∙ ap (λ j. j * (x.steps + 1)) are.runs)
+      many = col.all later log is fin ∙ sym (ap (λ j. m.sc.runs * (j + 1)) are.steps ∙ ap (λ j. j * (x.steps + 1)) are.runs)
 
       sum : length rows ≡ length (c.rows log) + length f.0
       sum = ap length f.1 ∙ length-append (c.rows log) f.0
@@ -210,8 +210,8 @@ module _ (w : Parties) (x : Slaves) (m : Machines) (c : Collector) (ok : AreSlav
       by None h = (sym (f.1 ∙ ap (λ l. c.rows log ++ l) (nothing f.0 (omega (arith, sum, many, h))) ∙ append-nil (c.rows log)), refl)
       by (Some g) h = let lt = within_all m.sc g.run g.step h.moment in absurd (omega (arith, lt, h.behind, many, sum))
 
-pub collected : (w : Parties) (x : Slaves) (m : Machines) (c : Collector) → AreSlaves w x → AreMachines w x m → Collects w x m c → (rows : List (List ℤ)) (fault : Option RefFault) → IsReference m.sc rows fault → (later log : List LogEntry) → Behaves w x (later ++ log) → RowsAreFront c rows log
-collected w x m c ok are col rows fault ref later log b = front w x m c ok are col rows fault ref are.some log (drop_later w x ok later log b)
+pub collected : (w : Parties) (x : Slaves) (m : Machines) (c : Collector) → AreSlaves w x → AreMachines w x m → (rows : List (List ℤ)) (fault : Option RefFault) → IsReference m.sc rows fault → (later log : List LogEntry) → Behaves w x (later ++ log) → Collects w x m c (later ++ log) → RowsAreFront c rows log
+collected w x m c ok are rows fault ref later log b col = front w x m c ok are rows fault ref (later ++ log) col are.some later log refl (drop_later w x ok later log b)
 
-pub finished : (w : Parties) (x : Slaves) (m : Machines) (c : Collector) → AreSlaves w x → AreMachines w x m → Collects w x m c → (rows : List (List ℤ)) (fault : Option RefFault) → IsReference m.sc rows fault → (later log : List LogEntry) → Behaves w x (later ++ log) → FinishedIsWhole c rows fault log
-finished w x m c ok are col rows fault ref later log b = whole w x m c ok are col rows fault ref are.some log (drop_later w x ok later log b)
+pub finished : (w : Parties) (x : Slaves) (m : Machines) (c : Collector) → AreSlaves w x → AreMachines w x m → (rows : List (List ℤ)) (fault : Option RefFault) → IsReference m.sc rows fault → (later log : List LogEntry) → Behaves w x (later ++ log) → Collects w x m c (later ++ log) → FinishedIsWhole c rows fault log
+finished w x m c ok are rows fault ref later log b col = all_rows w x m c ok are rows fault ref (later ++ log) col are.some later log refl (drop_later w x ok later log b)

@@ -9,7 +9,6 @@ use Rattle.log_spec.specs.Log.{Parties, IsSlaveOf, role_heard}
 use Rattle.log_spec.specs.Moves.{decided_exchanges}
 use Rattle.lockstep_laws.specs.Steps.{view}
 use Rattle.lockstep_laws.specs.Cast.{Slaves}
-use Rattle.lockstep_laws.specs.Master.{MasterConverses}
 use Rattle.model_laws.specs.Machines.{Machines, carried}
 
 pub record Collector : Type 0 where
@@ -41,11 +40,12 @@ pub record NextRow (w : Parties) (m : Machines) (c : Collector) (e : LogEntry) (
   pub watched : (s : ℕ) → IsSlaveOf w s → Watched w c (length (c.rows log)) s (e ∷ log) (notes s)
   pub is : c.rows (e ∷ log) ≡ c.rows log ++ row_by (λ s. c.back s (carried (notes s))) 1 m.sc.slaves ∷ []
 
-pub record Collects (w : Parties) (x : Slaves) (m : Machines) (c : Collector) : Type 0 where
+-- how the rows are collected at each moment of this log
+pub record Collects (w : Parties) (x : Slaves) (m : Machines) (c : Collector) (whole : List LogEntry) : Type 0 where
   pub begins : c.rows [] ≡ []
-  pub goes : (e : LogEntry) (log : List LogEntry) → MasterConverses w x (e ∷ log) → (c.rows (e ∷ log) ≡ c.rows log) ⊎ NextRow w m c e log
+  pub goes : (later log : List LogEntry) (e : LogEntry) → whole ≡ later ++ e ∷ log → (c.rows (e ∷ log) ≡ c.rows log) ⊎ NextRow w m c e log
   -- the run is finished with a row for the first outputs of each run and for each of its steps
-  pub all : (log : List LogEntry) → MasterConverses w x log → c.finished log ≡ true → length (c.rows log) ≡ x.runs * (x.steps + 1)
+  pub all : (later log : List LogEntry) → whole ≡ later ++ log → c.finished log ≡ true → length (c.rows log) ≡ x.runs * (x.steps + 1)
   pub each : (s : ℕ) → IsSlaveOf w s → m.q (c.watch s) ≡ 1
   pub own : (s : ℕ) → IsSlaveOf w s → m.from (c.watch s) ≡ s
   -- what is sent is read back

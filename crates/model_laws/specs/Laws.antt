@@ -64,5 +64,6 @@ FinishedIsWhole c rows fault log = c.finished log ≡ true → (c.rows log ≡ r
 abbrev pub RowsAreFrontOf : Collector → List (List ℤ) → Option RefFault → List LogEntry → Type 0
 RowsAreFrontOf c rows fault log = RowsAreFront c rows log
 
+-- at every moment of every log in which all behave and the rows are collected so
 abbrev pub AlwaysCollected : (Collector → List (List ℤ) → Option RefFault → List LogEntry → Type 0) → Type 0
-AlwaysCollected HoldsData = (w : Parties) (x : Slaves) (m : Machines) (c : Collector) → AreSlaves w x → AreMachines w x m → Collects w x m c → (rows : List (List ℤ)) (fault : Option RefFault) → IsReference m.sc rows fault → (later log : List LogEntry) → Behaves w x (later ++ log) → HoldsData c rows fault log
+AlwaysCollected HoldsData = (w : Parties) (x : Slaves) (m : Machines) (c : Collector) → AreSlaves w x → AreMachines w x m → (rows : List (List ℤ)) (fault : Option RefFault) → IsReference m.sc rows fault → (later log : List LogEntry) → Behaves w x (later ++ log) → Collects w x m c (later ++ log) → HoldsData c rows fault log

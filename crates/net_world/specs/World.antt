@@ -8,6 +8,7 @@ use Rattle.net_world.specs.declared.memory_nets.NetCall.{NetCall}
 use Rattle.net_world.specs.declared.memory_nets.NetCall.TheVariants.{Begin, Send, Take}
 use Rattle.net_world.specs.Calls.{Carried, TakesDue}
 use Rattle.net_world.specs.Deliveries.{due}
+use Rattle.net_world.specs.Messages.{messages}
 
 abbrev pub same_call : NetCall → NetCall → Bool
 same_call Begin Begin = true
@@ -32,6 +33,11 @@ calls_of (Some carried) = Some carried.calls
 abbrev pub opening_of : Option Carried → Option Opening
 opening_of None = None
 opening_of (Some carried) = Some carried.opening
+
+-- how many messages were sent since then
+abbrev pub sent_of : Option Carried → ℕ
+sent_of None = 0
+sent_of (Some carried) = messages carried.calls
 
 abbrev pub is_opened : Option Carried → Bool
 is_opened None = false

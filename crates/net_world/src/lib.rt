@@ -11,8 +11,10 @@ mod laws;
 mod mailboxes;
 mod memory_nets;
 mod queues;
+mod sure_nets;
 mod traffics;
 mod watches;
 
 pub use laws::deliveries_are_recent;
 pub use memory_nets::{MemoryNet, NetCall};
+pub use sure_nets::SureNet;

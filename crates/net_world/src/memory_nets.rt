@@ -6,7 +6,7 @@ ghost use Rattle.dcp_net.specs.Nets.{HasCause, IsWithinRoom, sent_entries, told_
 ghost use Rattle.net_world.specs.Calls.{AllRecent, GivesDue};
 ghost use Rattle.net_world.specs.World.{TakesOpened, calls_of, fails_now, is_opened, is_chosen, opening_of};
 
-use crate::traffics::Traffic;
+use crate::sure_nets::SureNet;
 use dcp_ends::LogEntry;
 use dcp_net::{Done, Net, Opening, Taken};
 use dcp_types::Address;
@@ -21,15 +21,10 @@ pub enum NetCall {
     Take,
 }
 
-/// A network in memory, which treats messages as the plan says that it is opened with. It tells what it
-/// was opened with and all its successful calls.
-///
-/// A message comes at once, or when more messages have been sent, or twice, or not at all. `take` gives
-/// what is due at its address, and nothing exactly where nothing is.
+/// A network in memory as `SureNet` is one, of which one call may be made to fail.
 #[derive(Drop)]
 pub struct MemoryNet {
-    alloc: Global,
-    traffic: Option<Traffic>,
+    net: SureNet,
     fails: Option<NetCall>,
     before_it: u64,
     faults: u64,
@@ -38,13 +33,12 @@ pub struct MemoryNet {
 impl MemoryNet {
     /// A network that is not open, and of which no call fails.
     pub fn new(alloc: Global) -> MemoryNet
-        ensures closed { result.traffic ≡ None }
+        ensures closed { result.net.traffic ≡ None }
         ensures faults { result.faults ≡ 0 }
         ensures never { result.fails ≡ None }
     {
         MemoryNet {
-            alloc,
-            traffic: None,
+            net: SureNet::new(alloc),
             fails: None,
             before_it: 0,
             faults: 0,
@@ -54,14 +48,13 @@ impl MemoryNet {
     /// A network that is not open, and of which the call of this kind with this number, from 1, fails.
     pub fn failing(alloc: Global, call: NetCall, nth: u64) -> MemoryNet
         requires { 1 ≤ nth }
-        ensures closed { result.traffic ≡ None }
+        ensures closed { result.net.traffic ≡ None }
         ensures faults { result.faults ≡ 0 }
         ensures fails { result.fails ≡ Some call }
         ensures nth { result.before_it + 1 ≡ nth }
     {
         MemoryNet {
-            alloc,
-            traffic: None,
+            net: SureNet::new(alloc),
             fails: Some(call),
             before_it: nth - 1,
             faults: 0,
@@ -71,15 +64,12 @@ impl MemoryNet {
     /// The successful calls since the network was opened, and none before that. Each take among them gave
     /// what was due, and nothing only where nothing was.
     pub fn told(&self) -> Option<&[LogEntry]>
-        ensures calls { IfSome result (λ calls. calls_of self.now.traffic ≡ Some calls.now) }
-        ensures open { IsTrue (is_some result) ↔ IsTrue (is_opened self.now.traffic) }
-        ensures given { IfSome self.now.traffic (λ carried. GivesDue carried.opening [] carried.calls) }
-        ensures recent { IfSome self.now.traffic (λ carried. AllRecent [] carried.calls) }
+        ensures calls { IfSome result (λ calls. calls_of self.now.net.traffic ≡ Some calls.now) }
+        ensures open { IsTrue (is_some result) ↔ IsTrue (is_opened self.now.net.traffic) }
+        ensures given { IfSome self.now.net.traffic (λ carried. GivesDue carried.opening [] carried.calls) }
+        ensures recent { IfSome self.now.net.traffic (λ carried. AllRecent [] carried.calls) }
     {
-        match &self.traffic {
-            Some(traffic) => Some(traffic.calls()),
-            None => None,
-        }
+        self.net.told()
     }
 
     /// Whether this call is the one that fails.
@@ -90,7 +80,7 @@ impl MemoryNet {
         ensures later { self.old.faults ≤ self.new.faults }
         ensures rose { result ≡ true → Rose self.old.faults self.new.faults }
         ensures same { result ≡ false → self.new.faults ≡ self.old.faults }
-        ensures traffic { self.new.traffic ≡ self.old.traffic }
+        ensures traffic { self.new.net.traffic ≡ self.old.net.traffic }
     {
         if !is_chosen(call, self.fails) {
             return false;
@@ -118,73 +108,58 @@ fn is_chosen(call: NetCall, chosen: Option<NetCall>) -> bool
 }
 
 impl Net for MemoryNet {
-    ghost calls = { λ s. calls_of s.traffic };
+    ghost calls = { λ s. calls_of s.net.traffic };
 
-    ghost opening = { λ s. opening_of s.traffic };
+    ghost opening = { λ s. opening_of s.net.traffic };
 
     ghost count = { λ s. s.faults };
 
-    ghost is_open = { λ s. is_opened s.traffic };
+    ghost is_open = { λ s. is_opened s.net.traffic };
 
     fn begin(&mut self, plan: &Opening) -> Done
-        ensures opened { result ≡ Done.Ok → IsTrue (is_opened self.new.traffic) }
-        ensures empty { result ≡ Done.Ok → MatchOption (calls_of self.new.traffic) ⊤ (λ l. l ≡ []) }
-        ensures plan { result ≡ Done.Ok → MatchOption (opening_of self.new.traffic) ⊤ (λ o. o ≡ plan.now) }
+        ensures opened { result ≡ Done.Ok → IsTrue (is_opened self.new.net.traffic) }
+        ensures empty { result ≡ Done.Ok → MatchOption (calls_of self.new.net.traffic) ⊤ (λ l. l ≡ []) }
+        ensures plan { result ≡ Done.Ok → MatchOption (opening_of self.new.net.traffic) ⊤ (λ o. o ≡ plan.now) }
         ensures cause { HasCause self.old.faults self.new.faults (result ≡ Done.Failed) }
         ensures fails { (result ≡ Done.Failed) ↔ IsTrue (fails_now NetCall.Begin self.old.fails self.old.before_it) }
     {
         if self.strikes(NetCall::Begin) {
             return Done::Failed;
         }
-        match Traffic::new(self.alloc, plan) {
-            Ok(traffic) => {
-                self.traffic = Some(traffic);
-                Done::Ok
-            }
-            Err(_) => Done::OutOfMemory,
-        }
+        self.net.begin(plan)
     }
 
     fn send(&mut self, from: Address, to: Address, bytes: &[u8]) -> Done
-        requires is_open { IsTrue (is_opened self.old.traffic) }
+        requires is_open { IsTrue (is_opened self.old.net.traffic) }
         requires low { 1 ≤ length bytes.now }
         requires high { length bytes.now ≤ 1024 }
-        ensures is_open { IsTrue (is_opened self.new.traffic) }
-        ensures calls { calls_of self.new.traffic ≡ told_more (calls_of self.old.traffic) (sent_entries result from to bytes.now) }
-        ensures opening { opening_of self.new.traffic ≡ opening_of self.old.traffic }
+        ensures is_open { IsTrue (is_opened self.new.net.traffic) }
+        ensures calls { calls_of self.new.net.traffic ≡ told_more (calls_of self.old.net.traffic) (sent_entries result from to bytes.now) }
+        ensures opening { opening_of self.new.net.traffic ≡ opening_of self.old.net.traffic }
         ensures cause { HasCause self.old.faults self.new.faults (result ≡ Done.Failed) }
         ensures fails { (result ≡ Done.Failed) ↔ IsTrue (fails_now NetCall.Send self.old.fails self.old.before_it) }
     {
         if self.strikes(NetCall::Send) {
             return Done::Failed;
         }
-        let Some(traffic) = &mut self.traffic else {
-            unreachable!();
-        };
-        match traffic.send(self.alloc, from, to, bytes) {
-            Ok(()) => Done::Ok,
-            Err(_) => Done::OutOfMemory,
-        }
+        self.net.send(from, to, bytes)
     }
 
     /// Gives what is due by the plan and the list of calls, and nothing exactly where nothing is.
     fn take(&mut self, at: Address, room: &mut [u8; 1025]) -> Taken
-        requires { IsTrue (is_opened self.old.traffic) }
-        ensures is_open { IsTrue (is_opened self.new.traffic) }
+        requires { IsTrue (is_opened self.old.net.traffic) }
+        ensures is_open { IsTrue (is_opened self.new.net.traffic) }
         ensures len { IsWithinRoom result }
-        ensures calls { calls_of self.new.traffic ≡ told_more (calls_of self.old.traffic) (took_entries at result room.new) }
-        ensures opening { opening_of self.new.traffic ≡ opening_of self.old.traffic }
+        ensures calls { calls_of self.new.net.traffic ≡ told_more (calls_of self.old.net.traffic) (took_entries at result room.new) }
+        ensures opening { opening_of self.new.net.traffic ≡ opening_of self.old.net.traffic }
         ensures cause { HasCause self.old.faults self.new.faults (result ≡ Taken.Failed) }
-        ensures due { TakesOpened self.old.traffic at result room.new }
+        ensures due { TakesOpened self.old.net.traffic at result room.new }
         ensures fails { (result ≡ Taken.Failed) ↔ IsTrue (fails_now NetCall.Take self.old.fails self.old.before_it) }
     {
         if self.strikes(NetCall::Take) {
             return Taken::Failed;
         }
-        let Some(traffic) = &mut self.traffic else {
-            unreachable!();
-        };
-        traffic.take(at, room)
+        self.net.take(at, room)
     }
 
     fn faults(&self) -> u64 {

@@ -9,6 +9,7 @@ ghost use Rattle.net_world.specs.Calls.{GivesDue, TakesDue};
 ghost use Rattle.net_world.specs.Chances.{lags_by_chance};
 ghost use Rattle.net_world.specs.Deliveries.{delivery, due, lags_by};
 ghost use Rattle.net_world.specs.Lags.{lags_in};
+ghost use Rattle.net_world.specs.Messages.{messages};
 ghost use Rattle.net_world.specs.Watches.{line_watched, watch_names};
 
 use crate::chances::{Lags, after_message, by_chance, by_line};
@@ -167,6 +168,14 @@ impl Traffic {
         put_front(room, bytes.as_slice());
         self.calls.push_reserved(LogEntry::Got { at, from, bytes });
         Taken::Gram { from, len }
+    }
+
+    /// How many messages were sent. Each take since the network was opened gave what was due.
+    pub fn sent(&self) -> u64
+        ensures sent { result ≡ messages self.now.calls }
+        ensures given { GivesDue self.now.opening [] self.now.calls }
+    {
+        self.sent
     }
 
     /// The successful calls since the network was opened. Each take among them gave what was due.

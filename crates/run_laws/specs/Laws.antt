@@ -1,5 +1,5 @@
 -- Runs of a scenario, by the log of all its ends, which has its oldest entry first.
-use Rattle.std.specs.Prelude.{◌≡◌, ℕ, true, Some, List, [], ◌∷◌, ◌++◌, map, reverse}
+use Rattle.std.specs.Prelude.{◌≡◌, ℕ, Some, List, [], ◌∷◌, ◌++◌, map, reverse}
 use Rattle.dcp_types.specs.declared.addresses.Address.{Address}
 use Rattle.dcp_ends.specs.declared.entries.LogEntry.{LogEntry}
 use Rattle.dcp_ends.specs.declared.entries.LogEntry.TheVariants.{Sent, Got, Idle, Turn}
@@ -10,14 +10,12 @@ use Rattle.scenario.specs.declared.scenarios.Scenario.{Scenario}
 use Rattle.scenario.specs.Sound.{IsScenario}
 use Rattle.log_spec.specs.Log.{Parties, IsSlaveOf, AreAtEnds}
 use Rattle.log_spec.specs.Oldest.{Honest}
-use Rattle.lockstep_laws.specs.Cast.{Slaves}
 use Rattle.dcp_ends.specs.Events.{Rules}
 use Rattle.rounds.specs.Rounds.{Rounds}
 use Rattle.rounds.specs.Told.{Follows}
 use Rattle.master_spec.specs.Rules.{master_rules, MasterRun}
 use Rattle.slave_spec.specs.declared.words.Setup.{Setup}
 use Rattle.slave_spec.specs.Slaves.{rules_from}
-use Rattle.slave_meets.specs.Laws.{slaves_made}
 use Rattle.model_laws.specs.Scenarios.{slave_numbered, parties_of}
 
 -- the parties of a scenario, in whose run datagrams are read as the messages that they spell; other stands for slaves that are not there
@@ -27,10 +25,6 @@ parties sc other = parties_of sc other message_in
 -- what slave s is given before the run
 abbrev pub setup_of : Scenario → (other : SlaveDesc) → ℕ → Setup
 setup_of sc other s = record { desc = slave_numbered sc other s; micro = sc.micro }
-
--- its slaves, of the definition, as the laws over a run see them
-abbrev pub slaves : Scenario → (other : SlaveDesc) → Slaves
-slaves sc other = slaves_made (parties sc other) (setup_of sc other) sc.steps sc.runs (λ s es n. true) (λ s run es. true)
 
 abbrev pub BeginsWithEvent : List LogEntry → Type 0
 BeginsWithEvent [] = Unit {0}
@@ -50,10 +44,6 @@ pub record IsRunOf (sc : Scenario) (other : SlaveDesc) (log : List LogEntry) : T
   pub master : MasterRun sc log
   pub slaves : (s : ℕ) → IsSlaveOf (parties sc other) s → Follows (rules_from (setup_of sc other s)) log
   pub rests : (s : ℕ) → IsSlaveOf (parties sc other) s → RestsWhenDone (slave_numbered sc other s).address log
-
--- at every moment of every run; what was so far has its newest entry first
-abbrev pub AtEveryMoment : (Parties → Slaves → List LogEntry → Type 0) → Type 0
-AtEveryMoment Holds = (sc : Scenario) (other : SlaveDesc) → IsScenario sc → (log : List LogEntry) → IsRunOf sc other log → (later sofar : List LogEntry) → reverse log ≡ later ++ sofar → Holds (parties sc other) (slaves sc other) sofar
 
 -- what the slaves of a scenario are made to do, in order
 abbrev pub slave_rules : Scenario → List Rules

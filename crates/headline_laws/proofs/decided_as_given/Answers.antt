@@ -1,5 +1,5 @@
-use Rattle.run_laws.proofs.Runs.{deciding_always, served_always}
-use Rattle.run_laws.proofs.decided_as_given.Goals as goal
+use Rattle.headline_laws.proofs.Moments.{deciding_always, served_always}
+use Rattle.headline_laws.proofs.decided_as_given.Goals as goal
 
 pub returns-clause-deciding : goal.returns-clause-deciding
 returns-clause-deciding c = deciding_always

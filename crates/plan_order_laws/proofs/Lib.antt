@@ -1,0 +1,12 @@
+pub mod Hearing
+pub mod Taken
+pub mod Standing
+pub mod Planned
+pub mod Requests
+pub mod Effects
+pub mod Phases
+pub mod Begun
+pub mod Lists
+pub mod Asking
+pub mod First
+pub mod Following
