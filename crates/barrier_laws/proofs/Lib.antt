@@ -1,0 +1,4 @@
+pub mod Scripts
+pub mod Counting
+pub mod Standing
+pub mod Waiting
