@@ -1,0 +1,12 @@
+//! The rows of a scenario's master are collected as the laws over a run want it, on every network.
+//!
+//! There is no code.
+#![tactic(auto)]
+
+ghost use Rattle.row_collecting.specs.Collecting.{MasterCollects};
+
+/// Each row that the master counts has, of each slave, the watch message that came while all slaves
+/// showed that row, and a finished run has counted all rows.
+pub fn masters_collect_rows()
+    ensures { MasterCollects }
+{}
