@@ -1,0 +1,3 @@
+pub mod Watches
+pub mod Heard
+pub mod Collected
