@@ -28,7 +28,7 @@ use Rattle.model_laws.specs.Collecting.{Collector, Watched, row_by, NextRow, Col
 use Rattle.model_laws.specs.Laws.{RowsAreFront, FinishedIsWhole}
 use Rattle.model_laws.proofs.Values.{sends_values}
 use Rattle.model_laws.proofs.Kept.{wanted_is}
-use Rattle.model_laws.proofs.Exists.{place_is, step_below}
+use Rattle.model_laws.proofs.Exists.{place_is, step_below, at_most}
 use Rattle.model_laws.proofs.Lockstep.{lock}
 
 -- ---- an interval of one
@@ -73,10 +73,6 @@ row_made sc rows r k part s (d ∷ ds) h =
 
 same_ok : (a b : List ℤ) (o : Result (List ℤ) RefFault) → o ≡ Ok a → o ≡ Ok b → a ≡ b
 same_ok a b o p q = cc
-
-at_most : (sc : Scenario) (rows : List (List ℤ)) (fault : Option RefFault) → Ends sc rows fault → length rows ≤ sc.runs * (sc.steps + 1)
-at_most sc rows None h = omega (arith, h)
-at_most sc rows (Some f) h = let lt = within_all sc f.run f.step h.moment in omega (arith, lt, h.behind)
 
 run_within : (runs steps p : ℕ) → p < runs * (steps + 1) → p / (steps + 1) + 1 ≤ runs
 run_within runs steps p lt = by (cases_lt (p / (steps + 1)) runs)

@@ -65,3 +65,8 @@ place_is steps p = let w = div-add-mod' p (steps + 1) in let s : p / (steps + 1)
 
 pub step_below : (steps p : ℕ) → p % (steps + 1) ≤ steps
 step_below steps p = let m = mod_below p (steps + 1) (omega arith) in omega (arith, m)
+
+-- the reference has no more rows than its runs have
+pub at_most : (sc : Scenario) (rows : List (List ℤ)) (fault : Option RefFault) → Ends sc rows fault → length rows ≤ sc.runs * (sc.steps + 1)
+at_most sc rows None h = omega (arith, h)
+at_most sc rows (Some f) h = let lt = within_all sc f.run f.step h.moment in omega (arith, lt, h.behind)

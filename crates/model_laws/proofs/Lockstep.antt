@@ -28,7 +28,7 @@ use Rattle.model_laws.specs.Machines.{Store, Machines, values_owed, step_at, car
 use Rattle.model_laws.proofs.EachQth.{row_is}
 use Rattle.model_laws.proofs.Values.{OwesValue, owes_value, Sends, first_value, in_order, values_by_move, sends_values, below_due}
 use Rattle.model_laws.proofs.Kept.{kept_as_sent}
-use Rattle.model_laws.proofs.Exists.{run_of_place}
+use Rattle.model_laws.proofs.Exists.{run_of_place, at_most}
 use Rattle.model_laws.proofs.Shown.{Rows, StandsAt, row_is_there, under_same, under_way_of, half_more, half_odd}
 
 -- ---- how the steps of a slave change
@@ -111,7 +111,7 @@ module _ (w : Parties) (x : Slaves) (ok : AreSlaves w x) (m : Machines) (are : A
         let r = (x.bench s log).resets + 1 in
         let n = (x.bench s log).steps in
         let here = stands_busy log before l s is Step st.under_way in
-        let on = (are.holds s is).steps e log order st rows ref.each (λ id f k q. l.sent id (are.feeds s id f) k.ordinal k.note (kept_as_sent w x ok m are log before s is id (are.feeds s id f) k q)) in
+        let on = (are.holds s is).steps e log order st rows ref.each (at_most m.sc rows fault ref.ends) (λ id f k q. l.sent id (are.feeds s id f) k.ordinal k.note (kept_as_sent w x ok m are log before s is id (are.feeds s id f) k q)) in
         let next : state m.sc rows s (m.desc s) r (suc n) ≡ Ok (m.store s (e ∷ log)).model = ap (state_after m.sc rows s (m.desc s) r n) here ∙ on in
         let one : suc n ≡ (x.bench s (e ∷ log)).steps = omega (arith, st.steps) in
         let P : ℕ → ℕ → Type 0 = λ a i. state m.sc rows s (m.desc s) (a + 1) i ≡ Ok (m.store s (e ∷ log)).model in

@@ -1,5 +1,5 @@
 -- What slaves do with data and with their models, when they are asked in order.
-use Rattle.std.specs.Prelude.{◌≡◌, ℕ, ◌+◌, ◌-◌, ◌*◌, ◌/◌, ◌%◌, ◌<◌, Bool, true, ◌⊎◌, Option, Some, None, Ok, List, [], ◌∷◌, map, length, slice_get, ℤ}
+use Rattle.std.specs.Prelude.{◌≡◌, ℕ, ◌+◌, ◌-◌, ◌*◌, ◌/◌, ◌%◌, ◌<◌, ◌≤◌, Bool, true, ◌⊎◌, Option, Some, None, Ok, List, [], ◌∷◌, map, length, slice_get, ℤ}
 use Rattle.std.specs.List.{filter_map}
 use Rattle.fixed_models.specs.Steps.{start, model_step}
 use Rattle.slave_desc.specs.declared.descriptions.SlaveDesc.{SlaveDesc}
@@ -123,7 +123,8 @@ pub record HoldsData (w : Parties) (x : Slaves) (m : Machines) (s : ℕ) : Type 
   -- a step takes what is kept under each id that feeds the slave, and else the model stays
   pub still : (e : LogEntry) (log : List LogEntry) → IsAskedInOrder w x s (e ∷ log) → 0 < (x.bench s (e ∷ log)).steps → (x.bench s (e ∷ log)).steps ≡ (x.bench s log).steps → (m.store s (e ∷ log)).model ≡ (m.store s log).model
   pub fed : (e : LogEntry) (log : List LogEntry) → IsAskedInOrder w x s (e ∷ log) → StepsOn (x.bench s log) (x.bench s (e ∷ log)) → Fed x m s (x.bench s log) (m.store s log)
-  pub steps : (e : LogEntry) (log : List LogEntry) → IsAskedInOrder w x s (e ∷ log) → StepsOn (x.bench s log) (x.bench s (e ∷ log)) → (rows : List (List ℤ)) → EachRow m.sc rows
+  -- the rows are those of the scenario's runs alone
+  pub steps : (e : LogEntry) (log : List LogEntry) → IsAskedInOrder w x s (e ∷ log) → StepsOn (x.bench s log) (x.bench s (e ∷ log)) → (rows : List (List ℤ)) → EachRow m.sc rows → length rows ≤ m.sc.runs * (m.sc.steps + 1)
       → ((id : ℕ) → m.feeds s id ≡ true → (k : KeptNote) → (m.store s log).kept id ≡ Some k → IsRight x m rows id k.ordinal k.note)
       → model_step (m.desc s).kind (parameters m.sc s (m.desc s) ((x.bench s log).resets + 1)) (map (λ p. p.kind) (m.desc s).outputs) (m.store s log).model (inputs m.sc rows s (m.desc s) ((x.bench s log).resets + 1) (x.bench s log).steps) m.sc.micro ≡ Ok (m.store s (e ∷ log)).model
 

@@ -98,14 +98,14 @@ module _ (sc : Scenario) (other : SlaveDesc) (ok : IsScenario sc) (s : ℕ) (is 
   abbrev Plant' : List LogEntry → Plant
   Plant' log = plant_at X (parties sc other) s log
 
-  during_step : (log : List LogEntry) → (Plant' log).state ≡ Computing → is_during (at (machine X) (parties sc other) s log).slave.session ≡ true
+  pub during_step : (log : List LogEntry) → (Plant' log).state ≡ Computing → is_during (at (machine X) (parties sc other) s log).slave.session ≡ true
   during_step log e =
       let w = parties sc other in
       let Q : Slave Plant → Type 0 = λ y. IsRegularIn X y.session y.inner in
       let reg = subst Q (sym (slave_is (machine X) w s log)) (regular_after X (events w s log)) in
       computing_during X (at (machine X) w s log).slave.session (Plant' log) reg (λ h. ended_alive X s w (reads sc other) log h) e
 
-  fed_here : (log : List LogEntry) → IsAskedInOrder (parties sc other) (slaves sc other) s log → (Plant' log).state ≡ Computing → Fed (slaves sc other) (machines sc other) s (bench_at X (parties sc other) s log) (store_of sc other (Plant' log))
+  pub fed_here : (log : List LogEntry) → IsAskedInOrder (parties sc other) (slaves sc other) s log → (Plant' log).state ≡ Computing → Fed (slaves sc other) (machines sc other) s (bench_at X (parties sc other) s log) (store_of sc other (Plant' log))
   fed_here log o e id f =
       let w = parties sc other in
       let p = Plant' log in

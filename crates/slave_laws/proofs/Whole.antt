@@ -75,10 +75,10 @@ holds sc other ok s is reads =
       first = λ log o z t. model.first log (order_of sc other s log o) z t;
       still = λ e log o a b. model.still e log (order_of sc other s (e ∷ log) o) a b;
       fed = λ e log o st. fed.fed e log (order_before sc other ok s is e log o) st;
-      steps = λ e log o st rows each right.
+      steps = λ e log o st rows each few right.
           let p = plant_at x w s log in
           let b = bench_at x w s log in
-          ap (λ us. model_step x.desc.kind (parameters sc s x.desc (b.resets + 1)) (map (λ q. q.kind) x.desc.outputs) p.model.state us sc.micro) (sym (reads log (order_before sc other ok s is e log o) (stepping p.state st.under_way) rows each right)) ∙ step_on_inputs sc other ok s is e log o st;
+          ap (λ us. model_step x.desc.kind (parameters sc s x.desc (b.resets + 1)) (map (λ q. q.kind) x.desc.outputs) p.model.state us sc.micro) (sym (reads log (order_before sc other ok s is e log o) (stepping p.state st.under_way) rows each few right)) ∙ step_on_inputs sc other ok s is e log o st;
     }
 
 course : (sc : Scenario) (other : SlaveDesc) (s : ℕ) → IsCourse (slaves_asked sc other) (machines sc other) s

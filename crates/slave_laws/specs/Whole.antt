@@ -1,5 +1,5 @@
 -- The slaves of a scenario as the laws of models want them.
-use Rattle.std.specs.Prelude.{◌≡◌, ℕ, ◌+◌, true, Some, Ok, List, ◌∷◌, map, ℤ}
+use Rattle.std.specs.Prelude.{◌≡◌, ℕ, ◌+◌, ◌*◌, ◌≤◌, true, Some, Ok, List, ◌∷◌, map, length, ℤ}
 use Rattle.dcp_types.specs.declared.states.State.TheVariants.{Computing}
 use Rattle.dcp_ends.specs.declared.entries.LogEntry.{LogEntry}
 use Rattle.fixed_models.specs.Steps.{model_step}
@@ -32,10 +32,10 @@ module _ (sc : Scenario) (other : SlaveDesc) where
   abbrev pub KeepsRight : (s : ℕ) → List (List ℤ) → List LogEntry → Type 0
   KeepsRight s rows log = (id : ℕ) → (machines sc other).feeds s id ≡ true → (k : KeptNote) → ((machines sc other).store s log).kept id ≡ Some k → IsRight slaves_asked (machines sc other) rows id k.ordinal k.note
 
-  -- while a step is computed on such payloads, its inputs are those of the reference
+  -- while a step is computed on such payloads, its inputs are those of the reference, which has no rows behind the scenario's runs
   abbrev pub ReadsRows : ℕ → Type 0
   ReadsRows s = (log : List LogEntry) → IsAskedInOrder (parties sc other) (slaves sc other) s log → (plant_at (setup_at sc other s) (parties sc other) s log).state ≡ Computing
-      → (rows : List (List ℤ)) → EachRow sc rows → KeepsRight s rows log
+      → (rows : List (List ℤ)) → EachRow sc rows → length rows ≤ sc.runs * (sc.steps + 1) → KeepsRight s rows log
       → let b = bench_at (setup_at sc other s) (parties sc other) s log in
       wired.inputs (slave_numbered sc other s) (plant_at (setup_at sc other s) (parties sc other) s log).wires ≡ reference.inputs sc rows s (slave_numbered sc other s) (b.resets + 1) b.steps
 

@@ -1,0 +1,5 @@
+pub mod Lists
+pub mod Ports
+pub mod Told
+pub mod Spots
+pub mod Inputs
