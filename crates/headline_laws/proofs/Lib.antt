@@ -1,2 +1,4 @@
 pub mod Behaving
 pub mod Moments
+pub mod Rows
+pub mod Headline
