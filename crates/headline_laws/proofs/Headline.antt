@@ -27,7 +27,7 @@ module _ (sc : Scenario) (other : SlaveDesc) (ok : IsScenario sc) (rows : List (
     whole = λ steps h. whole_always sc other ok rows fault ref log r later sofar e (ap is_finished h);
   }
 
-pub keeps : RunsKeepToReference
-keeps sc other ok log r =
+pub keep_to_reference : RunsKeepToReference
+keep_to_reference sc other ok log r =
     let all = reference_exists sc in
     record { rows = all.0; fault = all.1; reference = all.2; always = in_lockstep sc other ok all.0 all.1 all.2 log r }

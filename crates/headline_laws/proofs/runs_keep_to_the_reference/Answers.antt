@@ -1,5 +1,5 @@
-use Rattle.headline_laws.proofs.Headline.{keeps}
+use Rattle.headline_laws.proofs.Headline.{keep_to_reference}
 use Rattle.headline_laws.proofs.runs_keep_to_the_reference.Goals as goal
 
 pub returns : goal.returns
-returns c = keeps
+returns c = keep_to_reference
