@@ -1,5 +1,5 @@
 -- Each run keeps to the reference of its scenario.
-use Rattle.std.proofs.Common.{◌≡◌, ℤ, Option, List, ◌++◌, reverse, ap, ◌∙◌}
+use Rattle.std.proofs.Common.{◌≡◌, ℤ, Option, List, ◌++◌, reverse, ap}
 use Rattle.dcp_ends.specs.declared.entries.LogEntry.{LogEntry}
 use Rattle.slave_desc.specs.declared.descriptions.SlaveDesc.{SlaveDesc}
 use Rattle.scenario.specs.declared.scenarios.Scenario.{Scenario}
