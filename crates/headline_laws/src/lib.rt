@@ -10,6 +10,7 @@ ghost use Rattle.lockstep_laws.specs.Laws.{AskedInOrder, DecidedAsServed, Decide
 ghost use Rattle.model_laws.specs.Laws.{DataCarryRows, FinishedIsWhole, ModelsStand, RowsAreFrontOf, StepsOnRows};
 ghost use Rattle.headline_laws.specs.Laws.{AllBehave, AtEveryMoment, AtEveryMomentCounted, AtEveryMomentInRows};
 ghost use Rattle.headline_laws.specs.Headline.{RunsKeepToReference};
+ghost use Rattle.headline_laws.specs.Others.{OthersMakeNoDifference};
 
 /// The network, the master and the slaves of a run are those that the laws over a run speak of.
 pub fn all_behave()
@@ -61,4 +62,9 @@ pub fn rows_are_those_of_the_reference()
 /// Each run keeps to the reference of its scenario, from its first moment to its last.
 pub fn runs_keep_to_the_reference()
     ensures { RunsKeepToReference }
+{}
+
+/// Which description stands for slaves that are not there makes no difference to what a run is.
+pub fn others_make_no_difference()
+    ensures { OthersMakeNoDifference }
 {}
