@@ -95,7 +95,7 @@ is_run host has other honest =
 
 -- ---- what is printed
 
-module _ (host : HostView) (report : Report) (reported : report_after host ≡ Some report) (sound : IsScenario host.scenario) where
+module _ (host : HostView) (report : Report) (reported : report_after host ≡ Some report) where
   -- the rows of the master after the log are those that are printed
   rows_are : (course_at (setup_from host.scenario) (reverse host.log)).rows ≡ (course (setup_from host.scenario) (master_events host)).rows
   rows_are = ap (λ (z : List Event). (course (setup_from host.scenario) z).rows) (events_reverse (setup_from host.scenario) host.log)
@@ -114,13 +114,13 @@ module _ (host : HostView) (report : Report) (reported : report_after host ≡ S
     front = now.front.1;
     text_is = text_is;
     whole = λ steps finished. (
-      let ends = now.whole steps (report_is ∙ ap (λ (r : Report). Some r) finished) in
-      let Text : Option RefFault → Type 0 = λ f. run_text host report ≡ reference_text host.scenario.steps rows f in
-      let same : report ≡ Finished host.scenario.steps = finished ∙ ap Finished (all_steps steps finished) in
-      let text : run_text host report ≡ reference_text host.scenario.steps rows None =
-          text_is ∙ ap (λ (printed : List (List ℤ)). report_text printed report) ends.0 ∙ ap (λ (r : Report). report_text rows r) same in
-      (ends.0, ends.1, subst Text (sym ends.1) text)
-      );
+        let ends = now.whole steps (report_is ∙ ap (λ (r : Report). Some r) finished) in
+        let Text : Option RefFault → Type 0 = λ f. run_text host report ≡ reference_text host.scenario.steps rows f in
+        let same : report ≡ Finished host.scenario.steps = finished ∙ ap Finished (all_steps steps finished) in
+        let text : run_text host report ≡ reference_text host.scenario.steps rows None =
+        text_is ∙ ap (λ (printed : List (List ℤ)). report_text printed report) ends.0 ∙ ap (λ (r : Report). report_text rows r) same in
+        (ends.0, ends.1, subst Text (sym ends.1) text)
+        );
   }
 
 pub in_step : (host : HostView) → HasRounds host → (report : Report) → report_after host ≡ Some report → IsInStepIfHonest host.scenario host.log report (run_text host report)
@@ -128,8 +128,8 @@ in_step host has report reported other honest =
     let run = is_run host has other honest in
     let keeps = keep_to_reference host.scenario other has.sound host.log (rounds_are_runs host.scenario other has.sound host.log run) in
     let steps_are : (steps : ℕ) → report ≡ Finished steps → steps ≡ host.scenario.steps =
-        λ steps finished. (finished_acknowledged host.scenario has.sound host.log run.master steps (reported ∙ ap (λ (r : Report). Some r) finished)).steps_are in
-    record { keeps = keeps; prints = prints host report reported has.sound other keeps.rows keeps.fault (keeps.always [] (reverse host.log) refl) steps_are }
+    λ steps finished. (finished_acknowledged host.scenario has.sound host.log run.master steps (reported ∙ ap (λ (r : Report). Some r) finished)).steps_are in
+    record { keeps = keeps; prints = prints host report reported other keeps.rows keeps.fault (keeps.always [] (reverse host.log) refl) steps_are }
 
 -- whole runs are whole rounds
 pub whole_rounds : (host : HostView) (whole : IsWhole host) → Rounds (master_in host) (slaves_in host) (suc whole.count) host.log

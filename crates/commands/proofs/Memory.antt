@@ -71,7 +71,7 @@ module _ (words : List (List ℕ)) (source out trace : Change) (told : NetTold) 
   is_sure Differs outcome e = absurd cc
 
   module _ (memory : ToldInMemory told) (named : Names words Run) where
-    abbrev Ran : Status → Type 0
+    abbrev pub Ran : Status → Type 0
     Ran status = RunsInStep source.was source.is out.was out.is trace.was trace.is (status_code status)
 
     -- a run whose text and trace were written whole

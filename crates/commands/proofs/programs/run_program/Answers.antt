@@ -28,8 +28,7 @@ returns-clause-outcome g c =
     let Written : Change → Type 0 = λ written. Outcome c.args.words.now (change_of (remaining c.args.reader) (remaining c.into_inner.result) source.faults) written
     (change (texts c.new-trace.result.inner) (texts trace.inner) c.new-trace.result.faults trace.faults) net status in
     let Traced : Change → Type 0 = λ traced. Outcome c.args.words.now (change_of (remaining c.args.reader) (remaining c.into_inner.result) source.faults)
-    (change_of (contents c.args.writer) (contents c.into_inner-2.result) out.faults) traced net status in
-    (
+    (change_of (contents c.args.writer) (contents c.into_inner-2.result) out.faults) traced net status in (
       status,
       source.faults,
       out.faults,
