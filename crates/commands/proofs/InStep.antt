@@ -30,12 +30,11 @@ use Rattle.host.specs.Views.{HostView, master_in, slaves_in}
 use Rattle.scenario_runs.specs.Runs.{IsWhole, all_ends}
 use Rattle.run_laws.specs.Laws.{IsRunInRounds, parties, setup_of, slave_rules}
 use Rattle.run_laws.proofs.Rounded.{rounds_are_runs}
-use Rattle.headline_laws.specs.Headline.{IsInLockstep, KeepsToReference}
+use Rattle.headline_laws.specs.Headline.{IsInLockstep}
 use Rattle.headline_laws.proofs.Headline.{keep_to_reference}
-use Rattle.report_text.specs.Closings.{reference_line, reference_text, report_text}
-use Rattle.report_text.specs.Rows.{rows_text}
+use Rattle.report_text.specs.Closings.{reference_text, report_text}
 use Rattle.run_text.proofs.Outputs.{table_is_rows}
-use Rattle.commands.specs.InStep.{IsInStepIfHonest, KeepsInStep, PrintsReference}
+use Rattle.commands.specs.InStep.{IsInStepIfHonest, PrintsReference}
 use Rattle.commands.specs.SaysRun.{master_events, report_after, run_text}
 
 -- ---- all ends are hosted
