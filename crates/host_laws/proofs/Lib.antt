@@ -1,0 +1,7 @@
+pub mod Left
+pub mod Fronts
+pub mod Completed
+pub mod Hosted
+pub mod Rounds
+pub mod Readings
+pub mod Slaves

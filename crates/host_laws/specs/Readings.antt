@@ -1,0 +1,38 @@
+-- What is read of a host, beside the reference of its scenario.
+use Rattle.std.specs.Prelude.{◌≡◌, ◌⊎◌, ℕ, ℤ, ◌+◌, ◌<◌, ◌≤◌, List, length, Option, Some, IfSome, Ok}
+use Rattle.dcp_ends.specs.Logs.{events_at}
+use Rattle.log_spec.specs.Oldest.{Honest}
+use Rattle.slave_desc.specs.declared.descriptions.SlaveDesc.{SlaveDesc}
+use Rattle.scenario.specs.Lookups.{slave_at}
+use Rattle.lockstep.specs.declared.references.RefFault.{RefFault}
+use Rattle.lockstep.specs.Lockstep.{state, IsReference}
+use Rattle.slave_spec.specs.Plants.{Plant}
+use Rattle.slave_spec.specs.Slaves.{slave_after}
+use Rattle.run_laws.specs.Laws.{parties}
+use Rattle.host.specs.Hosting.{slave_setup}
+use Rattle.host.specs.Views.{HostView}
+
+-- Where the network was honest, this holds of the scenario's reference: its rows, and the fault that ends them.
+abbrev pub OfReference : HostView → (List (List ℤ) → Option RefFault → Type 0) → Type 0
+OfReference host Holds = (other : SlaveDesc) → Honest (parties host.scenario other) host.log → (rows : List (List ℤ)) (fault : Option RefFault) → IsReference host.scenario rows fault → Holds rows fault
+
+-- where all that happened to a slave has brought it
+abbrev pub plant_in : HostView → SlaveDesc → Plant
+plant_in host d = (slave_after (slave_setup host.scenario d) (events_at d.address host.log)).inner
+
+-- a slave that has taken steps in a run has the state that its model has in the reference after so many steps of that run
+abbrev pub StandsInLockstep : HostView → (s : ℕ) → List (List ℤ) → SlaveDesc → Type 0
+StandsInLockstep host s rows d =
+    let plant = plant_in host d in
+    0 < plant.steps → state host.scenario rows s d (length plant.earlier + 1) plant.steps ≡ Ok plant.model.state
+
+-- two slaves are in the same run and their steps differ by at most one; or one of them was reset for the next run and has no step yet, and the other has taken all
+abbrev pub AreClose : (steps : ℕ) → Plant → Plant → Type 0
+AreClose steps p q =
+    ((length p.earlier ≡ length q.earlier) × (p.steps ≤ q.steps + 1) × (q.steps ≤ p.steps + 1))
+    ⊎ (((length p.earlier ≡ length q.earlier + 1) × (p.steps ≡ 0) × (q.steps ≡ steps))
+    ⊎ ((length q.earlier ≡ length p.earlier + 1) × (q.steps ≡ 0) × (p.steps ≡ steps)))
+
+-- where the network was honest, this slave is close to each other one
+abbrev pub IsCloseToAll : HostView → SlaveDesc → Type 0
+IsCloseToAll host d = (other : SlaveDesc) → Honest (parties host.scenario other) host.log → (t : ℕ) → IfSome (slave_at host.scenario.slaves t) (λ e. AreClose host.scenario.steps (plant_in host d) (plant_in host e))
