@@ -71,7 +71,7 @@ events_none a b (Turn at ∷ left) all = absurd all
 
 own_all : (a : Address) (left : List LogEntry) → AllSent a left → own_at a left ≡ left
 own_all a [] all = refl
-own_all a (Sent from to bytes ∷ left) all = rw (all.0, same_address-refl) (ap (λ (l : List LogEntry). Sent from to bytes ∷ l) (own_all a left all.1))
+own_all a (Sent from to bytes ∷ left) all = rw (all.0, same_address-refl) (ap (λ (l : List LogEntry). Sent a to bytes ∷ l) (own_all a left all.1))
 own_all a (Got at from bytes ∷ left) all = absurd all
 own_all a (Idle at ∷ left) all = absurd all
 own_all a (Turn at ∷ left) all = absurd all
@@ -109,12 +109,6 @@ apart_false a b apart = by (cases_Bool (same_address a b))
 -- ---- a log of all ends of a scenario, each of which may have sends of the last event left
 module _ (sc : Scenario) (other : SlaveDesc) (ok : IsScenario sc) (log : List LogEntry) (honest : Honest (parties sc other) log) (ends : AreAtEnds (parties sc other) log) (calm : (a : Address) → Calm a log)
     (master : FollowsUpTo (master_rules sc) log) (slaves : (s : ℕ) → IsSlaveOf (parties sc other) s → FollowsUpTo (rules_from (setup_of sc other s)) log) where
-  w : Parties
-  w = parties sc other
-
-  rules : ℕ → Rules
-  rules s = rules_from (setup_of sc other s)
-
   apart : PartiesApart (parties sc other)
   apart = (has_parties sc other ok message_in).apart
 
@@ -183,12 +177,11 @@ module _ (sc : Scenario) (other : SlaveDesc) (ok : IsScenario sc) (log : List Lo
       each t it (inr ne) =
           slave_whole (slave_numbered sc other s).address e t it (λ z. ne (apart.slaves t s it is z)) (slaves s is).left (left_sent (rules_from (setup_of sc other s)) log (slaves s is).left (slaves s is).own)
 
-  Found : ℕ → Type 0
+  abbrev Found : ℕ → Type 0
   Found n = ((s : ℕ) → IsSlaveOf (parties sc other) s → s ≤ n → Follows (rules_from (setup_of sc other s)) log) ⊎ ((s : ℕ) × IsSlaveOf (parties sc other) s × EndsIn (slave_numbered sc other s).address log)
 
   -- of the slaves up to this one all have sent all, or the log ends in an event of one of them
   find : (n : ℕ) → n ≤ (parties sc other).count → Found n
-  unfolding Found
   find zero le = inl (λ s is few. absurd (omega (arith, is.0, few)))
   find (suc n) le = by (find n (omega (arith, le))) (settled (rules_from (setup_of sc other (suc n))) log (slaves (suc n) here))
     where
@@ -196,7 +189,6 @@ module _ (sc : Scenario) (other : SlaveDesc) (ok : IsScenario sc) (log : List Lo
       here = (omega arith, le)
 
       by : Found n → Follows (rules_from (setup_of sc other (suc n))) log ⊎ EndsIn (slave_numbered sc other (suc n)).address log → Found (suc n)
-      unfolding Found
       by (inr found) this = inr found
       by (inl f) (inr e) = inr (suc n, here, e)
       by (inl f) (inl g) = inl (λ s is few. each s is few (cases_eq s (suc n)))
@@ -213,7 +205,6 @@ module _ (sc : Scenario) (other : SlaveDesc) (ok : IsScenario sc) (log : List Lo
       by (inl m) = among (find (parties sc other).count (omega arith))
         where
           among : Found (parties sc other).count → Completed
-          unfolding Found
           among (inl all) = nothing_left m (λ s is. all s is is.1)
           among (inr found) = slave_left m found.0 found.1 found.2
 

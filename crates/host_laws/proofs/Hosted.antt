@@ -73,7 +73,8 @@ module _ (host : HostView) (all : HostsAll host) (other : SlaveDesc) where
   slave_follows : All (λ r. FollowsUpTo r host.log) (slave_rules host.scenario) → (s : ℕ) → IsSlaveOf (parties host.scenario other) s → FollowsUpTo (rules_from (setup_of host.scenario other s)) host.log
   slave_follows each s is =
       let rules : SlaveDesc → Rules = λ d. rules_from (record { desc = d; micro = host.scenario.micro }) in
-      let within : s - 1 < length (slave_rules host.scenario) = omega (arith, is.0, is.1, length-map rules host.scenario.slaves) in
+      let many : length (map rules host.scenario.slaves) ≡ length host.scenario.slaves = rw length-map refl in
+      let within : s - 1 < length (map rules host.scenario.slaves) = omega (arith, is.0, is.1, many) in
       subst (λ (r : Rules). FollowsUpTo r host.log) (get_or-map rules host.scenario.slaves (s - 1) other) (each (s - 1) (rules other) within)
 
   master_follows : (first : Option Rules) → first ≡ Some (master_rules host.scenario) → IfSome first (λ r. FollowsUpTo r host.log) → FollowsUpTo (master_rules host.scenario) host.log

@@ -1,3 +1,4 @@
+pub mod All
 pub mod Left
 pub mod Fronts
 pub mod Completed

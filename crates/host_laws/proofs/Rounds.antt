@@ -1,33 +1,36 @@
 -- A host is in rounds when it is new, and each call of it keeps it so.
 use Rattle.std.proofs.Common.{◌≡◌, ℕ, ◌+◌, ◌⊎◌, inl, inr, Option, None, Some, IfSome, OnOk, OnErr, MatchOption, Result, Ok, Err, List, [], ◌++◌, refl, sym, ap, ◌∙◌, subst, append-nil}
 use Rattle.dcp_ends.specs.declared.entries.LogEntry.{LogEntry}
+use Rattle.dcp_ends.specs.Events.{Rules}
 use Rattle.rounds.specs.Rounds.{Rounds, IsRound, IsRoundPart}
 use Rattle.rounds.specs.Steps.{AddsPart}
 use Rattle.rounds.specs.declared.one_end.HostFault.{HostFault}
-use Rattle.scenario.specs.declared.scenarios.Scenario.{Scenario}
-use Rattle.host.specs.declared.hosted.Hosted.{Hosted}
 use Rattle.host.specs.Views.{HostView, fault_of, master_in, slaves_in}
 use Rattle.host_laws.specs.Lockstep.{HostsAll, IsInRounds}
 
-pub new_in_rounds : (host : HostView) → host.log ≡ [] → host.fault ≡ None → IsInRounds host
-new_in_rounds host log fault = record {
-  count = 0;
-  before = [];
-  part = [];
-  rounds = refl;
-  form = log;
-  front = (let F : Option HostFault → Type 0 = λ f. MatchOption f ([] ≡ []) (λ _. ([] ≡ []) ⊎ IsRoundPart (master_in host) (slaves_in host) [] []) in subst F (sym fault) refl);
-}
+-- what stands behind the whole rounds, by the fault
+abbrev Behind : Option Rules → List Rules → (before part : List LogEntry) → Option HostFault → Type 0
+Behind master slaves before part fault = MatchOption fault (part ≡ []) (λ _. (part ≡ []) ⊎ IsRoundPart master slaves before part)
+
+nothing_behind : (master : Option Rules) (slaves : List Rules) (before : List LogEntry) (fault : Option HostFault) → Behind master slaves before [] fault
+nothing_behind master slaves before None = refl
+nothing_behind master slaves before (Some fault) = inl refl
+
+part_behind : (master : Option Rules) (slaves : List Rules) (before part : List LogEntry) (fault : HostFault) (now : Option HostFault) → now ≡ Some fault → IsRoundPart master slaves before part → Behind master slaves before part now
+part_behind master slaves before part fault None none front = absurd cc
+part_behind master slaves before part fault (Some now) some front = inr front
+
+pub new_in_rounds : (host : HostView) → host.log ≡ [] → IsInRounds host
+new_in_rounds host log = record { count = 0; before = []; part = []; rounds = refl; form = log; front = nothing_behind (master_in host) (slaves_in host) [] host.fault }
 
 -- no fault stopped a round: the log is whole rounds
 whole_rounds : (host : HostView) → host.fault ≡ None → IsInRounds host → (n : ℕ) × Rounds (master_in host) (slaves_in host) n host.log
 whole_rounds host none x =
-    let F : Option HostFault → Type 0 = λ f. MatchOption f (x.part ≡ []) (λ _. (x.part ≡ []) ⊎ IsRoundPart (master_in host) (slaves_in host) x.before x.part) in
-    let no_part : x.part ≡ [] = subst F none x.front in
+    let no_part : x.part ≡ [] = subst (λ (f : Option HostFault). Behind (master_in host) (slaves_in host) x.before x.part f) none x.front in
     let same : host.log ≡ x.before = x.form ∙ ap (λ (p : List LogEntry). x.before ++ p) no_part ∙ append-nil x.before in
     (x.count, subst (λ (l : List LogEntry). Rounds (master_in host) (slaves_in host) x.count l) (sym same) x.rounds)
 
-module _ {N T : Type 0} (calls : N → Option (List LogEntry)) (before now : N) (old new : HostView) (scenario : new.scenario ≡ old.scenario) (hosted : new.hosted ≡ old.hosted) where
+module _ (old new : HostView) (scenario : new.scenario ≡ old.scenario) (hosted : new.hosted ≡ old.hosted) where
   -- the same ends are made to do the same
   same_ends : (P : HostView → Type 0) → P (record { scenario = old.scenario; hosted = old.hosted; log = new.log; fault = new.fault }) → P new
   same_ends P p = subst P same p
@@ -38,61 +41,53 @@ module _ {N T : Type 0} (calls : N → Option (List LogEntry)) (before now : N) 
   pub still_all : HostsAll old → HostsAll new
   still_all all = same_ends HostsAll (record { sound = all.sound; master = all.master; slaves = all.slaves })
 
-  round_ok : (n : ℕ) → Rounds (master_in old) (slaves_in old) n new.log → new.fault ≡ None → IsInRounds new
-  round_ok n rounds fault =
+  whole_now : (n : ℕ) → Rounds (master_in old) (slaves_in old) n new.log → IsInRounds new
+  whole_now n rounds =
       same_ends IsInRounds
-      (record {
-        count = n;
-        before = new.log;
-        part = [];
-        rounds = rounds;
-        form = sym (append-nil new.log);
-        front = (let F : Option HostFault → Type 0 = λ f. MatchOption f ([] ≡ []) (λ _. ([] ≡ []) ⊎ IsRoundPart (master_in old) (slaves_in old) new.log []) in subst F (sym fault) refl);
-      })
+      (record { count = n; before = new.log; part = []; rounds = rounds; form = sym (append-nil new.log); front = nothing_behind (master_in old) (slaves_in old) new.log new.fault })
 
-  round_err : (n : ℕ) → Rounds (master_in old) (slaves_in old) n old.log → (e : HostFault) → new.fault ≡ Some e → (part : List LogEntry) → new.log ≡ old.log ++ part → IsRoundPart (master_in old) (slaves_in old) old.log part → IsInRounds new
-  round_err n rounds e fault part log front =
+  cut_now : (n : ℕ) → Rounds (master_in old) (slaves_in old) n old.log → (e : HostFault) → new.fault ≡ Some e → (part : List LogEntry) → new.log ≡ old.log ++ part → IsRoundPart (master_in old) (slaves_in old) old.log part → IsInRounds new
+  cut_now n rounds e fault part log front =
       same_ends IsInRounds
-      (record {
-        count = n;
-        before = old.log;
-        part = part;
-        rounds = rounds;
-        form = log;
-        front = (let F : Option HostFault → Type 0 = λ f. MatchOption f (part ≡ []) (λ _. (part ≡ []) ⊎ IsRoundPart (master_in old) (slaves_in old) old.log part) in subst F (sym fault) (inr front));
-      })
+      (record { count = n; before = old.log; part = part; rounds = rounds; form = log; front = part_behind (master_in old) (slaves_in old) old.log part e new.fault fault front })
 
-  -- a round that is run, to its end or not
-  ran : IsInRounds old → old.fault ≡ None → (result : Result T HostFault) → new.fault ≡ fault_of result
-      → ((n : ℕ) → Rounds (master_in old) (slaves_in old) n old.log → OnOk result (Rounds (master_in old) (slaves_in old) (n + 1) new.log))
-      → OnErr result (AddsPart calls (IsRoundPart (master_in old) (slaves_in old) old.log) before now old.log new.log) → IsInRounds new
-  ran x none (Ok t) fault rounds err =
-      let w = whole_rounds old none x in
-      round_ok (w.0 + 1) (rounds w.0 w.1) fault
-  ran x none (Err e) fault rounds err =
-      let w = whole_rounds old none x in
-      round_err w.0 w.1 e fault err.part err.added.log err.form
+  module _ {N T : Type 0} (before now : N) (result : Result T HostFault) (kept : IfSome old.fault (λ fault. (result ≡ Err fault) × (new ≡ old) × (now ≡ before))) where
+    -- by whether a fault was kept
+    either : (P : Type 0) → (old.fault ≡ None → P) → (new ≡ old → P) → P
+    either P fresh held = by old.fault refl kept
+      where
+        by : (f : Option HostFault) → old.fault ≡ f → IfSome f (λ fault. (result ≡ Err fault) × (new ≡ old) × (now ≡ before)) → P
+        by None none k = fresh none
+        by (Some f) some k = held k.1
 
-  pub goes_on : IsInRounds old → (result : Result T HostFault) → IfSome old.fault (λ fault. (result ≡ Err fault) × (new ≡ old) × (now ≡ before)) → new.fault ≡ fault_of result
-      → ((n : ℕ) → Rounds (master_in old) (slaves_in old) n old.log → OnOk result (Rounds (master_in old) (slaves_in old) (n + 1) new.log))
-      → (old.fault ≡ None → OnErr result (AddsPart calls (IsRoundPart (master_in old) (slaves_in old) old.log) before now old.log new.log)) → IsInRounds new
-  goes_on x result kept fault rounds err = by old.fault refl kept
-    where
-      by : (f : Option HostFault) → old.fault ≡ f → IfSome f (λ fault. (result ≡ Err fault) × (new ≡ old) × (now ≡ before)) → IsInRounds new
-      by None none k = ran x none result fault rounds (err none)
-      by (Some f) some k = subst IsInRounds (sym k.1) x
+    -- the network is opened: nothing happens to the ends
+    pub opened : IsInRounds old → new.log ≡ old.log → IsInRounds new
+    opened x log = either (IsInRounds new)
+        (λ none. (let w = whole_rounds old none x in whole_now w.0 (subst (λ (l : List LogEntry). Rounds (master_in old) (slaves_in old) w.0 l) (sym log) w.1)))
+        (λ same. subst IsInRounds (sym same) x)
 
-  -- the log only grows
-  pub grows : (result : Result T HostFault) → IfSome old.fault (λ fault. (result ≡ Err fault) × (new ≡ old) × (now ≡ before))
-      → (old.fault ≡ None → OnOk result (AddsPart calls (IsRound (master_in old) (slaves_in old) old.log) before now old.log new.log))
-      → (old.fault ≡ None → OnErr result (AddsPart calls (IsRoundPart (master_in old) (slaves_in old) old.log) before now old.log new.log)) → (part : List LogEntry) × (new.log ≡ old.log ++ part)
-  grows result kept ok err = by old.fault refl kept
-    where
-      added : (r : Result T HostFault) → OnOk r (AddsPart calls (IsRound (master_in old) (slaves_in old) old.log) before now old.log new.log)
-          → OnErr r (AddsPart calls (IsRoundPart (master_in old) (slaves_in old) old.log) before now old.log new.log) → (part : List LogEntry) × (new.log ≡ old.log ++ part)
-      added (Ok t) o e = (o.part, o.added.log)
-      added (Err f) o e = (e.part, e.added.log)
+    module _ (calls : N → Option (List LogEntry)) where
+      abbrev Whole : Type 0
+      Whole = AddsPart calls (IsRound (master_in old) (slaves_in old) old.log) before now old.log new.log
 
-      by : (f : Option HostFault) → old.fault ≡ f → IfSome f (λ fault. (result ≡ Err fault) × (new ≡ old) × (now ≡ before)) → (part : List LogEntry) × (new.log ≡ old.log ++ part)
-      by None none k = added result (ok none) (err none)
-      by (Some f) some k = ([], ap (λ (h : HostView). h.log) k.1 ∙ sym (append-nil old.log))
+      abbrev Cut : Type 0
+      Cut = AddsPart calls (IsRoundPart (master_in old) (slaves_in old) old.log) before now old.log new.log
+
+      -- a round that is run, to its end or not
+      pub goes_on : IsInRounds old → new.fault ≡ fault_of result → ((n : ℕ) → Rounds (master_in old) (slaves_in old) n old.log → OnOk result (Rounds (master_in old) (slaves_in old) (n + 1) new.log))
+          → (old.fault ≡ None → OnErr result Cut) → IsInRounds new
+      goes_on x fault rounds cut = either (IsInRounds new)
+          (λ none. (let w = whole_rounds old none x in by result w fault (rounds w.0 w.1) (cut none)))
+          (λ same. subst IsInRounds (sym same) x)
+        where
+          by : (r : Result T HostFault) → (w : (n : ℕ) × Rounds (master_in old) (slaves_in old) n old.log) → new.fault ≡ fault_of r → OnOk r (Rounds (master_in old) (slaves_in old) (w.0 + 1) new.log) → OnErr r Cut → IsInRounds new
+          by (Ok t) w f ok err = whole_now (w.0 + 1) ok
+          by (Err e) w f ok err = cut_now w.0 w.1 e f err.part err.added.log err.form
+
+      -- the log only grows
+      pub grows : (old.fault ≡ None → OnOk result Whole) → (old.fault ≡ None → OnErr result Cut) → (part : List LogEntry) × (new.log ≡ old.log ++ part)
+      grows ok cut = either ((part : List LogEntry) × (new.log ≡ old.log ++ part)) (λ none. by result (ok none) (cut none)) (λ same. ([], ap (λ (h : HostView). h.log) same ∙ sym (append-nil old.log)))
+        where
+          by : (r : Result T HostFault) → OnOk r Whole → OnErr r Cut → (part : List LogEntry) × (new.log ≡ old.log ++ part)
+          by (Ok t) o e = (o.part, o.added.log)
+          by (Err f) o e = (e.part, e.added.log)

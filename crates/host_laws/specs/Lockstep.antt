@@ -7,8 +7,13 @@ use Rattle.slave_desc.specs.declared.descriptions.SlaveDesc.{SlaveDesc}
 use Rattle.scenario.specs.Sound.{IsScenario, IsSlave}
 use Rattle.run_laws.specs.Laws.{parties}
 use Rattle.headline_laws.specs.Headline.{KeepsToReference}
+use Rattle.host.specs.declared.hosted.Hosted.{Hosted}
 use Rattle.host.specs.Hosting.{is_hosted}
 use Rattle.host.specs.Views.{HostView, master_in, slaves_in}
+
+-- the master and each slave that there is
+abbrev pub all_ends : Hosted
+all_ends = record { master = true; slaves = 65535 }
 
 -- the scenario is sound, and its master and each of its slaves are hosted
 pub record HostsAll (host : HostView) : Type 0 where
