@@ -1,6 +1,7 @@
 -- Each slave that a scenario can have is among all ends.
-use Rattle.std.proofs.Common.{◌≡◌, ℕ, zero, suc, ◌-◌, ◌<◌, ◌≤◌, true, refl, sym, subst, arith}
+use Rattle.std.proofs.Common.{◌≡◌, ℕ, zero, suc, ◌-◌, ◌<◌, ◌≤◌, true, IfOk, Result, Ok, Err, None, List, [], refl, sym, subst, arith}
 use Rattle.std.specs.Prelude.{◌==◌, ◌/◌, ◌%◌, ◌^◌}
+use Rattle.scenario.specs.declared.scenarios.Scenario.{Scenario}
 use Rattle.scenario.specs.Sound.{IsScenario, IsSlave}
 use Rattle.host.specs.declared.hosted.Hosted.{Hosted}
 use Rattle.host.specs.Views.{HostView}
@@ -31,3 +32,10 @@ all_hosted host sound hosted = record {
   master = (let P : Hosted → Type 0 = λ h. h.master ≡ true in subst P (sym hosted) refl);
   slaves = λ s is. (let P : Hosted → Type 0 = λ h. ((h.slaves / 2 ^ (s - 1)) % 2 == 1) ≡ true in subst P (sym hosted) (bit (s - 1) (omega (arith, is.0, is.1, sound.few_slaves.1))));
 }
+
+-- a host of all ends that was made has them
+pub hosts_all : {E : Type 0} (sc : Scenario) → IsScenario sc → (result : Result HostView E) → IfOk result (λ host. host ≡ record { scenario = sc; hosted = all_ends; log = []; fault = None }) → IfOk result HostsAll
+hosts_all sc sound (Ok host) same =
+    let P : HostView → Type 0 = HostsAll in
+    subst P (sym same) (all_hosted (record { scenario = sc; hosted = all_ends; log = []; fault = None }) sound refl)
+hosts_all sc sound (Err e) same = tt

@@ -23,7 +23,8 @@ use Rattle.slave_spec.specs.Slaves.{rules_from}
 use Rattle.model_laws.specs.Scenarios.{slave_numbered}
 use Rattle.model_laws.proofs.Scenarios.{has_parties}
 use Rattle.run_laws.specs.Laws.{parties, setup_of, slave_rules}
-use Rattle.headline_laws.specs.Headline.{KeepsToReference, RunsKeepToReference}
+use Rattle.headline_laws.specs.Headline.{KeepsToReference}
+use Rattle.headline_laws.proofs.Headline.{keep_to_reference}
 use Rattle.host.specs.declared.hosted.Hosted.{Hosted}
 use Rattle.host.specs.Hosting.{is_hosted, hosted_from}
 use Rattle.host.specs.Views.{HostView, master_in, slaves_in}
@@ -31,8 +32,6 @@ use Rattle.host_laws.specs.Lockstep.{HostsAll, IsInRounds, KeepsInStep}
 use Rattle.host_laws.proofs.Fronts.{AllAt, Calm, are_at_ends, is_calm}
 use Rattle.host_laws.proofs.Completed.{completed, keeps_front}
 
-keep_to_reference : RunsKeepToReference
-keep_to_reference = ?
 
 -- ---- all are hosted
 all_from : (hosted : Hosted) (s : ℕ) (ds : List SlaveDesc) → ((t : ℕ) → s ≤ t → t < s + length ds → is_hosted hosted t ≡ true) → hosted_from hosted s ds ≡ ds

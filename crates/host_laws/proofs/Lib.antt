@@ -4,5 +4,5 @@ pub mod Fronts
 pub mod Completed
 pub mod Hosted
 pub mod Rounds
-pub mod Readings
-pub mod Slaves
+pub mod ReadRows
+pub mod ReadSlaves

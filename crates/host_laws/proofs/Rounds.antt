@@ -1,12 +1,13 @@
 -- A host is in rounds when it is new, and each call of it keeps it so.
-use Rattle.std.proofs.Common.{◌≡◌, ℕ, ◌+◌, ◌⊎◌, inl, inr, Option, None, Some, IfSome, OnOk, OnErr, MatchOption, Result, Ok, Err, List, [], ◌++◌, refl, sym, ap, ◌∙◌, subst, append-nil}
+use Rattle.std.proofs.Common.{◌≡◌, ℕ, ◌+◌, ◌⊎◌, inl, inr, Option, None, Some, IfSome, OnOk, OnErr, IfOk, MatchOption, Result, Ok, Err, List, [], ◌++◌, refl, sym, ap, ◌∙◌, subst, append-nil}
 use Rattle.dcp_ends.specs.declared.entries.LogEntry.{LogEntry}
 use Rattle.dcp_ends.specs.Events.{Rules}
 use Rattle.rounds.specs.Rounds.{Rounds, IsRound, IsRoundPart}
 use Rattle.rounds.specs.Steps.{AddsPart}
 use Rattle.rounds.specs.declared.one_end.HostFault.{HostFault}
+use Rattle.scenario.specs.declared.scenarios.Scenario.{Scenario}
 use Rattle.host.specs.Views.{HostView, fault_of, master_in, slaves_in}
-use Rattle.host_laws.specs.Lockstep.{HostsAll, IsInRounds}
+use Rattle.host_laws.specs.Lockstep.{all_ends, HostsAll, IsInRounds}
 
 -- what stands behind the whole rounds, by the fault
 abbrev Behind : Option Rules → List Rules → (before part : List LogEntry) → Option HostFault → Type 0
@@ -20,8 +21,14 @@ part_behind : (master : Option Rules) (slaves : List Rules) (before part : List 
 part_behind master slaves before part fault None none front = absurd cc
 part_behind master slaves before part fault (Some now) some front = inr front
 
-pub new_in_rounds : (host : HostView) → host.log ≡ [] → IsInRounds host
+new_in_rounds : (host : HostView) → host.log ≡ [] → IsInRounds host
 new_in_rounds host log = record { count = 0; before = []; part = []; rounds = refl; form = log; front = nothing_behind (master_in host) (slaves_in host) [] host.fault }
+
+pub starts_in_rounds : {E : Type 0} (sc : Scenario) (result : Result HostView E) → IfOk result (λ host. host ≡ record { scenario = sc; hosted = all_ends; log = []; fault = None }) → IfOk result IsInRounds
+starts_in_rounds sc (Ok host) same =
+    let P : HostView → Type 0 = IsInRounds in
+    subst P (sym same) (new_in_rounds (record { scenario = sc; hosted = all_ends; log = []; fault = None }) refl)
+starts_in_rounds sc (Err e) same = tt
 
 -- no fault stopped a round: the log is whole rounds
 whole_rounds : (host : HostView) → host.fault ≡ None → IsInRounds host → (n : ℕ) × Rounds (master_in host) (slaves_in host) n host.log

@@ -1,4 +1,4 @@
-use Rattle.host_laws.proofs.Readings.{value_of}
+use Rattle.host_laws.proofs.ReadRows.{value_of}
 use Rattle.host_laws.proofs.readings.row.Goals as goal
 
 pub returns-clause-of_reference : goal.returns-clause-of_reference

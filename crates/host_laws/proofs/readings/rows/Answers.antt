@@ -1,4 +1,4 @@
-use Rattle.host_laws.proofs.Readings.{rows_front, rows_whole}
+use Rattle.host_laws.proofs.ReadRows.{rows_front, rows_whole}
 use Rattle.host_laws.proofs.readings.rows.Goals as goal
 
 pub returns-clause-front : goal.returns-clause-front

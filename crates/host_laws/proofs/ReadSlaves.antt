@@ -36,7 +36,7 @@ use Rattle.host.specs.Hosting.{hosted_slave, is_hosted, slave_setup}
 use Rattle.host.specs.Views.{HostView, of_slave, slave_in}
 use Rattle.host_laws.specs.Lockstep.{HostsAll, KeepsInStep}
 use Rattle.host_laws.specs.Readings.{OfReference, plant_in, StandsInLockstep, AreClose, IsCloseToAll}
-use Rattle.host_laws.proofs.Readings.{now_of}
+use Rattle.host_laws.proofs.ReadRows.{now_of}
 
 -- ---- the events of a slave, either way round
 module _ (w : Parties) (s : ℕ) where
