@@ -32,7 +32,6 @@ use Rattle.host_laws.specs.Lockstep.{HostsAll, IsInRounds, KeepsInStep}
 use Rattle.host_laws.proofs.Fronts.{AllAt, Calm, are_at_ends, is_calm}
 use Rattle.host_laws.proofs.Completed.{completed, keeps_front}
 
-
 -- ---- all are hosted
 all_from : (hosted : Hosted) (s : ℕ) (ds : List SlaveDesc) → ((t : ℕ) → s ≤ t → t < s + length ds → is_hosted hosted t ≡ true) → hosted_from hosted s ds ≡ ds
 all_from hosted s [] h = refl

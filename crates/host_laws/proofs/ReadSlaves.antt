@@ -109,7 +109,7 @@ module _ (host : HostView) (all : HostsAll host) (step : KeepsInStep host) where
   are_close s d there t e also other honest =
       let k = step other honest in
       let close : AreClose host.scenario.steps (plant_at (setup_of host.scenario other s) (parties host.scenario other) s (reverse host.log)) (plant_at (setup_of host.scenario other t) (parties host.scenario other) t (reverse host.log)) =
-              (k.always [] (reverse host.log) refl).together s t (is_of host all s d there other) (is_of host all t e also other) in
+      (k.always [] (reverse host.log) refl).together s t (is_of host all s d there other) (is_of host all t e also other) in
       let P : Plant → Type 0 = λ p. AreClose host.scenario.steps p (plant_at (setup_of host.scenario other t) (parties host.scenario other) t (reverse host.log)) in
       let Q : Plant → Type 0 = λ q. AreClose host.scenario.steps (plant_in host d) q in
       subst Q (plant_of host all t e also other) (subst P (plant_of host all s d there other) close)
