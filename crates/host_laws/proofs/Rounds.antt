@@ -2,7 +2,7 @@
 use Rattle.std.proofs.Common.{◌≡◌, ℕ, ◌+◌, ◌⊎◌, inl, inr, Option, None, Some, IfSome, OnOk, OnErr, IfOk, MatchOption, Result, Ok, Err, List, [], ◌++◌, refl, sym, ap, ◌∙◌, subst, append-nil}
 use Rattle.dcp_ends.specs.declared.entries.LogEntry.{LogEntry}
 use Rattle.dcp_ends.specs.Events.{Rules}
-use Rattle.rounds.specs.Rounds.{Rounds, IsRound, IsRoundPart}
+use Rattle.rounds.specs.Rounds.{Rounds, IsRoundPart}
 use Rattle.rounds.specs.Steps.{AddsPart}
 use Rattle.rounds.specs.declared.one_end.HostFault.{HostFault}
 use Rattle.scenario.specs.declared.scenarios.Scenario.{Scenario}
@@ -74,9 +74,6 @@ module _ (old new : HostView) (scenario : new.scenario ≡ old.scenario) (hosted
         (λ same. subst IsInRounds (sym same) x)
 
     module _ (calls : N → Option (List LogEntry)) where
-      abbrev Whole : Type 0
-      Whole = AddsPart calls (IsRound (master_in old) (slaves_in old) old.log) before now old.log new.log
-
       abbrev Cut : Type 0
       Cut = AddsPart calls (IsRoundPart (master_in old) (slaves_in old) old.log) before now old.log new.log
 
@@ -90,11 +87,3 @@ module _ (old new : HostView) (scenario : new.scenario ≡ old.scenario) (hosted
           by : (r : Result T HostFault) → (w : (n : ℕ) × Rounds (master_in old) (slaves_in old) n old.log) → new.fault ≡ fault_of r → OnOk r (Rounds (master_in old) (slaves_in old) (w.0 + 1) new.log) → OnErr r Cut → IsInRounds new
           by (Ok t) w f ok err = whole_now (w.0 + 1) ok
           by (Err e) w f ok err = cut_now w.0 w.1 e f err.part err.added.log err.form
-
-      -- the log only grows
-      pub grows : (old.fault ≡ None → OnOk result Whole) → (old.fault ≡ None → OnErr result Cut) → (part : List LogEntry) × (new.log ≡ old.log ++ part)
-      grows ok cut = either ((part : List LogEntry) × (new.log ≡ old.log ++ part)) (λ none. by result (ok none) (cut none)) (λ same. ([], ap (λ (h : HostView). h.log) same ∙ sym (append-nil old.log)))
-        where
-          by : (r : Result T HostFault) → OnOk r Whole → OnErr r Cut → (part : List LogEntry) × (new.log ≡ old.log ++ part)
-          by (Ok t) o e = (o.part, o.added.log)
-          by (Err f) o e = (e.part, e.added.log)

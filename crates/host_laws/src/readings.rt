@@ -16,7 +16,7 @@ use host::Host;
 /// run finished. Then the reference has no fault.
 pub fn rows(host: &Host) -> u32
     requires all { HostsAll host.now }
-    requires rounds { IsInRounds host.now }
+    requires in_rounds { IsInRounds host.now }
     ensures count { result ≡ row_count_in host.now }
     ensures front { OfReference host.now (λ rows fault. result ≤ length rows) }
     ensures whole { (steps : ℕ) → report_in host.now ≡ Some (Finished steps) → OfReference host.now (λ rows fault. (result ≡ length rows) × (fault ≡ None)) }
@@ -29,7 +29,7 @@ pub fn rows(host: &Host) -> u32
 /// that port in row k of the reference.
 pub fn row(host: &Host, k: u32, slave: u8, port: u8) -> Option<i128>
     requires all { HostsAll host.now }
-    requires rounds { IsInRounds host.now }
+    requires in_rounds { IsInRounds host.now }
     ensures value { result ≡ value_in host.now k slave port }
     ensures of_reference { OfReference host.now (λ rows fault. IfSome result (λ value. value_at (setup_from host.now.scenario).slaves rows k slave port ≡ Some value)) }
 {
@@ -41,7 +41,7 @@ pub fn row(host: &Host, k: u32, slave: u8, port: u8) -> Option<i128>
 /// steps of that run, and no other slave is more than a step or a reset away.
 pub fn slave_steps(host: &Host, slave: u8) -> Option<u32>
     requires all { HostsAll host.now }
-    requires rounds { IsInRounds host.now }
+    requires in_rounds { IsInRounds host.now }
     ensures steps { IfSome (slave_at host.now.scenario.slaves slave) (λ d. result ≡ Some (plant_in host.now d).steps) }
     ensures stands { IfSome (slave_at host.now.scenario.slaves slave) (λ d. OfReference host.now (λ rows fault. StandsInLockstep host.now slave rows d)) }
     ensures close { IfSome (slave_at host.now.scenario.slaves slave) (λ d. IsCloseToAll host.now d) }
