@@ -1,8 +1,8 @@
 -- Each slave that a scenario can have is among all ends.
-use Rattle.std.proofs.Common.{◌≡◌, ℕ, zero, suc, ◌-◌, ◌<◌, ◌≤◌, true, IfOk, Result, Ok, Err, None, List, [], refl, sym, subst, arith}
+use Rattle.std.proofs.Common.{◌≡◌, ℕ, zero, suc, ◌-◌, ◌<◌, true, IfOk, Result, Ok, Err, None, [], refl, sym, subst, arith}
 use Rattle.std.specs.Prelude.{◌==◌, ◌/◌, ◌%◌, ◌^◌}
 use Rattle.scenario.specs.declared.scenarios.Scenario.{Scenario}
-use Rattle.scenario.specs.Sound.{IsScenario, IsSlave}
+use Rattle.scenario.specs.Sound.{IsScenario}
 use Rattle.host.specs.declared.hosted.Hosted.{Hosted}
 use Rattle.host.specs.Views.{HostView}
 use Rattle.host_laws.specs.Lockstep.{all_ends, HostsAll}

@@ -8,7 +8,7 @@ use Rattle.dcp_ends.specs.Events.{Event, Gram, Tick, Rules}
 use Rattle.dcp_ends.specs.Logs.{same_address, own_at, entry_of}
 use Rattle.log_spec.specs.Log.{Parties, IsEnd, AreAtEnds}
 use Rattle.rounds.specs.Rounds.{AllSent, IsGot, IsTurn, IsRoundPart, Rounds}
-use Rattle.rounds.proofs.Logs.{own_at-append, own_entry-own}
+use Rattle.rounds.proofs.Logs.{own_at-append}
 use Rattle.rounds.proofs.Prefix.{round_begins}
 use Rattle.run_laws.specs.Laws.{BeginsWithEvent, RestsWhenDone}
 use Rattle.run_laws.proofs.Rounded.{whole}

@@ -1,15 +1,9 @@
 -- What a host keeps to, in what is read of it.
-use Rattle.std.proofs.Common.{◌≡◌, ℕ, zero, suc, ◌+◌, ◌-◌, ◌<◌, ◌≤◌, ◌⊎◌, inl, inr, Bool, true, false, if◌then◌else◌, Option, None, Some, IfSome, Ok, ℤ, List, [], ◌∷◌, ◌++◌, length, reverse, refl, sym, ap, ◌∙◌, subst, arith}
-use Rattle.std.specs.Prelude.{◌==◌, slice_get}
-use Rattle.std.proofs.lemmas.List.{length-append, reverse-append}
+use Rattle.std.proofs.Common.{◌≡◌, ℕ, zero, suc, ◌+◌, ◌≤◌, Option, None, Some, IfSome, ℤ, List, [], ◌∷◌, ◌++◌, length, reverse, refl, sym, ap, ◌∙◌, subst, arith}
+use Rattle.std.proofs.lemmas.List.{length-append}
 use Rattle.std.proofs.lemmas.Bool.{cond-true}
-use Rattle.dcp_types.specs.declared.addresses.Address.{Address}
 use Rattle.dcp_ends.specs.declared.entries.LogEntry.{LogEntry}
-use Rattle.dcp_ends.specs.declared.entries.LogEntry.TheVariants.{Sent, Got, Idle, Turn}
-use Rattle.dcp_ends.specs.Events.{Event}
 use Rattle.dcp_ends.specs.Logs.{events_at}
-use Rattle.log_spec.specs.Log.{IsSlaveOf}
-use Rattle.log_spec.specs.Oldest.{Honest}
 use Rattle.slave_desc.specs.declared.descriptions.SlaveDesc.{SlaveDesc}
 use Rattle.scenario.specs.declared.scenarios.Scenario.{Scenario}
 use Rattle.lockstep.specs.declared.references.RefFault.{RefFault}
@@ -19,10 +13,9 @@ use Rattle.master_spec.specs.declared.setups.Slave.{Slave}
 use Rattle.master_spec.specs.declared.reports.Report.TheVariants.{Finished}
 use Rattle.master_spec.specs.Setup.{setup_from}
 use Rattle.master_spec.specs.Course.{Course, course}
-use Rattle.master_core.specs.Columns.{outputs_for, value_in_row, value_at}
+use Rattle.master_core.specs.Columns.{value_at}
 use Rattle.index_laws.specs.Runs.{course_at}
 use Rattle.scenario_laws.proofs.Scenarios.{events_reverse}
-use Rattle.run_laws.specs.Laws.{parties}
 use Rattle.headline_laws.specs.Headline.{IsInLockstep, KeepsToReference}
 use Rattle.host.specs.Views.{HostView, course_in, report_in, row_count_in, value_in}
 use Rattle.host_laws.specs.Lockstep.{HostsAll, KeepsInStep}

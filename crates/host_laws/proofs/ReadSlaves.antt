@@ -1,6 +1,5 @@
 -- What a host keeps to, in what is read of its slaves.
-use Rattle.std.proofs.Common.{◌≡◌, ℕ, ◌+◌, ◌-◌, ◌<◌, ◌≤◌, inl, Bool, true, if◌then◌else◌, Option, None, Some, IfSome, Ok, ℤ, List, [], ◌∷◌, ◌++◌, length, reverse, refl, sym, ap, ◌∙◌, subst, arith, append-nil, append_assoc}
-use Rattle.std.specs.Prelude.{slice_get}
+use Rattle.std.proofs.Common.{◌≡◌, ℕ, ◌+◌, ◌-◌, ◌<◌, inl, ℤ, Bool, if◌then◌else◌, Option, None, Some, IfSome, Ok, List, [], ◌∷◌, ◌++◌, length, reverse, refl, sym, ap, ◌∙◌, subst, arith, append-nil, append_assoc}
 use Rattle.std.proofs.lemmas.List.{reverse-append}
 use Rattle.std.proofs.lemmas.Bool.{cond-true}
 use Rattle.std.proofs.lemmas.Option.{slice_get_within}
@@ -14,11 +13,10 @@ use Rattle.log_spec.specs.Log.{Parties, IsSlaveOf, same}
 use Rattle.log_spec.specs.Oldest.{Honest}
 use Rattle.index_laws.proofs.ByEntry.{address_turned}
 use Rattle.master_meets.proofs.Asking.{same_as}
+use Rattle.fixed_models.specs.Steps.{start}
 use Rattle.slave_desc.specs.declared.descriptions.SlaveDesc.{SlaveDesc}
-use Rattle.scenario.specs.declared.scenarios.Scenario.{Scenario}
 use Rattle.scenario.specs.Sound.{IsSlave}
 use Rattle.scenario.specs.Lookups.{slave_at}
-use Rattle.lockstep.specs.declared.references.RefFault.{RefFault}
 use Rattle.lockstep.specs.Lockstep.{state}
 use Rattle.plan_laws.proofs.Planned.{slave_got}
 use Rattle.model_laws.specs.Scenarios.{slave_numbered}
@@ -31,8 +29,7 @@ use Rattle.slave_meets.specs.Desks.{event_of, events}
 use Rattle.slave_meets.proofs.Meets.{slave_is}
 use Rattle.slave_holds.specs.Models.{plant_at}
 use Rattle.run_laws.specs.Laws.{parties, setup_of}
-use Rattle.headline_laws.specs.Headline.{IsInLockstep, KeepsToReference}
-use Rattle.host.specs.Hosting.{hosted_slave, is_hosted, slave_setup}
+use Rattle.host.specs.Hosting.{is_hosted, slave_setup}
 use Rattle.host.specs.Views.{HostView, of_slave, slave_in}
 use Rattle.host_laws.specs.Lockstep.{HostsAll, KeepsInStep}
 use Rattle.host_laws.specs.Readings.{OfReference, plant_in, StandsInLockstep, AreClose, IsCloseToAll}
@@ -96,11 +93,14 @@ module _ (host : HostView) (all : HostsAll host) (s : ℕ) (d : SlaveDesc) (ther
   stands step =
       now_of host all step (λ rows fault. StandsInLockstep host s rows d)
       (λ other rows fault x. (
-      let D : SlaveDesc → Plant → Type 0 = λ e p. 0 < p.steps → state host.scenario rows s e (length p.earlier + 1) p.steps ≡ Ok p.model.state in
-      let at : D (slave_numbered host.scenario other s) (plant_at (setup_of host.scenario other s) (parties host.scenario other) s (reverse host.log)) = λ some. (x.stands s (is_of other)).stands (inl some) in
-      let P : Plant → Type 0 = D (slave_numbered host.scenario other s) in
-      let E : SlaveDesc → Type 0 = λ e. D e (plant_in host d) in
-      subst E (desc_is other) (subst P (plant_of other) at)
+      let it = x.stands s (is_of other) in
+      let Stepped : SlaveDesc → Plant → Type 0 = λ e p. 0 < p.steps → state host.scenario rows s e (length p.earlier + 1) p.steps ≡ Ok p.model.state in
+      let First : SlaveDesc → Plant → Type 0 = λ e p. p.steps ≡ 0 → (parameters : List ℤ) × (p.model.state ≡ start e.kind parameters) in
+      let stepped : Stepped (slave_numbered host.scenario other s) (plant_at (setup_of host.scenario other s) (parties host.scenario other) s (reverse host.log)) = λ some. it.stands (inl some) in
+      let first : First (slave_numbered host.scenario other s) (plant_at (setup_of host.scenario other s) (parties host.scenario other) s (reverse host.log)) = it.at_first in
+      let here : (D : SlaveDesc → Plant → Type 0) → D (slave_numbered host.scenario other s) (plant_at (setup_of host.scenario other s) (parties host.scenario other) s (reverse host.log)) → D d (plant_in host d) =
+      λ D at. subst (λ (e : SlaveDesc). D e (plant_in host d)) (desc_is other) (subst (λ (p : Plant). D (slave_numbered host.scenario other s) p) (plant_of other) at) in
+      record { stepped = here Stepped stepped; first = here First first }
       ))
 
 module _ (host : HostView) (all : HostsAll host) (step : KeepsInStep host) where

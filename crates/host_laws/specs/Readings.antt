@@ -1,7 +1,8 @@
 -- What is read of a host, beside the reference of its scenario.
-use Rattle.std.specs.Prelude.{◌≡◌, ◌⊎◌, ℕ, ℤ, ◌+◌, ◌<◌, ◌≤◌, List, length, Option, Some, IfSome, Ok}
+use Rattle.std.specs.Prelude.{◌≡◌, ◌⊎◌, ℕ, ℤ, ◌+◌, ◌<◌, ◌≤◌, List, length, Option, IfSome, Ok}
 use Rattle.dcp_ends.specs.Logs.{events_at}
 use Rattle.log_spec.specs.Oldest.{Honest}
+use Rattle.fixed_models.specs.Steps.{start}
 use Rattle.slave_desc.specs.declared.descriptions.SlaveDesc.{SlaveDesc}
 use Rattle.scenario.specs.Lookups.{slave_at}
 use Rattle.lockstep.specs.declared.references.RefFault.{RefFault}
@@ -20,11 +21,12 @@ OfReference host Holds = (other : SlaveDesc) → Honest (parties host.scenario o
 abbrev pub plant_in : HostView → SlaveDesc → Plant
 plant_in host d = (slave_after (slave_setup host.scenario d) (events_at d.address host.log)).inner
 
--- a slave that has taken steps in a run has the state that its model has in the reference after so many steps of that run
-abbrev pub StandsInLockstep : HostView → (s : ℕ) → List (List ℤ) → SlaveDesc → Type 0
-StandsInLockstep host s rows d =
-    let plant = plant_in host d in
-    0 < plant.steps → state host.scenario rows s d (length plant.earlier + 1) plant.steps ≡ Ok plant.model.state
+-- where the model of a slave stands, by the steps that the slave has taken since its last reset
+pub record StandsInLockstep (host : HostView) (s : ℕ) (rows : List (List ℤ)) (d : SlaveDesc) : Type 0 where
+  -- it has the state that the reference gives it after so many steps of that run
+  pub stepped : 0 < (plant_in host d).steps → state host.scenario rows s d (length (plant_in host d).earlier + 1) (plant_in host d).steps ≡ Ok (plant_in host d).model.state
+  -- before the first it has the state in which its kind begins
+  pub first : (plant_in host d).steps ≡ 0 → (parameters : List ℤ) × ((plant_in host d).model.state ≡ start d.kind parameters)
 
 -- two slaves are in the same run and their steps differ by at most one; or one of them was reset for the next run and has no step yet, and the other has taken all
 abbrev pub AreClose : (steps : ℕ) → Plant → Plant → Type 0

@@ -1,6 +1,5 @@
 use Rattle.scenario.specs.Lookups.{slave_at}
 use Rattle.std.proofs.Common.{◌≡◌, Some}
-use Rattle.slave_desc.specs.declared.descriptions.SlaveDesc.{SlaveDesc}
 use Rattle.host_laws.specs.Readings.{IsCloseToAll, OfReference, plant_in, StandsInLockstep}
 use Rattle.host_laws.proofs.ReadSlaves.{close_to_all, of_the_slave, stands, steps_are}
 use Rattle.host_laws.proofs.readings.slave_steps.Goals as goal
