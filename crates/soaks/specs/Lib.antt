@@ -1,0 +1,2 @@
+-- What is promised: the text of a number's scenario.
+pub mod Texts
