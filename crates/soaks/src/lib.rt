@@ -7,6 +7,9 @@
 
 mod draws;
 mod slaves;
+mod summaries;
+mod sums;
 mod texts;
 
+pub use summaries::write_summary;
 pub use texts::soak_text;

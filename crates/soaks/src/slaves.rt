@@ -14,7 +14,10 @@ fn put_names(text: &mut String, s: u32, identity: &str, port: u32) -> Result<(),
     ensures { OnOk result (string_bytes text.new ≡ string_bytes text.old ++ line_of (codes "slave" ∷ (codes "s" ++ decimal s) ∷ [])
         ++ line_of (codes "uuid" ∷ identity.now ∷ []) ++ line_of (codes "address" ∷ codes "127.0.0.1" ∷ decimal port ∷ [])) }
 {
-    write!(text, "slave s{s}\nuuid {identity}\naddress 127.0.0.1 {port}\n")?;
+    write!(
+        text,
+        "slave s{s}\nuuid {identity}\naddress 127.0.0.1 {port}\n"
+    )?;
     Ok(())
 }
 
