@@ -20,7 +20,7 @@ returns-clause-outcome g c =
     let traced = same_change (ap (λ w. texts w) c.new-trace.ensures.inner) (ap (λ w. texts w) (sym c.into_inner-3.ensures)) c.new-trace.ensures.faults trace.faults in
     let opened = c.new-net.result in
     let run = c.run_words-status.new.net in
-    let net : NetChange = record { told = record { calls = calls_of run.traffic; opening = opening_of run.traffic }; before = opened.faults; now = run.faults } in
+    let net : NetChange = record { told = record { calls = calls_of run.net.traffic; opening = opening_of run.net.traffic }; before = opened.faults; now = run.faults } in
     let Read : Change → Type 0 = λ read. Outcome c.args.words.now read (change (contents c.new-out.result.inner) (contents out.inner) c.new-out.result.faults out.faults)
     (change (texts c.new-trace.result.inner) (texts trace.inner) c.new-trace.result.faults trace.faults) net status in
     let Written : Change → Type 0 = λ written. Outcome c.args.words.now (change_of (remaining c.args.reader) (remaining c.into_inner.result) source.faults) written
