@@ -1,5 +1,5 @@
 -- What was made of an input and written is the outcome of its status.
-use Rattle.std.proofs.Common.{◌≡◌, ◌⊎◌, ◌≤◌, inl, inr, ℕ, List, [], length, Option, Some, refl, sym, ap, subst, ◌∙◌}
+use Rattle.std.proofs.Common.{◌≡◌, ◌⊎◌, ◌≤◌, inl, inr, ℕ, suc, List, [], length, Option, Some, refl, sym, ap, subst, ◌∙◌}
 use Rattle.dcp_io.specs.Faults.{Rose}
 use Rattle.byte_spool.specs.declared.outputs.Delivery.{Delivery}
 use Rattle.byte_spool.specs.declared.outputs.Delivery.TheVariants.{Whole, Cut}
@@ -54,6 +54,7 @@ use Rattle.commands.specs.SaysRun.{HasEnded, NetTold, RunsTo, SaysRun, ShowsEnd,
 use Rattle.commands.specs.SaysSoak.{SaysSoak, SoaksTo, rows_after}
 use Rattle.soaks.specs.Summaries.{summary}
 use Rattle.commands.specs.Statuses.{ComesBeforeWriting, ComesWithoutNet, judgement_of_report, status_after}
+use Rattle.commands.proofs.InStep.{HasRounds, in_step, whole_rounds}
 
 -- a text that was written to the one sink, with nothing for the other
 pub text_alone : (held holds : Option (List ℕ)) (before now : ℕ) (kept : Option (List ℕ)) (count : ℕ) (text : List ℕ) (delivery : Delivery)
@@ -111,7 +112,9 @@ runs_to : (net : NetTold) (input : List ℕ) (host : HostView) (report : Report)
     → IfSome (master_in host) (λ rules. Follows rules host.log) → All (λ rules. Follows rules host.log) (slaves_in host) → report_after host ≡ Some report
     → RunsTo net input report (run_text host report) (run_trace input host)
 runs_to net input host report ended sound hosted master slaves reported =
-    record { host = host; ended = ended; master = master; slaves = slaves; reported = reported; shows = shown host sound (of_master host hosted master) report reported; text_is = refl; trace_is = refl }
+    let whole = ended.run.whole in
+    let rounds : HasRounds host = record { sound = sound; hosted = hosted; count = suc whole.count; rounds = whole_rounds host whole; master = master; slaves = slaves } in
+    record { host = host; ended = ended; master = master; slaves = slaves; reported = reported; shows = shown host sound (of_master host hosted master) report reported; text_is = refl; trace_is = refl; in_step = in_step host rounds report reported }
 
 -- what is delivered of a run is what the command says of its text
 pub run_says : (held holds : Option (List ℕ)) (before now : ℕ) (kept keeps : Option (List ℕ)) (began ends : ℕ) (net : NetTold) (input : List ℕ) (host : HostView) (status : Status)

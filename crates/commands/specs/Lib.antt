@@ -11,6 +11,7 @@ pub mod SaysEncoded
 pub mod SaysDescribed
 pub mod SaysReference
 pub mod SaysTalk
+pub mod InStep
 pub mod SaysRun
 pub mod SaysSoak
 pub mod SaysReplay
