@@ -5,7 +5,7 @@ use Rattle.commands.specs.declared.command_words.Command.{Command}
 use Rattle.commands.specs.declared.command_words.Command.TheVariants.{Decode, Encode, Describe, Reference, Talk, Run, Replay, Soak}
 use Rattle.commands.specs.CommandWords.{Names, NamesRun, own_number}
 
-one_not_two : (words : List (List ℕ)) (a b c : List ℕ) → words ≡ a ∷ [] → words ≡ b ∷ c ∷ [] → ⊥
+pub one_not_two : (words : List (List ℕ)) (a b c : List ℕ) → words ≡ a ∷ [] → words ≡ b ∷ c ∷ [] → ⊥
 one_not_two words a b c one two = off (sym one ∙ two)
   where
     off : a ∷ [] ≡ b ∷ c ∷ [] → ⊥

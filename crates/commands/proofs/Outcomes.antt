@@ -129,6 +129,7 @@ run_says held holds before now kept keeps began ends net input host status ended
 -- what is delivered of a run of a number's scenario is what the command says of its text
 pub soak_says : (held holds : Option (List ℕ)) (before now : ℕ) (kept : Option (List ℕ)) (count : ℕ) (net : NetTold) (input : List ℕ) (number : ℕ) (host : HostView) (status : Status)
     → HasEnded net input host → SoakDelivered held holds before now number host status → Delivered held holds before now kept kept count count (Soak number) net input status
+unfolding runs_to
 soak_says held holds before now kept count net input number host status ended run =
     let text = summary number run.report (rows_after host) in
     let soaks : SoaksTo number net input run.report text =
