@@ -34,7 +34,10 @@ pub enum Answer {
         replayed: Replayed,
     },
     /// The host of all ends of the scenario of this number, which have run until the master had its report.
-    Soaked { number: u32, host: Host },
+    Soaked {
+        number: u32,
+        host: Host,
+    },
 }
 
 /// Why a command has no answer.

@@ -1,5 +1,5 @@
 -- A sum of 128 bits that grows by a port, a slave or a row.
-use Rattle.std.proofs.Common.{◌≡◌, ℕ, zero, suc, ◌+◌, List, [], ◌∷◌, ◌++◌, length, take, refl, sym, ap, ◌∙◌, arith, append-nil, append_assoc, Option, Some, None}
+use Rattle.std.proofs.Common.{◌≡◌, ℕ, zero, suc, ◌+◌, List, [], ◌∷◌, ◌++◌, length, take, refl, sym, ap, ◌∙◌, arith, append-nil, append_assoc, Option, Some}
 use Rattle.std.specs.Prelude.{ℤ, ◌+ℤ◌, pos, fold, slice_get, option_to_list}
 use Rattle.std.specs.Int.{w128, int_wrap}
 use Rattle.std.specs.List.{flat_map}

@@ -1,4 +1,4 @@
-use Rattle.std.proofs.Common.{◌≡◌, ◌+◌, ◌++◌, List, ℕ, ap, ◌∙◌, map, string_bytes, append_assoc}
+use Rattle.std.proofs.Common.{◌+◌, ◌++◌, List, ℕ, ap, ◌∙◌, map, string_bytes, append_assoc}
 use Rattle.std.specs.List.{flat_map, range_with_len}
 use Rattle.text_lines.specs.Printed.{line_of}
 use Rattle.soaks.specs.Texts.{wired_at}
