@@ -1,12 +1,11 @@
 -- A run of all ends over an honest network is in step with the reference of its scenario.
-use Rattle.std.proofs.Common.{◌≡◌, ℕ, zero, suc, ◌+◌, ◌-◌, ◌≤◌, ◌<◌, Bool, true, false, true≢false, Option, Some, None, List, [], ◌∷◌, ◌++◌, length, map, reverse, refl, sym, ap, ◌∙◌, subst, arith, if◌then◌else◌}
+use Rattle.std.proofs.Common.{◌≡◌, ℕ, suc, ◌+◌, ◌-◌, ◌≤◌, ◌<◌, Bool, true, false, true≢false, Option, Some, None, List, [], ◌∷◌, length, map, reverse, refl, sym, ap, ◌∙◌, subst, arith}
 use Rattle.std.specs.Prelude.{ℤ, All, IfSome}
 use Rattle.std.proofs.lemmas.Bool.{cond-true}
 use Rattle.std.specs.List.{list_all, range_with_len}
 use Rattle.std.proofs.lemmas.List.{get_or-map, length-map}
 use Rattle.std.proofs.lemmas.List.Folds.{list_all_at}
 use Rattle.std.proofs.lemmas.List.FromFn.{get_or-range_with_len}
-use Rattle.dcp_ends.specs.declared.entries.LogEntry.{LogEntry}
 use Rattle.dcp_ends.specs.Events.{Event, Rules}
 use Rattle.slave_desc.specs.declared.descriptions.SlaveDesc.{SlaveDesc}
 use Rattle.scenario.specs.declared.scenarios.Scenario.{Scenario}
@@ -18,17 +17,15 @@ use Rattle.master_spec.specs.Course.{course}
 use Rattle.master_spec.specs.Setup.{setup_from}
 use Rattle.index_laws.specs.Runs.{course_at}
 use Rattle.scenario_laws.proofs.Scenarios.{events_reverse, finished_acknowledged}
-use Rattle.log_spec.specs.Log.{IsSlaveOf}
 use Rattle.log_spec.specs.Oldest.{Honest}
 use Rattle.rounds.specs.Rounds.{Rounds}
 use Rattle.rounds.specs.Told.{Follows}
 use Rattle.slave_spec.specs.Slaves.{rules_from}
-use Rattle.model_laws.specs.Scenarios.{slave_numbered}
 use Rattle.host.specs.declared.hosted.Hosted.{Hosted}
 use Rattle.host.specs.Hosting.{hosted_from, is_hosted, master_of, slaves_of}
 use Rattle.host.specs.Views.{HostView, master_in, slaves_in}
 use Rattle.scenario_runs.specs.Runs.{IsWhole, all_ends}
-use Rattle.run_laws.specs.Laws.{IsRunInRounds, parties, setup_of, slave_rules}
+use Rattle.run_laws.specs.Laws.{IsRunInRounds, parties, slave_rules}
 use Rattle.run_laws.proofs.Rounded.{rounds_are_runs}
 use Rattle.headline_laws.specs.Headline.{IsInLockstep}
 use Rattle.headline_laws.proofs.Headline.{keep_to_reference}

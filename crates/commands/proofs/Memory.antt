@@ -1,6 +1,6 @@
 -- A run over a network in memory is in step with the reference of its scenario.
-use Rattle.std.proofs.Common.{◌≡◌, ◌⊎◌, inl, inr, ◌+◌, ℕ, Bool, false, true≢false, eq-eqb, List, [], ◌∷◌, Option, Some, None, refl, sym, ap, subst, ◌∙◌, arith, codes}
-use Rattle.std.specs.Prelude.{◌==◌, IfSome, MatchOption}
+use Rattle.std.proofs.Common.{◌≡◌, ◌⊎◌, inl, inr, ℕ, false, true≢false, eq-eqb, List, [], ◌∷◌, Option, Some, None, refl, sym, subst, ◌∙◌, arith, codes}
+use Rattle.std.specs.Prelude.{◌==◌, IfSome}
 use Rattle.dcp_ends.specs.declared.entries.LogEntry.{LogEntry}
 use Rattle.slave_desc.specs.declared.descriptions.SlaveDesc.{SlaveDesc}
 use Rattle.byte_spool.specs.declared.outputs.Delivery.TheVariants.{Whole}
@@ -20,7 +20,7 @@ use Rattle.commands.specs.declared.statuses.Judgement.{Judgement}
 use Rattle.commands.specs.declared.statuses.Judgement.TheVariants.{Good, Failed}
 use Rattle.commands.specs.declared.statuses.Status.{Status}
 use Rattle.commands.specs.declared.statuses.Status.TheVariants.{Done, Usage, BadInput, RunFailed, ReadFault, WriteFault, NetFault, OutOfMemory, Differs}
-use Rattle.commands.specs.Changes.{Change, NetChange}
+use Rattle.commands.specs.Changes.{Change}
 use Rattle.commands.specs.CommandWords.{Names}
 use Rattle.commands.specs.Given.{TakesFor}
 use Rattle.commands.specs.Inputs.{TakesInput}

@@ -51,7 +51,8 @@ pub fn run_program<R: io::Read + Drop, W: io::Write + Drop, E: io::Write + Drop>
     let mut trace = StdSink::new(errors);
     let mut net = SureNet::new(alloc);
     let status = run_words(alloc, words, &mut source, &mut out, &mut trace, &mut net);
-    let _told = net.told();
+    // Its clauses say that what the network gave was sent not long before.
+    let _sent = net.sent();
     Ended {
         code: status.exit_code(),
         reader: source.into_inner(),

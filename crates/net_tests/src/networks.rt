@@ -168,10 +168,14 @@ fn a_call_that_fails(rt: HostRuntime) -> Result<(), Fail> {
         assert_eq!(rt; net.take(SLAVE, &mut room), taken);
         assert_eq!(rt; net.faults(), faults);
     }
-    match net.told() {
-        Some(calls) => assert_eq!(rt; calls.len(), 2),
-        None => return Err(AllocError.into()),
-    }
+    assert_eq!(rt; net.send(MASTER, SLAVE, &[7, 1]), Done::Ok);
+    assert_eq!(rt; net.sent(), 1);
+    let gram = Taken::Gram {
+        from: MASTER,
+        len: 2,
+    };
+    assert_eq!(rt; net.take(SLAVE, &mut room), gram);
+    assert_eq!(rt; net.take(SLAVE, &mut room), Taken::Nothing);
     Ok(())
 }
 

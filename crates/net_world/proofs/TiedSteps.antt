@@ -1,14 +1,14 @@
 -- What the parts of an open network are after one more call.
-use Rattle.std.proofs.Common.{◌≡◌, ℕ, ◌+◌, ◌*◌, ◌^◌, ◌<◌, ◌≤◌, List, [], ◌∷◌, ◌++◌, length, map, take, get_or, Bool, false, Option, None, Some, suc, refl, ap, sym, subst, ◌∙◌, inl, inr, arith, add-zero}
+use Rattle.std.proofs.Common.{◌≡◌, ℕ, ◌+◌, ◌*◌, ◌^◌, ◌<◌, ◌≤◌, List, [], ◌∷◌, ◌++◌, length, map, take, get_or, Bool, true, false, cond, Option, None, Some, suc, refl, ap, sym, subst, ◌∙◌, inl, inr, arith, add-zero}
 use Rattle.std.specs.List.{filter, All}
 use Rattle.std.specs.Option.{option_map, option_to_list}
 use Rattle.std.proofs.lemmas.Bool.{cases_Bool}
 use Rattle.std.proofs.lemmas.List.Elements.{All-map}
-use Rattle.std.proofs.lemmas.List.Sums.{count_by-le-length}
+use Rattle.std.proofs.lemmas.List.Sums.{sum_by-cons}
 use Rattle.dcp_types.specs.declared.addresses.Address.{Address}
 use Rattle.dcp_ends.specs.Logs.{same_address}
 use Rattle.dcp_ends.specs.declared.entries.LogEntry.{LogEntry}
-use Rattle.dcp_ends.specs.declared.entries.LogEntry.TheVariants.{Sent, Got, Idle}
+use Rattle.dcp_ends.specs.declared.entries.LogEntry.TheVariants.{Sent, Got, Idle, Turn}
 use Rattle.scenario.specs.declared.net_plans.NetLine.{NetLine}
 use Rattle.scenario.specs.declared.net_plans.Chaos.{Chaos}
 use Rattle.dcp_net.specs.declared.openings.Opening.{Opening}
@@ -20,7 +20,7 @@ use Rattle.net_world.specs.Chances.{after_steps, generator_at, lags_by_chance, a
 use Rattle.net_world.specs.Deliveries.{all_placed, delivery, due, is_due_now, is_ready_for, is_young, lags, lags_by, waiting}
 use Rattle.net_world.specs.Lines.{end_named, line_for, line_names, seen_by, code_named}
 use Rattle.net_world.specs.Mailboxes.{queue_of}
-use Rattle.net_world.specs.Messages.{is_call_of, is_message, is_from_end, messages}
+use Rattle.net_world.specs.Messages.{is_call_of, is_message, is_from_end, messages, messages_from}
 use Rattle.net_world.specs.Queues.{AllShort, InOrder}
 use Rattle.net_world.specs.Tied.{IsTied, Queues}
 use Rattle.net_world.specs.Watches.{watch_counted, line_watched, watch_after, watch_names}
@@ -88,11 +88,28 @@ front (x ∷ xs) ys = ap (λ zs. x ∷ zs) (front xs ys)
 pub whole : {A : Type 0} (n : ℕ) (xs ys : List A) → n ≡ length xs → take n (xs ++ ys) ≡ xs
 whole n xs ys e = rw e (front xs ys)
 
-few_seen : (all : List Address) (calls : List LogEntry) (line : NetLine) → length calls + 1 < 2 ^ 64 → seen_by all calls line + 1 < 2 ^ 64
-few_seen all calls line few = let le = count_by-le-length (is_call_of all (end_named line) (code_named line)) calls in omega (arith, le)
+-- a message with a type code from an end is a message
+one_seen : (all : List Address) (end type_id : ℕ) (call : LogEntry) → cond (is_call_of all end type_id call) 1 0 ≤ cond (is_message call) 1 0
+one_seen all end type_id (Sent from to bytes) = at_most_one (is_from_end all end type_id from bytes)
+  where
+    at_most_one : (b : Bool) → cond b 1 0 ≤ 1
+    at_most_one true = omega arith
+    at_most_one false = omega arith
+one_seen all end type_id (Got at from bytes) = omega arith
+one_seen all end type_id (Idle at) = omega arith
+one_seen all end type_id (Turn at) = omega arith
 
-pub few_messages : (calls : List LogEntry) (n : ℕ) → length calls < n → messages calls < n
-few_messages calls n few = let le = count_by-le-length is_message calls in omega (arith, le)
+all_seen : (all : List Address) (end type_id : ℕ) (calls : List LogEntry) → messages_from all end type_id calls ≤ messages calls
+all_seen all end type_id [] = omega arith
+all_seen all end type_id (call ∷ calls) =
+    let one = one_seen all end type_id call in
+    let rest = all_seen all end type_id calls in
+    let seen = sum_by-cons (λ (c : LogEntry). cond (is_call_of all end type_id c) 1 0) call calls in
+    let sent = sum_by-cons (λ (c : LogEntry). cond (is_message c) 1 0) call calls in
+    omega (arith, one, rest, seen, sent)
+
+few_seen : (all : List Address) (calls : List LogEntry) (line : NetLine) → messages calls + 1 < 2 ^ 64 → seen_by all calls line + 1 < 2 ^ 64
+few_seen all calls line few = let le = all_seen all (end_named line) (code_named line) calls in omega (arith, le)
 
 module _ (o : Opening) (calls : List LogEntry) (watches : List Watch) (generator sent : ℕ) (boxes : List Mailbox) (tied : IsTied o calls watches generator sent boxes) where
   pub lags_told : (from : Address) (bytes lagged : List ℕ) → lagged ≡ lags_by (option_map line_watched (first_that (watch_names o.all from bytes) watches)) (lags_by_chance o.plan.chaos generator)
@@ -174,5 +191,5 @@ module _ (o : Opening) (calls : List LogEntry) (watches : List Watch) (generator
         }
 
   -- no count can overflow
-  pub few_counted : length calls + 1 < 2 ^ 64 → All (λ (watch : Watch). watch.seen + 1 < 2 ^ 64) watches
-  few_counted few = rw tied.watched (All-map (λ (watch : Watch). watch.seen + 1 < 2 ^ 64) (watch_after o.all calls) o.plan.lines (λ k d here. few_seen o.all calls (get_or o.plan.lines k d) few))
+  pub few_counted : sent + 1 < 2 ^ 64 → All (λ (watch : Watch). watch.seen + 1 < 2 ^ 64) watches
+  few_counted few = rw tied.watched (All-map (λ (watch : Watch). watch.seen + 1 < 2 ^ 64) (watch_after o.all calls) o.plan.lines (λ k d here. few_seen o.all calls (get_or o.plan.lines k d) (rw tied.numbered at few)))

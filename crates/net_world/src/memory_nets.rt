@@ -4,10 +4,9 @@ ghost use Rattle.std.specs.Prelude.{◌≡◌, ◌≤◌, ◌+◌, ◌-◌, ◌�
 ghost use Rattle.dcp_io.specs.Faults.{Rose};
 ghost use Rattle.dcp_net.specs.Nets.{HasCause, IsWithinRoom, sent_entries, told_more, took_entries};
 ghost use Rattle.net_world.specs.Calls.{AllRecent, GivesDue};
-ghost use Rattle.net_world.specs.World.{TakesOpened, calls_of, fails_now, is_opened, is_chosen, opening_of};
+ghost use Rattle.net_world.specs.World.{TakesOpened, calls_of, fails_now, is_opened, is_chosen, opening_of, sent_of};
 
 use crate::sure_nets::SureNet;
-use dcp_ends::LogEntry;
 use dcp_net::{Done, Net, Opening, Taken};
 use dcp_types::Address;
 use std::alloc::Global;
@@ -61,15 +60,14 @@ impl MemoryNet {
         }
     }
 
-    /// The successful calls since the network was opened, and none before that. Each take among them gave
-    /// what was due, and nothing only where nothing was.
-    pub fn told(&self) -> Option<&[LogEntry]>
-        ensures calls { IfSome result (λ calls. calls_of self.now.net.traffic ≡ Some calls.now) }
-        ensures open { IsTrue (is_some result) ↔ IsTrue (is_opened self.now.net.traffic) }
+    /// How many messages were sent since the network was opened, and none before that. Each take since then
+    /// gave what was due, and nothing only where nothing was.
+    pub fn sent(&self) -> u64
+        ensures sent { result ≡ sent_of self.now.net.traffic }
         ensures given { IfSome self.now.net.traffic (λ carried. GivesDue carried.opening [] carried.calls) }
         ensures recent { IfSome self.now.net.traffic (λ carried. AllRecent [] carried.calls) }
     {
-        self.net.told()
+        self.net.sent()
     }
 
     /// Whether this call is the one that fails.
@@ -154,6 +152,7 @@ impl Net for MemoryNet {
         ensures opening { opening_of self.new.net.traffic ≡ opening_of self.old.net.traffic }
         ensures cause { HasCause self.old.faults self.new.faults (result ≡ Taken.Failed) }
         ensures due { TakesOpened self.old.net.traffic at result room.new }
+        ensures ample { result ≡ Taken.OutOfMemory → ⊥ }
         ensures fails { (result ≡ Taken.Failed) ↔ IsTrue (fails_now NetCall.Take self.old.fails self.old.before_it) }
     {
         if self.strikes(NetCall::Take) {

@@ -6,14 +6,13 @@ ghost use Rattle.net_world.specs.Calls.{AllRecent, GivesDue};
 ghost use Rattle.net_world.specs.World.{TakesOpened, calls_of, is_opened, opening_of, sent_of};
 
 use crate::traffics::Traffic;
-use dcp_ends::LogEntry;
 use dcp_net::{Done, Net, Opening, Taken};
 use dcp_types::Address;
 use std::alloc::Global;
 use std::marker::Model;
 
 /// A network in memory, which treats messages as the plan says that it is opened with, and of which no call
-/// fails. It tells what it was opened with and all its successful calls.
+/// fails. Contracts see what it was opened with and all its successful calls, of which it keeps no list.
 ///
 /// A message comes at once, or when more messages have been sent, or twice, or not at all. `take` gives
 /// what is due at its address, and nothing exactly where nothing is.
@@ -34,22 +33,8 @@ impl SureNet {
         }
     }
 
-    /// The successful calls since the network was opened, and none before that. Each take among them gave
-    /// what was due, and nothing only where nothing was.
-    pub fn told(&self) -> Option<&[LogEntry]>
-        ensures calls { IfSome result (λ calls. calls_of self.now.traffic ≡ Some calls.now) }
-        ensures open { IsTrue (is_some result) ↔ IsTrue (is_opened self.now.traffic) }
-        ensures given { IfSome self.now.traffic (λ carried. GivesDue carried.opening [] carried.calls) }
-        ensures recent { IfSome self.now.traffic (λ carried. AllRecent [] carried.calls) }
-    {
-        match &self.traffic {
-            Some(traffic) => Some(traffic.calls()),
-            None => None,
-        }
-    }
-
-    /// How many messages were sent since the network was opened, and none before that. It takes no memory,
-    /// and says what `told` says of the takes.
+    /// How many messages were sent since the network was opened, and none before that. Each take since then
+    /// gave what was due, and nothing only where nothing was.
     pub fn sent(&self) -> u64
         ensures sent { result ≡ sent_of self.now.traffic }
         ensures given { IfSome self.now.traffic (λ carried. GivesDue carried.opening [] carried.calls) }
@@ -116,6 +101,7 @@ impl Net for SureNet {
         ensures cause { HasCause 0 0 (result ≡ Taken.Failed) }
         ensures due { TakesOpened self.old.traffic at result room.new }
         ensures never { result ≡ Taken.Failed → ⊥ }
+        ensures ample { result ≡ Taken.OutOfMemory → ⊥ }
     {
         let Some(traffic) = &mut self.traffic else {
             unreachable!();

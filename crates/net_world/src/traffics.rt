@@ -16,18 +16,23 @@ use crate::chances::{Lags, after_message, by_chance, by_line};
 use crate::deliveries::Arrival;
 use crate::mailboxes::{Mailbox, next_for, post, room_for};
 use crate::watches::{Watch, count, line_for, watched};
-use dcp_ends::{Bytes, LogEntry};
+use call_history::{Call, History};
+use dcp_ends::Bytes;
 use dcp_net::{Opening, Taken};
 use dcp_types::Address;
 use std::alloc::{AllocError, Global};
 use std::marker::Model;
 
+/// How many messages a network carries at most: their numbers and those of their deliveries can be told.
+const MOST: u64 = i64::MAX as u64;
+
 /// An open network: what it was opened with, its calls, and what waits in it. Contracts see the first
-/// two.
+/// two. Only they read the calls, which take no memory: what waits, and how many messages were sent, tell
+/// all that a later call does.
 #[derive(Drop)]
 pub struct Traffic {
     opening: Opening,
-    calls: Vec<LogEntry>,
+    history: History,
     watches: Vec<Watch>,
     generator: u64,
     sent: u64,
@@ -40,9 +45,9 @@ impl Model for Traffic {
 
     ghost Value = { Carried };
 
-    ghost view = { λ t. record { opening = t.opening; calls = t.calls.items } };
+    ghost view = { λ t. record { opening = t.opening; calls = t.history.calls } };
 
-    ghost invariant = { λ t. IsTied t.opening t.calls.items t.watches.items t.generator t.sent t.boxes.items };
+    ghost invariant = { λ t. IsTied t.opening t.history.calls t.watches.items t.generator t.sent t.boxes.items };
 }
 
 /// The lags of the message that is sent now.
@@ -108,7 +113,7 @@ impl Traffic {
         };
         Ok(Traffic {
             opening,
-            calls: Vec::new(alloc),
+            history: History::new(),
             watches,
             generator,
             sent: 0,
@@ -116,8 +121,8 @@ impl Traffic {
         })
     }
 
-    /// Sends 1 to 1,024 bytes: their deliveries wait then, as the plan says. Where memory is short,
-    /// nothing was sent.
+    /// Sends 1 to 1,024 bytes: their deliveries wait then, as the plan says. Where memory is short, or so
+    /// many messages were sent that no more can be numbered, nothing was sent.
     pub fn send(
         &mut self,
         alloc: Global,
@@ -130,8 +135,9 @@ impl Traffic {
         ensures ok { OnOk result (self.new ≡ record { opening = self.old.opening; calls = self.old.calls ++ Sent from to bytes.now ∷ [] }) }
         ensures err { OnErr result (self.new ≡ self.old) }
     {
-        self.calls.reserve(1)?;
-        let told = Bytes::copied(alloc, bytes)?;
+        if self.sent >= MOST {
+            return Err(AllocError);
+        }
         let lags = lags_now(&self.opening, &self.watches, self.generator, from, bytes);
         let number = self.sent + 1;
         let first = delivered(alloc, number, from, to, bytes, lags.first)?;
@@ -141,11 +147,7 @@ impl Traffic {
         count(&mut self.watches, self.opening.all.as_slice(), from, bytes);
         self.generator = after_message(self.opening.plan.chaos, self.generator);
         self.sent = number;
-        self.calls.push_reserved(LogEntry::Sent {
-            from,
-            to,
-            bytes: told,
-        });
+        self.history = self.history.then(&Call::Sent { from, to, bytes });
         Ok(())
     }
 
@@ -155,18 +157,20 @@ impl Traffic {
         ensures calls { self.new ≡ record { opening = self.old.opening; calls = self.old.calls ++ took_entries at result room.new } }
         ensures due { TakesDue (due self.old.opening self.old.calls at) result room.new }
         ensures never { result ≡ Taken.Failed → ⊥ }
+        ensures ample { result ≡ Taken.OutOfMemory → ⊥ }
     {
-        if self.calls.reserve(1).is_err() {
-            return Taken::OutOfMemory;
-        }
         let Some(next) = next_for(&mut self.boxes, at, self.sent) else {
-            self.calls.push_reserved(LogEntry::Idle { at });
+            self.history = self.history.then(&Call::Idle { at });
             return Taken::Nothing;
         };
         let Arrival { from, bytes, .. } = next;
         let len = bytes.as_slice().len();
         put_front(room, bytes.as_slice());
-        self.calls.push_reserved(LogEntry::Got { at, from, bytes });
+        self.history = self.history.then(&Call::Got {
+            at,
+            from,
+            bytes: bytes.as_slice(),
+        });
         Taken::Gram { from, len }
     }
 
@@ -176,13 +180,5 @@ impl Traffic {
         ensures given { GivesDue self.now.opening [] self.now.calls }
     {
         self.sent
-    }
-
-    /// The successful calls since the network was opened. Each take among them gave what was due.
-    pub fn calls(&self) -> &[LogEntry]
-        ensures calls { result.now ≡ self.now.calls }
-        ensures given { GivesDue self.now.opening [] self.now.calls }
-    {
-        self.calls.as_slice()
     }
 }

@@ -36,7 +36,7 @@ returns-clause-outcome g c =
       told,
       c.exit_code.ensures,
       subst Traced traced (subst Written written (subst Read read c.run_words-status.ensures.outcome)),
-      told_in_memory run.traffic c.told-told.ensures.given c.told-told.ensures.recent,
+      told_in_memory run.traffic c.sent-sent.ensures.given c.sent-sent.ensures.recent,
     )
 
 pub returns-clause-in_step : goal.returns-clause-in_step

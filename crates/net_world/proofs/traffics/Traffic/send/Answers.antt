@@ -10,13 +10,12 @@ use Rattle.net_world.proofs.traffics.Traffic.send.Goals as goal
 
 pub count-requires-clause-few : goal.count-requires-clause-few
 count-requires-clause-few c =
-    let few : length c.self.inside.calls.items + 1 < 2 ^ 64 = omega (arith, c.in_ok-reserve.ensures.ok, c.reserve.ensures.len) in
-    rw c.deref_mut-2.ensures.value (few_counted _ _ _ _ _ _ c.self.invariant few)
+    rw c.deref_mut-2.ensures.value (few_counted _ _ _ _ _ _ c.self.invariant (omega arith))
 
 pub invariant_of-self-2 : goal.invariant_of-self-2
 invariant_of-self-2 c =
     let o = c.self.inside.opening in
-    let calls = c.self.inside.calls.items in
+    let calls = c.self.inside.history.calls in
     let told = lags_told _ _ _ _ _ _ c.self.invariant c.args.from c.args.bytes.now (lags_in c.lags_now-lags.result) (rw c.deref.ensures.value at c.lags_now-lags.ensures) in
     let before = λ (a : Address). ap (queue_of a) c.deref_mut.ensures.value ∙ c.room_for.ensures.same a in
     let ds : List Arrival = option_to_list c.in_ok-first.first ++ option_to_list c.in_ok-second.second in
@@ -28,4 +27,4 @@ invariant_of-self-2 c =
     (λ a other. c.post.ensures.others a other ∙ before a) in
     let watches : c.self.inside.watches.len ≡ length c.count.new.watches = omega (arith, c.count.auto.watches, c.deref_mut-2.ensures.len) in
     let boxes : c.room_for.new.boxes.len ≡ length c.post.new.boxes = omega (arith, c.post.auto.boxes, c.deref_mut.ensures.len) in
-    rw (whole _ _ _ watches, whole _ _ _ boxes, c.count.ensures, c.deref_mut-2.ensures.value, c.as_slice.ensures, c.after_message-self-inside.ensures, c.push_reserved.ensures.items, c.reserve.ensures.items, c.in_ok-told.ensures) tied
+    rw (whole _ _ _ watches, whole _ _ _ boxes, c.count.ensures, c.deref_mut-2.ensures.value, c.as_slice.ensures, c.after_message-self-inside.ensures, c.then-self-inside.ensures) tied
