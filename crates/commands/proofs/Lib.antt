@@ -1,4 +1,5 @@
 pub mod Pieces
+pub mod Named
 pub mod InStep
 pub mod Outcomes
 pub mod Memory

@@ -1,5 +1,5 @@
 -- A run over a network in memory is in step with the reference of its scenario.
-use Rattle.std.proofs.Common.{◌≡◌, ◌⊎◌, inl, inr, ℕ, false, true≢false, eq-eqb, List, [], ◌∷◌, Option, Some, None, refl, sym, subst, ◌∙◌, arith}
+use Rattle.std.proofs.Common.{◌≡◌, ◌⊎◌, inl, inr, ℕ, false, true≢false, eq-eqb, List, [], ◌∷◌, Option, Some, None, refl, sym, subst, ◌∙◌, arith, codes}
 use Rattle.std.specs.Prelude.{◌==◌, IfSome}
 use Rattle.dcp_ends.specs.declared.entries.LogEntry.{LogEntry}
 use Rattle.slave_desc.specs.declared.descriptions.SlaveDesc.{SlaveDesc}
@@ -15,20 +15,23 @@ use Rattle.run_text.specs.Runs.{DeliversBoth}
 use Rattle.run_laws.specs.Laws.{parties}
 use Rattle.host.specs.Views.{HostView, Tells}
 use Rattle.commands.specs.declared.command_words.Command.{Command}
-use Rattle.commands.specs.declared.command_words.Command.TheVariants.{Decode, Encode, Describe, Reference, Talk, Run, Replay}
+use Rattle.commands.specs.declared.command_words.Command.TheVariants.{Decode, Encode, Describe, Reference, Talk, Run, Replay, Soak}
 use Rattle.commands.specs.declared.statuses.Judgement.{Judgement}
 use Rattle.commands.specs.declared.statuses.Judgement.TheVariants.{Good, Failed}
 use Rattle.commands.specs.declared.statuses.Status.{Status}
 use Rattle.commands.specs.declared.statuses.Status.TheVariants.{Done, Usage, BadInput, RunFailed, ReadFault, WriteFault, NetFault, OutOfMemory, Differs}
 use Rattle.commands.specs.Changes.{Change}
-use Rattle.commands.specs.CommandWords.{Names, command_word}
+use Rattle.commands.specs.CommandWords.{Names}
+use Rattle.commands.specs.Given.{TakesFor}
 use Rattle.commands.specs.Inputs.{TakesInput}
-use Rattle.commands.specs.Limits.{input_limit, limit_of}
+use Rattle.commands.specs.Limits.{input_limit}
 use Rattle.commands.specs.Outcomes.{Answered, Outcome}
 use Rattle.commands.specs.Programs.{RunsInStep, ToldInMemory, sure_change}
 use Rattle.commands.specs.Says.{Says}
 use Rattle.commands.specs.SaysRun.{NetTold, RunsTo, SaysRun}
 use Rattle.commands.specs.Statuses.{judgement_of_report, status_after, status_code}
+use Rattle.commands.proofs.Named.{one_not_two}
+use Rattle.commands.proofs.Outcomes.{stops_rose}
 
 -- what a network in memory tells
 pub told_in_memory : (traffic : Option Carried) → IfSome traffic (λ carried. GivesDue carried.opening [] carried.calls) → IfSome traffic (λ carried. AllRecent [] carried.calls)
@@ -37,14 +40,33 @@ told_in_memory None given recent = record { calls = []; told = refl; due = refl;
 told_in_memory (Some carried) given recent = record { calls = carried.calls; told = refl; due = given; recent = recent }
 
 -- the words of run name no other command
-is_run : (command : Command) → command_word command ∷ [] ≡ command_word Run ∷ [] → command ≡ Run
-is_run Decode e = absurd cc
-is_run Encode e = absurd cc
-is_run Describe e = absurd cc
-is_run Reference e = absurd cc
-is_run Talk e = absurd cc
-is_run Run e = refl
-is_run Replay e = absurd cc
+is_run : (words : List (List ℕ)) (command : Command) → Names words command → Names words Run → command ≡ Run
+is_run words Decode named run = by (sym named ∙ run)
+  where
+    by : codes "decode" ∷ [] ≡ codes "run" ∷ [] → Decode ≡ Run
+    by e = absurd cc
+is_run words Encode named run = by (sym named ∙ run)
+  where
+    by : codes "encode" ∷ [] ≡ codes "run" ∷ [] → Encode ≡ Run
+    by e = absurd cc
+is_run words Describe named run = by (sym named ∙ run)
+  where
+    by : codes "describe" ∷ [] ≡ codes "run" ∷ [] → Describe ≡ Run
+    by e = absurd cc
+is_run words Reference named run = by (sym named ∙ run)
+  where
+    by : codes "reference" ∷ [] ≡ codes "run" ∷ [] → Reference ≡ Run
+    by e = absurd cc
+is_run words Talk named run = by (sym named ∙ run)
+  where
+    by : codes "talk" ∷ [] ≡ codes "run" ∷ [] → Talk ≡ Run
+    by e = absurd cc
+is_run words Replay named run = by (sym named ∙ run)
+  where
+    by : codes "replay" ∷ [] ≡ codes "run" ∷ [] → Replay ≡ Run
+    by e = absurd cc
+is_run words Run named run = refl
+is_run words (Soak number) named run = absurd (one_not_two words _ _ named.0 run named.1)
 
 -- the log of a host over such a network is honest
 is_honest : (net : NetTold) → ToldInMemory net → (host : HostView) → Tells net.calls host.log → (other : SlaveDesc) → Honest (parties host.scenario other) host.log
@@ -60,7 +82,7 @@ neither n a b (inr e) = true≢false (sym (eq-eqb n 3 e) ∙ b)
 module _ (words : List (List ℕ)) (source out trace : Change) (told : NetTold) where
   -- such a network has no fault
   pub is_sure : (status : Status) → Outcome words source out trace (sure_change told) status → status_code status ≡ 6 → ⊥
-  is_sure NetFault outcome e = omega (arith, outcome.4.1)
+  is_sure NetFault outcome e = omega (arith, stops_rose outcome.0 outcome.1 0 0 outcome.5)
   is_sure Done outcome e = absurd cc
   is_sure Usage outcome e = absurd cc
   is_sure BadInput outcome e = absurd cc
@@ -95,10 +117,10 @@ module _ (words : List (List ℕ)) (source out trace : Change) (told : NetTold) 
     -- an answer to the words of run is of a run
     module _ (judgement : Judgement) (answered : Answered words source out trace (sure_change told) judgement Whole) where
       is_of : answered.0 ≡ Run
-      is_of = is_run answered.0 (sym answered.4 ∙ named)
+      is_of = is_run words answered.0 answered.4 named
 
       took : TakesInput input_limit source.was source.is answered.1
-      took = let Taken : Command → Type 0 = λ command. TakesInput (limit_of command) source.was source.is answered.1 in subst Taken is_of answered.5
+      took = let Taken : Command → Type 0 = λ command. TakesFor source.was source.is command answered.1 in subst Taken is_of answered.5
 
       says : SaysRun told answered.1 judgement answered.2 answered.3
       says = let Said : Command → Type 0 = λ command. Says command told answered.1 judgement answered.2 answered.3 in subst Said is_of answered.7

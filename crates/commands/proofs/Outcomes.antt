@@ -5,10 +5,10 @@ use Rattle.byte_spool.specs.declared.outputs.Delivery.{Delivery}
 use Rattle.byte_spool.specs.declared.outputs.Delivery.TheVariants.{Whole, Cut}
 use Rattle.byte_spool.specs.Outputs.{Delivers}
 use Rattle.byte_spool.proofs.Pieces.{nothing_added}
-use Rattle.host.specs.Views.{HostView, master_in}
+use Rattle.host.specs.Views.{HostView, master_in, slaves_in}
 use Rattle.master_spec.specs.declared.reports.Report.{Report}
 use Rattle.master_spec.specs.declared.reports.Report.TheVariants as reports
-use Rattle.std.specs.Prelude.{Err, IfSome, reverse}
+use Rattle.std.specs.Prelude.{All, Err, IfSome, reverse}
 use Rattle.rounds.specs.Told.{Follows}
 use Rattle.master_spec.specs.Rules.{MasterRun}
 use Rattle.scenario.specs.Sound.{IsScenario}
@@ -29,7 +29,7 @@ use Rattle.run_text.specs.Runs.{DeliversBoth, text_after}
 use Rattle.commands.specs.declared.answers.Answer.{Answer}
 use Rattle.commands.specs.declared.answers.Answer.TheVariants as answers
 use Rattle.commands.specs.declared.command_words.Command.{Command}
-use Rattle.commands.specs.declared.command_words.Command.TheVariants.{Decode, Encode, Describe, Reference, Talk, Run, Replay}
+use Rattle.commands.specs.declared.command_words.Command.TheVariants.{Decode, Encode, Describe, Reference, Talk, Run, Replay, Soak}
 use Rattle.commands.specs.declared.answers.Unsaid.TheVariants as unsaid
 use Rattle.commands.specs.declared.statuses.Judgement.{Judgement}
 use Rattle.commands.specs.declared.statuses.Judgement.TheVariants.{Good, Failed, Refused}
@@ -40,7 +40,7 @@ use Rattle.text_lines.specs.Readings.{IsFirstBad}
 use Rattle.text_lines.specs.declared.reasons.TextRefused.{TextRefused}
 use Rattle.text_lines.specs.declared.reasons.TextRefused.TheVariants as refusals
 use Rattle.scenario_text.specs.Judging.{scenario_why_at}
-use Rattle.commands.specs.Answers.{Delivered, Gives, IsAlone, IsWritableAnswer, RunDelivered}
+use Rattle.commands.specs.Answers.{Delivered, Gives, IsAlone, IsWritableAnswer, RanOrRefused, RunDelivered, SoakDelivered}
 use Rattle.commands.specs.Replays.{FollowsReport, GivesReplay, GoesThrough, ReplayDelivered, SaysStop}
 use Rattle.commands.specs.SaysReplay.{IsTraceOf, ReplaysTo, SaysReplay, unended_line}
 use Rattle.commands.specs.declared.said.Said.{Said}
@@ -50,7 +50,9 @@ use Rattle.commands.specs.Said.{text_of}
 use Rattle.commands.specs.CommandWords.{IsCommand}
 use Rattle.commands.specs.Outcomes.{Answered, IsFree, Outcome}
 use Rattle.commands.specs.Says.{Stops}
-use Rattle.commands.specs.SaysRun.{HasEnded, NetTold, RunsTo, SaysRun, ShowsEnd, StopsRun, report_after, run_text, run_trace}
+use Rattle.commands.specs.SaysRun.{HasEnded, NetTold, RunsTo, SaysRun, ShowsEnd, report_after, run_text, run_trace}
+use Rattle.commands.specs.SaysSoak.{SaysSoak, SoaksTo, rows_after}
+use Rattle.soaks.specs.Summaries.{summary}
 use Rattle.commands.specs.Statuses.{ComesBeforeWriting, ComesWithoutNet, judgement_of_report, status_after}
 use Rattle.commands.proofs.InStep.{HasRounds, in_step, whole_rounds}
 
@@ -63,15 +65,16 @@ text_alone held holds before now kept count text Cut written = inl (written, ref
 wrong : unsaid.NetFault ≡ unsaid.OutOfMemory → ⊥
 wrong same = absurd cc
 
--- only a run is stopped by a fault of the network
-pub stops_run : (command : Command) (input : List ℕ) (before now : ℕ) → Stops command input before now unsaid.NetFault → (command ≡ Run) × StopsRun input before now unsaid.NetFault
-stops_run Decode input before now stopped = absurd (wrong stopped.0)
-stops_run Encode input before now stopped = absurd (wrong stopped.0)
-stops_run Describe input before now stopped = absurd (wrong stopped.0)
-stops_run Reference input before now stopped = absurd (wrong stopped.0)
-stops_run Talk input before now stopped = absurd (wrong stopped.0)
-stops_run Replay input before now stopped = absurd (wrong stopped.0)
-stops_run Run input before now stopped = (refl, stopped)
+-- a fault of the network stops a command only where its count rose
+pub stops_rose : (command : Command) (input : List ℕ) (before now : ℕ) → Stops command input before now unsaid.NetFault → Rose before now
+stops_rose Decode input before now stopped = absurd (wrong stopped.0)
+stops_rose Encode input before now stopped = absurd (wrong stopped.0)
+stops_rose Describe input before now stopped = absurd (wrong stopped.0)
+stops_rose Reference input before now stopped = absurd (wrong stopped.0)
+stops_rose Talk input before now stopped = absurd (wrong stopped.0)
+stops_rose Replay input before now stopped = absurd (wrong stopped.0)
+stops_rose Run input before now stopped = stopped.1
+stops_rose (Soak number) input before now stopped = stopped.1
 
 -- where memory was wanting, the network has not failed
 pub stops_still : (command : Command) (input : List ℕ) (before now : ℕ) → Stops command input before now unsaid.OutOfMemory → now ≡ before
@@ -82,6 +85,7 @@ stops_still Reference input before now stopped = stopped.1
 stops_still Talk input before now stopped = stopped.1
 stops_still Replay input before now stopped = stopped.1
 stops_still Run input before now stopped = stopped
+stops_still (Soak number) input before now stopped = stopped
 
 -- a text that no scenario is, refused at its first line that is refused
 pub refused_run : (net : NetTold) (input : List ℕ) (refusal : TextRefused) (said : Said) → length input ≤ 1048576 → IsFirstBad scenario_why_at input refusal → RefusesText refusal said
@@ -103,21 +107,48 @@ shown host sound run (reports.Finished steps) reported =
     (finished_acknowledged host.scenario sound host.log run steps reported, finished_is_exchanged host.scenario sound host.log run steps reported)
 shown host sound run (reports.Failed slave phase cause) reported = failed_first host.scenario sound host.log run slave phase cause reported
 
+-- a run whose ends followed their rules and whose master has this report
+runs_to : (net : NetTold) (input : List ℕ) (host : HostView) (report : Report) → HasEnded net input host → IsScenario host.scenario → host.hosted ≡ all_ends
+    → IfSome (master_in host) (λ rules. Follows rules host.log) → All (λ rules. Follows rules host.log) (slaves_in host) → report_after host ≡ Some report
+    → RunsTo net input report (run_text host report) (run_trace input host)
+runs_to net input host report ended sound hosted master slaves reported =
+    let whole = ended.run.whole in
+    let rounds : HasRounds host = record { sound = sound; hosted = hosted; count = suc whole.count; rounds = whole_rounds host whole; master = master; slaves = slaves } in
+    record { host = host; ended = ended; master = master; slaves = slaves; reported = reported; shows = shown host sound (of_master host hosted master) report reported; text_is = refl; trace_is = refl; in_step = in_step host rounds report reported }
+
 -- what is delivered of a run is what the command says of its text
 pub run_says : (held holds : Option (List ℕ)) (before now : ℕ) (kept keeps : Option (List ℕ)) (began ends : ℕ) (net : NetTold) (input : List ℕ) (host : HostView) (status : Status)
     → HasEnded net input host → RunDelivered held holds before now kept keeps began ends input host status → Delivered held holds before now kept keeps began ends Run net input status
 run_says held holds before now kept keeps began ends net input host status ended run =
     let text = run_text host run.report in
     let traced = run_trace input host in
-    let whole = ended.run.whole in
-    let rounds : HasRounds host = record { sound = run.sound; hosted = run.hosted; count = suc whole.count; rounds = whole_rounds host whole; master = run.master; slaves = run.slaves } in
-    let runs : RunsTo net input run.report text traced =
-    record { host = host; ended = ended; master = run.master; slaves = run.slaves; reported = run.reported; shows = shown host run.sound (of_master host run.hosted run.master) run.report run.reported; text_is = refl; trace_is = refl; in_step = in_step host rounds run.report run.reported } in
+    let runs = runs_to net input host run.report ended run.sound run.hosted run.master run.slaves run.reported in
     (judgement_of_report run.report, run.delivery, text, traced, says run.report text traced runs, run.delivered, run.status_is)
   where
     says : (report : Report) (text traced : List ℕ) → RunsTo net input report text traced → SaysRun net input (judgement_of_report report) text traced
     says (reports.Finished steps) text traced runs = (steps, runs)
     says (reports.Failed slave phase cause) text traced runs = (slave, phase, cause, runs)
+
+-- what is delivered of a run of a number's scenario is what the command says of its text
+pub soak_says : (held holds : Option (List ℕ)) (before now : ℕ) (kept : Option (List ℕ)) (count : ℕ) (net : NetTold) (input : List ℕ) (number : ℕ) (host : HostView) (status : Status)
+    → HasEnded net input host → SoakDelivered held holds before now number host status → Delivered held holds before now kept kept count count (Soak number) net input status
+unfolding runs_to
+soak_says held holds before now kept count net input number host status ended run =
+    let text = summary number run.report (rows_after host) in
+    let soaks : SoaksTo number net input run.report text =
+    record { printed = run_text host run.report; traced = run_trace input host; run = runs_to net input host run.report ended run.sound run.hosted run.master run.slaves run.reported; text_is = refl } in
+    (judgement_of_report run.report, run.delivery, text, [], (says run.report text soaks, refl), text_alone held holds before now kept count text run.delivery run.delivered, run.status_is)
+  where
+    says : (report : Report) (text : List ℕ) → SoaksTo number net input report text → SaysSoak number net input (judgement_of_report report) text
+    says (reports.Finished steps) text soaks = (steps, soaks)
+    says (reports.Failed slave phase cause) text soaks = (slave, phase, cause, soaks)
+
+-- a refusal of a run's text is one of a number's text
+pub refused_soak : (number : ℕ) (net : NetTold) (input : List ℕ) (said : Said) → RanOrRefused (answers.Said said) → Gives Run net input (answers.Said said) → Gives (Soak number) net input (answers.Said said)
+refused_soak number net input said refused given =
+    let Ran : Judgement → Type 0 = λ judgement. SaysRun net input judgement (text_of said.text) [] in
+    let Soaked : Judgement → Type 0 = λ judgement. SaysSoak number net input judgement (text_of said.text) in
+    (subst Soaked (sym refused) (subst Ran refused given).0, refl)
 
 -- what is delivered of a trace that went through is what the command says of it
 pub replay_says : (held holds : Option (List ℕ)) (before now : ℕ) (kept : Option (List ℕ)) (count : ℕ) (net : NetTold) (input : List ℕ) (scenario : Scenario) (replayed : Replayed) (status : Status)
@@ -163,16 +194,19 @@ pub replay_gives : (net : NetTold) (input : List ℕ) (answer : Answer) → Give
 replay_gives net input (answers.Said said) given = (given, refl)
 replay_gives net input (answers.Ran host) given = absurd given
 replay_gives net input (answers.Replayed scenario replayed) given = (refl, given.1)
+replay_gives net input (answers.Soaked number host) given = absurd given
 
 pub replay_writable : (input : List ℕ) (answer : Answer) → GivesReplay input answer → IsWritableAnswer input answer
 replay_writable input (answers.Said said) given = tt
 replay_writable input (answers.Ran host) given = absurd given
 replay_writable input (answers.Replayed scenario replayed) given = given.0
+replay_writable input (answers.Soaked number host) given = absurd given
 
 pub replay_alone : (input : List ℕ) (answer : Answer) → GivesReplay input answer → IsAlone answer
 replay_alone input (answers.Said said) given = tt
 replay_alone input (answers.Ran host) given = absurd given
 replay_alone input (answers.Replayed scenario replayed) given = tt
+replay_alone input (answers.Soaked number host) given = absurd given
 
 module _ (words : List (List ℕ)) (source out trace : Change) (net : NetChange) where
   pub outcome_is : (judgement : Judgement) (delivery : Delivery) → Answered words source out trace net judgement delivery → Outcome words source out trace net (status_after judgement delivery)
@@ -198,7 +232,7 @@ module _ (words : List (List ℕ)) (source out trace : Change) (net : NetChange)
   outcome_free OutOfMemory outcome named read written traced called = tt
   outcome_free Usage outcome named read written traced called = outcome.1 named
   outcome_free ReadFault outcome named read written traced called = read outcome.3
-  outcome_free NetFault outcome named read written traced called = called outcome.4.1
+  outcome_free NetFault outcome named read written traced called = called (stops_rose outcome.0 outcome.1 net.before net.now outcome.5)
   outcome_free Differs outcome named read written traced called = tt
   outcome_free WriteFault (inl good) named read written traced called = elim (cut_failed Good good) [ inl first ↦ written first | inr second ↦ traced second ]
   outcome_free WriteFault (inr (inl failed)) named read written traced called = elim (cut_failed Failed failed) [ inl first ↦ written first | inr second ↦ traced second ]

@@ -1,24 +1,32 @@
 -- The words that name a command.
-use Rattle.std.specs.Prelude.{◌≡◌, ℕ, List, [], ◌∷◌, codes}
+use Rattle.std.specs.Prelude.{◌≡◌, ◌⊎◌, ℕ, ◌≤◌, Option, Some, None, Ok, List, [], ◌∷◌, length, codes}
+use Rattle.text_lines.specs.Numbers.{number_from}
 use Rattle.commands.specs.declared.command_words.Command.{Command}
-use Rattle.commands.specs.declared.command_words.Command.TheVariants.{Decode, Encode, Describe, Reference, Talk, Run, Replay}
+use Rattle.commands.specs.declared.command_words.Command.TheVariants.{Decode, Encode, Describe, Reference, Talk, Run, Replay, Soak}
 
-abbrev pub command_word : Command → List ℕ
-command_word Decode = codes "decode"
-command_word Encode = codes "encode"
-command_word Describe = codes "describe"
-command_word Reference = codes "reference"
-command_word Talk = codes "talk"
-command_word Run = codes "run"
-command_word Replay = codes "replay"
+-- one to six decimal digits
+abbrev pub IsSoakNumber : (word : List ℕ) → (number : ℕ) → Type 0
+IsSoakNumber word number = (length word ≤ 6) × (number_from 0 999999 word ≡ Ok number)
 
--- some command has this word
-abbrev pub IsWord : List ℕ → Type 0
-IsWord word = (command : Command) × (word ≡ command_word command)
-
--- the command's word is all that was said
+-- all the words that are said for each command
 abbrev pub Names : List (List ℕ) → Command → Type 0
-Names words command = words ≡ command_word command ∷ []
+Names words Decode = words ≡ codes "decode" ∷ []
+Names words Encode = words ≡ codes "encode" ∷ []
+Names words Describe = words ≡ codes "describe" ∷ []
+Names words Reference = words ≡ codes "reference" ∷ []
+Names words Talk = words ≡ codes "talk" ∷ []
+Names words Run = words ≡ codes "run" ∷ []
+Names words Replay = words ≡ codes "replay" ∷ []
+Names words (Soak number) = (word : List ℕ) × (words ≡ codes "soak" ∷ word ∷ []) × IsSoakNumber word number
 
 abbrev pub IsCommand : List (List ℕ) → Type 0
 IsCommand words = (command : Command) × Names words command
+
+-- the number of the scenario that the command makes by itself, and does not read
+abbrev pub own_number : Command → Option ℕ
+own_number (Soak number) = Some number
+own_number _ = None
+
+-- the words name a command that runs a scenario over the network
+abbrev pub NamesRun : List (List ℕ) → Type 0
+NamesRun words = Names words Run ⊎ ((number : ℕ) × Names words (Soak number))

@@ -3,6 +3,7 @@ pub mod CommandWords
 pub mod Statuses
 pub mod Limits
 pub mod Inputs
+pub mod Given
 pub mod Said
 pub mod Refusals
 pub mod SaysDecoded
@@ -12,6 +13,7 @@ pub mod SaysReference
 pub mod SaysTalk
 pub mod InStep
 pub mod SaysRun
+pub mod SaysSoak
 pub mod SaysReplay
 pub mod Says
 pub mod Answers

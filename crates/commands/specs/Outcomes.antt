@@ -1,7 +1,6 @@
 -- What a call of the program answers, by its status: why, what of the source was taken, and what was written.
 use Rattle.std.specs.Prelude.{◌≡◌, ◌⊎◌, ℕ, List, [], codes}
 use Rattle.commands.specs.declared.command_words.Command.{Command}
-use Rattle.commands.specs.declared.command_words.Command.TheVariants.{Run}
 use Rattle.commands.specs.declared.answers.Unsaid.TheVariants as unsaid
 use Rattle.commands.specs.declared.statuses.Status.{Status}
 use Rattle.commands.specs.declared.statuses.Status.TheVariants.{Done, Usage, BadInput, RunFailed, ReadFault, WriteFault, NetFault, OutOfMemory, Differs}
@@ -13,10 +12,8 @@ use Rattle.byte_spool.specs.declared.outputs.Delivery.TheVariants.{Whole, Cut}
 use Rattle.run_text.specs.Runs.{DeliversBoth}
 use Rattle.commands.specs.Changes.{Change, NetChange, HasFailed, HasNotFailed}
 use Rattle.commands.specs.CommandWords.{Names, IsCommand}
-use Rattle.commands.specs.Inputs.{TakesInput, TakesSome}
-use Rattle.commands.specs.Limits.{limit_of}
-use Rattle.commands.specs.Says.{Says}
-use Rattle.commands.specs.SaysRun.{StopsRun}
+use Rattle.commands.specs.Given.{TakesFor, TakesSomeFor}
+use Rattle.commands.specs.Says.{Says, Stops}
 
 -- these words were given, and this happened to the source, the two sinks and the network
 module _ (words : List (List ℕ)) (source out trace : Change) (net : NetChange) where
@@ -28,11 +25,11 @@ module _ (words : List (List ℕ)) (source out trace : Change) (net : NetChange)
   abbrev pub WritesNothing : Type 0
   WritesNothing = HasNotFailed out × HasNotFailed trace
 
-  -- the words name a command, the whole input was taken and neither a read nor the network failed, the command judged it so, and what it says of it was written so
+  -- the words name a command, the whole input was taken or made and neither a read nor the network failed, the command judged it so, and what it says of it was written so
   abbrev pub Answered : Judgement → Delivery → Type 0
   Answered judgement delivery =
       (command : Command) × (input : List ℕ) × (text : List ℕ) × (traced : List ℕ)
-      × Names words command × TakesInput (limit_of command) source.was source.is input × HasNotFailed source
+      × Names words command × TakesFor source.was source.is command input × HasNotFailed source
       × Says command net.told input judgement text traced × Wrote text traced delivery × (net.now ≡ net.before)
 
   abbrev pub Outcome : Status → Type 0
@@ -41,11 +38,11 @@ module _ (words : List (List ℕ)) (source out trace : Change) (net : NetChange)
   Outcome WriteFault = Answered Good Cut ⊎ (Answered Failed Cut ⊎ Answered judged.Differs Cut)
   Outcome BadInput = (delivery : Delivery) × Answered Refused delivery
   Outcome Usage = (delivery : Delivery) × (IsCommand words → ⊥) × HasNotFailed source × Wrote (codes "usage\n") [] delivery
-  Outcome ReadFault = (command : Command) × Names words command × TakesSome (limit_of command) source.was source.is × HasFailed source × WritesNothing
+  Outcome ReadFault = (command : Command) × Names words command × TakesSomeFor source.was source.is command × HasFailed source × WritesNothing
   Outcome NetFault =
-      (input : List ℕ) × Names words Run × TakesInput (limit_of Run) source.was source.is input × HasNotFailed source
-      × StopsRun input net.before net.now unsaid.NetFault × WritesNothing
-  Outcome OutOfMemory = (command : Command) × Names words command × TakesSome (limit_of command) source.was source.is × HasNotFailed source × WritesNothing × (net.now ≡ net.before)
+      (command : Command) × (input : List ℕ) × Names words command × TakesFor source.was source.is command input × HasNotFailed source
+      × Stops command input net.before net.now unsaid.NetFault × WritesNothing
+  Outcome OutOfMemory = (command : Command) × Names words command × TakesSomeFor source.was source.is command × HasNotFailed source × WritesNothing × (net.now ≡ net.before)
   Outcome Differs = Answered judged.Differs Whole
 
 -- the answers to a command whose objects do not fail

@@ -59,6 +59,7 @@ pub record GoesThrough (input : List ℕ) (scenario : Scenario) (replayed : repl
 abbrev pub GivesReplay : (input : List ℕ) → Answer → Type 0
 GivesReplay input (answers.Said said) = SaysReplay input said.judgement (text_of said.text)
 GivesReplay input (answers.Ran host) = ⊥
+GivesReplay input (answers.Soaked number host) = ⊥
 GivesReplay input (answers.Replayed scenario replayed) = IsScenario scenario × GoesThrough input scenario replayed
 
 -- the status follows from a report and its delivery

@@ -1,7 +1,7 @@
 //! What a command answers to an input, and the writing of it.
 
-ghost use Rattle.std.specs.Prelude.{◌≡◌, List};
-ghost use Rattle.commands.specs.Answers.{Delivered, Gives, IsRefusal, IsAlone, IsWritable, IsWritableAnswer, RunDelivered};
+ghost use Rattle.std.specs.Prelude.{◌≡◌, ℕ, List};
+ghost use Rattle.commands.specs.Answers.{Delivered, Gives, IsRefusal, IsAlone, IsWritable, IsWritableAnswer, RunDelivered, SoakDelivered};
 ghost use Rattle.commands.specs.Replays.{FollowsReport, ReplayDelivered};
 ghost use Rattle.replays.specs.Replays.{IsReplayed};
 ghost use Rattle.scenario.specs.Sound.{IsScenario};
@@ -19,6 +19,7 @@ use master_spec::Report;
 use replays::Replayed;
 use run_text::{write_report, write_run};
 use scenario::Scenario;
+use soaks::write_summary;
 
 /// What a command answers to an input.
 #[derive(Drop)]
@@ -31,6 +32,11 @@ pub enum Answer {
     Replayed {
         scenario: Scenario,
         replayed: Replayed,
+    },
+    /// The host of all ends of the scenario of this number, which have run until the master had its report.
+    Soaked {
+        number: u32,
+        host: Host,
     },
 }
 
@@ -99,6 +105,22 @@ fn deliver_replayed<K: Sink>(out: &mut K, scenario: &Scenario, replayed: &Replay
     judgement_of(replayed.report).status(delivery)
 }
 
+/// Writes the line of the report and the sum of the rows of a run of the number's scenario.
+fn deliver_soak<K: Sink>(out: &mut K, number: u32, host: &Host) -> Status
+    requires { (input : List ℕ) × IsWritable input host.now }
+    ensures { SoakDelivered (K.written out.old) (K.written out.new) (K.faults out.old) (K.faults out.new) number host.now result }
+{
+    let Some(task) = host.master_task() else {
+        unreachable!()
+    };
+    let Some(report) = host.report() else {
+        unreachable!()
+    };
+    let _log = host.log();
+    let delivery = write_summary(out, number, host.scenario(), task.end(), report);
+    judgement_of(report).status(delivery)
+}
+
 /// Writes a text to the one sink and nothing to the other; or what a run leaves to both.
 pub fn deliver<K: Sink, R: Sink>(out: &mut K, trace: &mut R, answer: Answer, input: &[u8]) -> Status
     requires { IsWritableAnswer input.now answer }
@@ -113,5 +135,6 @@ pub fn deliver<K: Sink, R: Sink>(out: &mut K, trace: &mut R, answer: Answer, inp
         Answer::Said(said) => said.judgement.status(write_text(out, &said.text)),
         Answer::Ran(host) => deliver_run(out, trace, &host, input),
         Answer::Replayed { scenario, replayed } => deliver_replayed(out, &scenario, &replayed),
+        Answer::Soaked { number, host } => deliver_soak(out, number, &host),
     }
 }

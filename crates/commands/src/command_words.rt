@@ -1,10 +1,14 @@
 //! The commands by their words.
 
-ghost use Rattle.std.specs.Prelude.{◌≡◌, MatchOption};
-ghost use Rattle.commands.specs.CommandWords.{command_word, IsWord};
+ghost use Rattle.std.specs.Prelude.{◌≡◌, ◌∷◌, [], ℕ, MatchOption};
+ghost use Rattle.commands.specs.CommandWords.{IsCommand, IsSoakNumber, Names, own_number};
 ghost use Rattle.commands.specs.Limits.{limit_of};
 
 use crate::inputs::{LIMIT, TRACE_LIMIT};
+use text_lines::number_from;
+
+/// The most digits of the number of `soak`.
+const SOAK_DIGITS: usize = 6;
 
 /// What the program can be asked for.
 #[derive(Clone, Copy, Debug, PartialEq, Eq)]
@@ -23,12 +27,14 @@ pub enum Command {
     Run,
     /// Goes through the trace of a run again, and prints the rows and the report that it goes to.
     Replay,
+    /// Runs the scenario of this number over the network, and prints its report and the sum of its rows.
+    Soak(u32),
 }
 
 impl Command {
-    /// The command with this word; none where there is none.
+    /// The command that is named by this word alone; none where there is none.
     pub fn from_word(word: &str) -> Option<Command>
-        ensures { MatchOption result (IsWord word.now → ⊥) (λ command. word.now ≡ command_word command) }
+        ensures { MatchOption result (IsCommand (word.now ∷ []) → ⊥) (Names (word.now ∷ [])) }
     {
         if word == "decode" {
             return Some(Command::Decode);
@@ -54,6 +60,29 @@ impl Command {
         None
     }
 
+    /// The command that is named by these two words; none where there is none.
+    pub fn from_two_words(word: &str, number: &str) -> Option<Command>
+        ensures { MatchOption result (IsCommand (word.now ∷ number.now ∷ []) → ⊥) (Names (word.now ∷ number.now ∷ [])) }
+    {
+        if word != "soak" {
+            return None;
+        }
+        match soak_number(number) {
+            Some(number) => Some(Command::Soak(number)),
+            None => None,
+        }
+    }
+
+    /// The number of the scenario that the command makes by itself, and does not read.
+    pub fn own_number(self) -> Option<u32>
+        ensures { result ≡ own_number self }
+    {
+        match self {
+            Command::Soak(number) => Some(number),
+            _ => None,
+        }
+    }
+
     /// The most bytes of its input: a trace is longer than a text.
     pub fn limit(self) -> usize
         ensures { result ≡ limit_of self }
@@ -62,5 +91,19 @@ impl Command {
             Command::Replay => TRACE_LIMIT,
             _ => LIMIT,
         }
+    }
+}
+
+/// A number of one to six decimal digits; none for any other word.
+fn soak_number(word: &str) -> Option<u32>
+    ensures { MatchOption result ((number : ℕ) → IsSoakNumber word.now number → ⊥) (IsSoakNumber word.now) }
+{
+    let digits = word.as_bytes();
+    if digits.len() > SOAK_DIGITS {
+        return None;
+    }
+    match number_from(0, 999_999, digits) {
+        Ok(number) => Some(number as u32),
+        Err(_) => None,
     }
 }

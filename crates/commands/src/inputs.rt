@@ -1,10 +1,15 @@
 //! Reading an input to its end, or to one byte past its limit.
 
-ghost use Rattle.std.specs.Prelude.{◌≤◌};
+ghost use Rattle.std.specs.Prelude.{◌≡◌, ◌≤◌, ◌≢◌, None};
+ghost use Rattle.commands.specs.CommandWords.{own_number};
+ghost use Rattle.commands.specs.Given.{GivesBy, IsMade};
 ghost use Rattle.commands.specs.Inputs.{Gathers};
+ghost use Rattle.commands.specs.Limits.{limit_of};
 
+use crate::command_words::Command;
 use bytes::BytesMut;
 use dcp_io::{Read, Source};
+use soaks::soak_text;
 use std::alloc::Global;
 
 /// The most bytes of a text, or of a message.
@@ -46,4 +51,30 @@ pub fn read_input<S: Source>(alloc: Global, source: &mut S, limit: usize) -> Gat
         }
     }
     Gathered::Bytes(gathered)
+}
+
+/// What a command is given to judge: the text of the scenario of its number, where it makes one, and else
+/// what is left of the source.
+pub(crate) fn input_for<S: Source>(alloc: Global, command: Command, source: &mut S) -> Gathered
+    ensures gives { GivesBy (S.left source.old) (S.left source.new) (own_number command) (limit_of command) (S.faults source.old) (S.faults source.new) result }
+    ensures unread { own_number command ≢ None → source.new ≡ source.old }
+{
+    match command.own_number() {
+        Some(number) => made_input(alloc, number),
+        None => read_input(alloc, source, command.limit()),
+    }
+}
+
+/// The text of the scenario of a number.
+fn made_input(alloc: Global, number: u32) -> Gathered
+    ensures { IsMade number result }
+{
+    let Ok(text) = soak_text(alloc, number) else {
+        return Gathered::OutOfMemory;
+    };
+    let mut gathered = BytesMut::new(alloc);
+    match gathered.extend_from_slice(text.as_bytes()) {
+        Ok(()) => Gathered::Bytes(gathered),
+        Err(_) => Gathered::OutOfMemory,
+    }
 }

@@ -1,7 +1,8 @@
 //! What each command says of an input.
 
-ghost use Rattle.std.specs.Prelude.{◌≡◌, ◌⊎◌, IfErr, IfOk};
+ghost use Rattle.std.specs.Prelude.{◌≡◌, ◌≢◌, ◌⊎◌, None, IfErr, IfOk};
 ghost use Rattle.commands.specs.Answers.{Gives, IsRefusal, IsAlone, IsWritableAnswer};
+ghost use Rattle.commands.specs.CommandWords.{own_number};
 ghost use Rattle.commands.specs.Says.{Stops};
 
 mod decode;
@@ -10,6 +11,7 @@ mod encode;
 mod reference;
 mod replay;
 mod run;
+mod soak;
 mod talk;
 
 use crate::answers::{Answer, Unsaid};
@@ -17,8 +19,8 @@ use crate::command_words::Command;
 use dcp_net::Net;
 use std::alloc::Global;
 
-/// What the command says of an input that was read. Only `run` calls the network, and only where its text
-/// reads.
+/// What the command says of an input that was read. Only `run` and `soak` call the network, and only
+/// where their text reads.
 pub fn say<N: Net>(
     alloc: Global,
     command: Command,
@@ -30,7 +32,8 @@ pub fn say<N: Net>(
     ensures refused { IfOk result (λ answer. IsRefusal answer → net.new ≡ net.old) }
     ensures still { IfOk result (λ answer. N.count net.new ≡ N.count net.old) }
     ensures stopped { IfErr result (Stops command input.now (N.count net.old) (N.count net.new)) }
-    ensures alone { (command ≡ Command.Run) ⊎ (IfOk result IsAlone × (net.new ≡ net.old)) }
+    ensures alone { (command ≡ Command.Run) ⊎ IfOk result IsAlone }
+    ensures uncalled { (command ≡ Command.Run) ⊎ ((own_number command ≢ None) ⊎ (net.new ≡ net.old)) }
 {
     match command {
         Command::Decode => Ok(Answer::Said(decode::say_decoded(alloc, input)?)),
@@ -40,5 +43,6 @@ pub fn say<N: Net>(
         Command::Talk => Ok(Answer::Said(talk::say_talk(alloc, input)?)),
         Command::Run => run::say_run(alloc, input, net),
         Command::Replay => Ok(replay::say_replay(alloc, input)?),
+        Command::Soak(number) => soak::say_soak(alloc, number, input, net),
     }
 }

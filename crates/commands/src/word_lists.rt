@@ -59,6 +59,7 @@ impl Words {
     {
         match self.words.as_slice() {
             [word] => Command::from_word(word.as_str()),
+            [word, number] => Command::from_two_words(word.as_str(), number.as_str()),
             _ => None,
         }
     }

@@ -81,6 +81,12 @@ fn run_all(rt: &impl Abort, alloc: Global, table: &str) -> Result<(), Fail> {
 const NO_COMMANDS: &str = "\
 |slave count/|1|usage/
 run now|slave count/|1|usage/
+soak||1|usage/
+soak +5||1|usage/
+soak 1234567||1|usage/
+soak 5 5||1|usage/
+soak 0x1||1|usage/
+5 soak||1|usage/
 --help|slave count/|1|usage/
 decode decode|slave count/|1|usage/
 Decode|slave count/|1|usage/
@@ -162,6 +168,15 @@ run|runs 2/steps 3/master 127.0.0.1 9000/slave count/uuid 00000000-0000-0000-000
 run|runs 2/steps 3/master 127.0.0.1 9000/slave count/uuid 00000000-0000-0000-0000-000000000001/address 127.0.0.1 9001/model ramp 0 1/output 1 uint32/rerun_set 2 count 0 100/copy 1 f0 1 69/|0|0 0/1 1/2 2/3 3/4 100/5 101/6 102/7 103/finished 3/
 run|runs 2/steps 3/master 127.0.0.1 9000/slave fall/uuid 00000000-0000-0000-0000-000000000001/address 127.0.0.1 9001/model ramp 3 -1/output 1 int32/slave da/uuid 00000000-0000-0000-0000-000000000002/address 127.0.0.1 9002/model divider 12/input 1 int32/output 2 int32/slave db/uuid 00000000-0000-0000-0000-000000000003/address 127.0.0.1 9003/model divider -7/input 1 int32/output 2 int32/wire fall 0 da 0/wire fall 0 db 0/rerun_set 2 fall 0 1/|3|0 3 0 0/1 2 262144 -152918/2 1 393216 -229376/3 0 786432 -458752/4 1 0 0/5 0 786432 -458752/failed slave 2 phase 24 Faulted seq 50 code 33/";
 
+/// Scenarios that are made by their number; the input is not read.
+const SOAKS: &str = "\
+soak 0||0|soak 0 slaves 2 steps 200 finished 200/sum 20100/
+soak 000||0|soak 0 slaves 2 steps 200 finished 200/sum 20100/|1
+soak 1|slave count/|0|soak 1 slaves 3 steps 201 finished 201/sum 40401/
+soak 7||0|soak 7 slaves 9 steps 207 finished 207/sum 82650/
+soak 15||0|soak 15 slaves 2 steps 215 finished 215/sum 23220/
+soak 0||5||||0";
+
 /// Reads and writes that fail, and sinks with little room.
 const FAULTS: &str = "\
 describe|slave count/uuid 00000000-0000-0000-0000-000000000001/address 127.0.0.1 9001/model counter 1000/output 1 uint32/|4||2
@@ -175,6 +190,11 @@ decode|#b0020001|5||||0";
 #[test]
 fn words_that_name_no_command_are_usage(rt: HostRuntime) -> Result<(), Fail> {
     run_all(&rt, rt.alloc(), NO_COMMANDS)
+}
+
+#[test]
+fn soak_writes_the_report_and_the_sum_of_the_rows(rt: HostRuntime) -> Result<(), Fail> {
+    run_all(&rt, rt.alloc(), SOAKS)
 }
 
 #[test]

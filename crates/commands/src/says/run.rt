@@ -1,7 +1,7 @@
 //! The command `run`: a run of a scenario over the network.
 
 ghost use Rattle.std.specs.Prelude.{◌≡◌, IfOk, IfErr};
-ghost use Rattle.commands.specs.Answers.{Gives, IsRefusal, IsWritableAnswer};
+ghost use Rattle.commands.specs.Answers.{Gives, IsRefusal, IsWritableAnswer, RanOrRefused};
 ghost use Rattle.commands.specs.SaysRun.{StopsRun};
 ghost use Rattle.commands.specs.declared.command_words.Command.TheVariants.{Run};
 
@@ -19,6 +19,7 @@ use std::alloc::Global;
 pub fn say_run<N: Net>(alloc: Global, input: &[u8], net: &mut N) -> Result<Answer, Unsaid>
     ensures says { IfOk result (Gives Run (record { calls = N.calls net.new; opening = N.opening net.new }) input.now) }
     ensures writable { IfOk result (IsWritableAnswer input.now) }
+    ensures ran { IfOk result RanOrRefused }
     ensures refused { IfOk result (λ answer. IsRefusal answer → net.new ≡ net.old) }
     ensures still { IfOk result (λ answer. N.count net.new ≡ N.count net.old) }
     ensures stopped { IfErr result (StopsRun input.now (N.count net.old) (N.count net.new)) }
