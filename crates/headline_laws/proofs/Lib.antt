@@ -1,2 +1,5 @@
 pub mod Behaving
 pub mod Moments
+pub mod Rows
+pub mod Headline
+pub mod Others
