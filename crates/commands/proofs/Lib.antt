@@ -1,2 +1,4 @@
 pub mod Pieces
+pub mod InStep
 pub mod Outcomes
+pub mod Memory

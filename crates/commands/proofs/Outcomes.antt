@@ -1,5 +1,5 @@
 -- What was made of an input and written is the outcome of its status.
-use Rattle.std.proofs.Common.{◌≡◌, ◌⊎◌, ◌≤◌, inl, inr, ℕ, List, [], length, Option, Some, refl, sym, ap, subst, ◌∙◌}
+use Rattle.std.proofs.Common.{◌≡◌, ◌⊎◌, ◌≤◌, inl, inr, ℕ, suc, List, [], length, Option, Some, refl, sym, ap, subst, ◌∙◌}
 use Rattle.dcp_io.specs.Faults.{Rose}
 use Rattle.byte_spool.specs.declared.outputs.Delivery.{Delivery}
 use Rattle.byte_spool.specs.declared.outputs.Delivery.TheVariants.{Whole, Cut}
@@ -52,6 +52,7 @@ use Rattle.commands.specs.Outcomes.{Answered, IsFree, Outcome}
 use Rattle.commands.specs.Says.{Stops}
 use Rattle.commands.specs.SaysRun.{HasEnded, NetTold, RunsTo, SaysRun, ShowsEnd, StopsRun, report_after, run_text, run_trace}
 use Rattle.commands.specs.Statuses.{ComesBeforeWriting, ComesWithoutNet, judgement_of_report, status_after}
+use Rattle.commands.proofs.InStep.{HasRounds, in_step, whole_rounds}
 
 -- a text that was written to the one sink, with nothing for the other
 pub text_alone : (held holds : Option (List ℕ)) (before now : ℕ) (kept : Option (List ℕ)) (count : ℕ) (text : List ℕ) (delivery : Delivery)
@@ -108,8 +109,10 @@ pub run_says : (held holds : Option (List ℕ)) (before now : ℕ) (kept keeps :
 run_says held holds before now kept keeps began ends net input host status ended run =
     let text = run_text host run.report in
     let traced = run_trace input host in
+    let whole = ended.run.whole in
+    let rounds : HasRounds host = record { sound = run.sound; hosted = run.hosted; count = suc whole.count; rounds = whole_rounds host whole; master = run.master; slaves = run.slaves } in
     let runs : RunsTo net input run.report text traced =
-    record { host = host; ended = ended; master = run.master; slaves = run.slaves; reported = run.reported; shows = shown host run.sound (of_master host run.hosted run.master) run.report run.reported; text_is = refl; trace_is = refl } in
+    record { host = host; ended = ended; master = run.master; slaves = run.slaves; reported = run.reported; shows = shown host run.sound (of_master host run.hosted run.master) run.report run.reported; text_is = refl; trace_is = refl; in_step = in_step host rounds run.report run.reported } in
     (judgement_of_report run.report, run.delivery, text, traced, says run.report text traced runs, run.delivered, run.status_is)
   where
     says : (report : Report) (text traced : List ℕ) → RunsTo net input report text traced → SaysRun net input (judgement_of_report report) text traced

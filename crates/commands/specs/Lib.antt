@@ -10,6 +10,7 @@ pub mod SaysEncoded
 pub mod SaysDescribed
 pub mod SaysReference
 pub mod SaysTalk
+pub mod InStep
 pub mod SaysRun
 pub mod SaysReplay
 pub mod Says

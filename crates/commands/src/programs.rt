@@ -4,12 +4,12 @@ ghost use Rattle.std.specs.Prelude.{◌≡◌, ◌⊎◌};
 ghost use Rattle.std.specs.Process.{exit_status};
 ghost use Rattle.commands.specs.declared.command_words.Command.TheVariants.{Run};
 ghost use Rattle.commands.specs.CommandWords.{Names};
-ghost use Rattle.commands.specs.Programs.{ExitsWith};
+ghost use Rattle.commands.specs.Programs.{ExitsWith, RunsInStep};
 
 use crate::top_calls::run_words;
 use crate::word_lists::Words;
 use dcp_io::{StdSink, StdSource};
-use net_world::MemoryNet;
+use net_world::SureNet;
 use std::alloc::Global;
 use std::io;
 use std::process::ExitCode;
@@ -28,7 +28,8 @@ pub struct Ended<R, W, E> {
 }
 
 /// Does what the words say over a reader, a writer and a writer of the trace, with a network in memory,
-/// and gives the exit status. Where they tell their bytes, the clauses of `run_words` hold of these.
+/// and gives the exit status. Where they tell their bytes, the clauses of `run_words` hold of these. The
+/// network does not fail, and is honest: a run that has its report is in step with the reference.
 pub fn run_program<R: io::Read + Drop, W: io::Write + Drop, E: io::Write + Drop>(
     alloc: Global,
     words: &Words,
@@ -41,12 +42,17 @@ pub fn run_program<R: io::Read + Drop, W: io::Write + Drop, E: io::Write + Drop>
     ensures unread { exit_status result.code ≡ 1 → result.reader ≡ reader }
     ensures unwritten { exit_status result.code ≡ 4 → (result.writer ≡ writer) × (result.errors ≡ errors) }
     ensures untouched { Names words.now Run ⊎ (result.errors ≡ errors) }
+    ensures in_step { Names words.now Run → (exit_status result.code ≡ 0) ⊎ (exit_status result.code ≡ 3)
+        → RunsInStep (R.remaining reader) (R.remaining result.reader) (W.contents writer) (W.contents result.writer) (E.contents errors) (E.contents result.errors) (exit_status result.code) }
+    ensures sure { exit_status result.code ≡ 6 → ⊥ }
 {
     let mut source = StdSource::new(reader);
     let mut out = StdSink::new(writer);
     let mut trace = StdSink::new(errors);
-    let mut net = MemoryNet::new(alloc);
+    let mut net = SureNet::new(alloc);
     let status = run_words(alloc, words, &mut source, &mut out, &mut trace, &mut net);
+    // Its clauses say that what the network gave was sent not long before.
+    let _sent = net.sent();
     Ended {
         code: status.exit_code(),
         reader: source.into_inner(),

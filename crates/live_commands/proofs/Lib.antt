@@ -1,3 +1,4 @@
 pub mod Live
+pub mod InStep
 pub mod Outcomes
 pub mod Words

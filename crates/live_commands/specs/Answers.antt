@@ -66,9 +66,10 @@ module _ (held holds : Option (List ℕ)) (before now : ℕ) (kept keeps : Optio
       (judgement : Judgement) × (delivery : Delivery) × (text : List ℕ) × (traced : List ℕ)
       × SaysLive words net input judgement text traced × DeliversBoth held holds before now kept keeps began ends text traced delivery × (status ≡ status_after judgement delivery)
 
-  -- what a run leaves was delivered: its text, and the trace of ends that followed their rules
+  -- what a run of a sound scenario leaves was delivered: its text, and the trace of ends that followed their rules
   pub record RunDelivered (input : List ℕ) (run : Run) (status : Status) : Type 0 where
     pub delivery : Delivery
+    pub sound : IsScenario run.host.scenario
     pub master : IfSome (master_in run.host) (λ rules. Follows rules run.host.log)
     pub slaves : All (λ rules. Follows rules run.host.log) (slaves_in run.host)
     pub delivered : DeliversBoth held holds before now kept keeps began ends (ended_text run.host run.ending) (trace_bytes (bits_in run.part (length run.host.scenario.slaves)) input run.host.log) delivery

@@ -14,6 +14,7 @@ use Rattle.host.specs.Hosting.{opening_of, slave_setup}
 use Rattle.host.specs.Views.{HostView, Tells, master_in, slaves_in}
 use Rattle.commands.specs.declared.statuses.Judgement.{Judgement}
 use Rattle.commands.specs.declared.statuses.Judgement.TheVariants as judged
+use Rattle.commands.specs.InStep.{IsInStepIfHonest}
 use Rattle.commands.specs.Limits.{input_limit}
 use Rattle.commands.specs.Statuses.{judgement_of_report}
 use Rattle.commands.specs.Refusals.{line_refusal}
@@ -58,7 +59,7 @@ ComesTo parts.All host judgement text = ReportsOn host judgement text
 ComesTo parts.Master host judgement text = ReportsOn host judgement text
 ComesTo (parts.Slave s) host judgement text = LinesOf host s judgement text
 
--- There is a run of the ends that the words name, in whose log each of them follows its rules, and it came to this. The trace is that of the run.
+-- There is a run of the ends that the words name, in whose log each of them follows its rules, and it came to this. The trace is that of the run. Where all ends are hosted, it keeps to the lockstep of the scenario's reference over an honest network.
 pub record LivesTo (words : List (List ℕ)) (net : LiveChange) (input : List ℕ) (judgement : Judgement) (text trace : List ℕ) : Type 0 where
   pub part : Part
   pub host : HostView
@@ -67,6 +68,7 @@ pub record LivesTo (words : List (List ℕ)) (net : LiveChange) (input : List �
   pub slaves : All (λ rules. Follows rules host.log) (slaves_in host)
   pub comes : ComesTo part host judgement text
   pub trace_is : trace ≡ trace_bytes (bits_in part (length host.scenario.slaves)) input host.log
+  pub in_step : part ≡ parts.All → (report : Report) → report_after host ≡ Some report → IsInStepIfHonest host.scenario host.log report text
 
 -- the text is a scenario that has no slave of the name
 abbrev pub NoSlave : List (List ℕ) → List ℕ → List ℕ → Type 0

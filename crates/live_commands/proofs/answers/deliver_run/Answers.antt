@@ -20,6 +20,7 @@ returns g c =
     ∙ ap (λ (log : List LogEntry). trace_bytes (bits_in run.part (length run.host.scenario.slaves)) c.args.input.now log) c.log.ensures.log in
     record {
       delivery = delivery;
+      sound = c.requires.sound;
       master = c.log.ensures.follows_master c.requires.unfaulted;
       slaves = c.log.ensures.follows c.requires.unfaulted;
       delivered = subst Both traced c.write_both-delivery.ensures;
