@@ -1,4 +1,4 @@
-use Rattle.std.proofs.Common.{◌≡◌, ap, subst, ◌∙◌}
+use Rattle.std.proofs.Common.{ap, subst, ◌∙◌}
 use Rattle.std.specs.Prelude.{reverse}
 use Rattle.dcp_ends.specs.Logs.{events_at}
 use Rattle.byte_spool.specs.Outputs.{Delivers}
