@@ -1,6 +1,6 @@
 -- A run over a network in memory is in step with the reference of its scenario.
 use Rattle.std.proofs.Common.{◌≡◌, ◌⊎◌, inl, inr, ℕ, false, true≢false, eq-eqb, List, [], ◌∷◌, Option, Some, None, Result, Ok, refl, sym, ap, subst, ◌∙◌, arith, codes}
-use Rattle.std.specs.Prelude.{◌==◌, IfSome}
+use Rattle.std.specs.Prelude.{ℤ, ◌==◌, ◌++◌, IfSome}
 use Rattle.dcp_ends.specs.declared.entries.LogEntry.{LogEntry}
 use Rattle.slave_desc.specs.declared.descriptions.SlaveDesc.{SlaveDesc}
 use Rattle.byte_spool.specs.declared.outputs.Delivery.TheVariants.{Whole}
@@ -25,16 +25,19 @@ use Rattle.commands.specs.declared.statuses.Status.TheVariants.{Done, Usage, Bad
 use Rattle.commands.specs.Changes.{Change}
 use Rattle.commands.specs.CommandWords.{Names}
 use Rattle.commands.specs.Given.{TakesFor}
+use Rattle.commands.specs.InStep.{SumsInStep}
 use Rattle.commands.specs.Inputs.{TakesInput}
 use Rattle.commands.specs.Limits.{input_limit}
 use Rattle.commands.specs.Outcomes.{Answered, Outcome}
 use Rattle.commands.specs.Programs.{RunsInStep, SoaksInStep, ToldInMemory, sure_change}
 use Rattle.commands.specs.Says.{Says}
 use Rattle.commands.specs.SaysRun.{NetTold, RunsTo, SaysRun}
-use Rattle.commands.specs.SaysSoak.{SaysSoak, SoaksTo}
+use Rattle.commands.specs.SaysSoak.{SaysSoak, SoaksTo, rows_after}
+use Rattle.soaks.specs.Summaries.{first_line, sum_text}
 use Rattle.soaks.specs.Texts.{soak_text}
 use Rattle.commands.specs.Statuses.{judgement_of_report, status_after, status_code}
 use Rattle.commands.proofs.InStep.{sums_in_step}
+use Rattle.commands.proofs.Summed.{sum_is_whole}
 use Rattle.commands.proofs.Named.{one_not_two}
 use Rattle.commands.proofs.Outcomes.{stops_rose}
 
@@ -177,7 +180,10 @@ module _ (words : List (List ℕ)) (source out trace : Change) (told : NetTold) 
     soaked report input text traced taken soak written =
         let Of : List ℕ → Type 0 = λ bytes. SoaksTo number told bytes report text in
         let own : SoaksTo number told (soak_text number) report text = subst Of taken.0 soak in
+        let host = own.run.host in
         let run = own.run in
+        let steps : (other : SlaveDesc) → SumsInStep host.scenario other host.log report (rows_after host) =
+        λ other. sums_in_step host report run.reported other (run.in_step other (is_honest told memory host run.ended.run.told other)).keeps in
         record {
           net = told;
           report = report;
@@ -188,7 +194,8 @@ module _ (words : List (List ℕ)) (source out trace : Change) (told : NetTold) 
           printed = written.0.0;
           untraced = untraced;
           status = refl;
-          in_step = λ other. sums_in_step run.host report run.reported other (run.in_step other (is_honest told memory run.host run.ended.run.told other)).keeps;
+          in_step = steps;
+          exact = own.text_is ∙ ap (λ (sum : ℤ). first_line number report ++ sum_text sum) (sum_is_whole host.scenario run.sound host.log report (rows_after host) steps);
         }
 
     -- an answer to the words is of the number's scenario
