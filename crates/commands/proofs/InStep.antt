@@ -1,5 +1,5 @@
 -- A run of all ends over an honest network is in step with the reference of its scenario.
-use Rattle.std.proofs.Common.{◌≡◌, ℕ, suc, ◌+◌, ◌-◌, ◌≤◌, ◌<◌, Bool, true, false, true≢false, Option, Some, None, List, [], ◌∷◌, length, map, reverse, refl, sym, ap, ◌∙◌, subst, arith}
+use Rattle.std.proofs.Common.{◌≡◌, ℕ, suc, ◌+◌, ◌-◌, ◌≤◌, ◌<◌, Bool, true, false, true≢false, Option, Some, None, List, [], ◌∷◌, ◌++◌, length, map, reverse, refl, sym, ap, ◌∙◌, subst, arith}
 use Rattle.std.specs.Prelude.{ℤ, All, IfSome}
 use Rattle.std.proofs.lemmas.Bool.{cond-true}
 use Rattle.std.specs.List.{list_all, range_with_len}
@@ -27,12 +27,13 @@ use Rattle.host.specs.Views.{HostView, master_in, slaves_in}
 use Rattle.scenario_runs.specs.Runs.{IsWhole, all_ends}
 use Rattle.run_laws.specs.Laws.{IsRunInRounds, parties, slave_rules}
 use Rattle.run_laws.proofs.Rounded.{rounds_are_runs}
-use Rattle.headline_laws.specs.Headline.{IsInLockstep}
+use Rattle.headline_laws.specs.Headline.{IsInLockstep, KeepsToReference}
 use Rattle.headline_laws.proofs.Headline.{keep_to_reference}
 use Rattle.report_text.specs.Closings.{reference_text, report_text}
 use Rattle.run_text.proofs.Outputs.{table_is_rows}
-use Rattle.commands.specs.InStep.{IsInStepIfHonest, PrintsReference}
+use Rattle.commands.specs.InStep.{IsInStepIfHonest, PrintsReference, SumsInStep}
 use Rattle.commands.specs.SaysRun.{master_events, report_after, run_text}
+use Rattle.commands.specs.SaysSoak.{rows_after}
 
 -- ---- all ends are hosted
 
@@ -126,6 +127,24 @@ in_step host has report reported other honest =
     let steps_are : (steps : ℕ) → report ≡ Finished steps → steps ≡ host.scenario.steps =
     λ steps finished. (finished_acknowledged host.scenario has.sound host.log run.master steps (reported ∙ ap (λ (r : Report). Some r) finished)).steps_are in
     record { keeps = keeps; prints = prints host report reported other keeps.rows keeps.fault (keeps.always [] (reverse host.log) refl) steps_are }
+
+-- where the log keeps to the reference, the rows of its master are those of the reference
+pub sums_in_step : (host : HostView) (report : Report) → report_after host ≡ Some report → (other : SlaveDesc) → KeepsToReference host.scenario other host.log
+    → SumsInStep host.scenario other host.log report (rows_after host)
+sums_in_step host report reported other keeps =
+    let now = keeps.always [] (reverse host.log) refl in
+    let same : rows_after host ≡ (course_at (setup_from host.scenario) (reverse host.log)).rows = table_is_rows host.scenario (master_events host) ∙ sym (rows_are host report reported) in
+    record {
+      keeps = keeps;
+      sums = record {
+        rest = now.front.0;
+        front = now.front.1 ∙ ap (λ (summed : List (List ℤ)). summed ++ now.front.0) (sym same);
+        whole = λ steps finished. (
+            let ends = now.whole steps (report_is host report reported ∙ ap (λ (r : Report). Some r) finished) in
+            (same ∙ ends.0, ends.1)
+            );
+      };
+    }
 
 -- whole runs are whole rounds
 pub whole_rounds : (host : HostView) (whole : IsWhole host) → Rounds (master_in host) (slaves_in host) (suc whole.count) host.log

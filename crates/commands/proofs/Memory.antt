@@ -1,6 +1,6 @@
 -- A run over a network in memory is in step with the reference of its scenario.
-use Rattle.std.proofs.Common.{◌≡◌, ◌⊎◌, inl, inr, ℕ, false, true≢false, eq-eqb, List, [], ◌∷◌, Option, Some, None, refl, sym, subst, ◌∙◌, arith, codes}
-use Rattle.std.specs.Prelude.{◌==◌, IfSome}
+use Rattle.std.proofs.Common.{◌≡◌, ◌⊎◌, inl, inr, ℕ, false, true≢false, eq-eqb, List, [], ◌∷◌, Option, Some, None, Result, Ok, refl, sym, ap, subst, ◌∙◌, arith, codes}
+use Rattle.std.specs.Prelude.{ℤ, ◌==◌, ◌++◌, IfSome}
 use Rattle.dcp_ends.specs.declared.entries.LogEntry.{LogEntry}
 use Rattle.slave_desc.specs.declared.descriptions.SlaveDesc.{SlaveDesc}
 use Rattle.byte_spool.specs.declared.outputs.Delivery.TheVariants.{Whole}
@@ -13,6 +13,8 @@ use Rattle.net_world.specs.World.{calls_of, opening_of}
 use Rattle.rounds.specs.Steps.{without_turns}
 use Rattle.run_text.specs.Runs.{DeliversBoth}
 use Rattle.run_laws.specs.Laws.{parties}
+use Rattle.text_lines.specs.Numbers.{number_from}
+use Rattle.text_lines.specs.declared.reasons.TextWhy.{TextWhy}
 use Rattle.host.specs.Views.{HostView, Tells}
 use Rattle.commands.specs.declared.command_words.Command.{Command}
 use Rattle.commands.specs.declared.command_words.Command.TheVariants.{Decode, Encode, Describe, Reference, Talk, Run, Replay, Soak}
@@ -23,13 +25,19 @@ use Rattle.commands.specs.declared.statuses.Status.TheVariants.{Done, Usage, Bad
 use Rattle.commands.specs.Changes.{Change}
 use Rattle.commands.specs.CommandWords.{Names}
 use Rattle.commands.specs.Given.{TakesFor}
+use Rattle.commands.specs.InStep.{SumsInStep}
 use Rattle.commands.specs.Inputs.{TakesInput}
 use Rattle.commands.specs.Limits.{input_limit}
 use Rattle.commands.specs.Outcomes.{Answered, Outcome}
-use Rattle.commands.specs.Programs.{RunsInStep, ToldInMemory, sure_change}
+use Rattle.commands.specs.Programs.{RunsInStep, SoaksInStep, ToldInMemory, sure_change}
 use Rattle.commands.specs.Says.{Says}
 use Rattle.commands.specs.SaysRun.{NetTold, RunsTo, SaysRun}
+use Rattle.commands.specs.SaysSoak.{SaysSoak, SoaksTo, rows_after}
+use Rattle.soaks.specs.Summaries.{first_line, sum_text}
+use Rattle.soaks.specs.Texts.{soak_text}
 use Rattle.commands.specs.Statuses.{judgement_of_report, status_after, status_code}
+use Rattle.commands.proofs.InStep.{sums_in_step}
+use Rattle.commands.proofs.Summed.{sum_is_whole}
 use Rattle.commands.proofs.Named.{one_not_two}
 use Rattle.commands.proofs.Outcomes.{stops_rose}
 
@@ -67,6 +75,25 @@ is_run words Replay named run = by (sym named ∙ run)
     by e = absurd cc
 is_run words Run named run = refl
 is_run words (Soak number) named run = absurd (one_not_two words _ _ named.0 run named.1)
+
+-- the words of a number's scenario name no other command, and no other number
+is_soak : (words : List (List ℕ)) (command : Command) (number : ℕ) → Names words command → Names words (Soak number) → command ≡ Soak number
+is_soak words Decode number named soak = absurd (one_not_two words _ _ soak.0 named soak.1)
+is_soak words Encode number named soak = absurd (one_not_two words _ _ soak.0 named soak.1)
+is_soak words Describe number named soak = absurd (one_not_two words _ _ soak.0 named soak.1)
+is_soak words Reference number named soak = absurd (one_not_two words _ _ soak.0 named soak.1)
+is_soak words Talk number named soak = absurd (one_not_two words _ _ soak.0 named soak.1)
+is_soak words Run number named soak = absurd (one_not_two words _ _ soak.0 named soak.1)
+is_soak words Replay number named soak = absurd (one_not_two words _ _ soak.0 named soak.1)
+is_soak words (Soak other) number named soak =
+    let same : named.0 ≡ soak.0 = second named.0 soak.0 (sym named.1 ∙ soak.1) in
+    ap Soak (value (number_from 0 999999 soak.0) other number (sym (ap (λ (word : List ℕ). number_from 0 999999 word) same) ∙ named.2.1) soak.2.1)
+  where
+    second : (a b : List ℕ) → codes "soak" ∷ a ∷ [] ≡ codes "soak" ∷ b ∷ [] → a ≡ b
+    second a b e = cc
+
+    value : (read : Result ℕ TextWhy) (a b : ℕ) → read ≡ Ok a → read ≡ Ok b → a ≡ b
+    value read a b p q = cc
 
 -- the log of a host over such a network is honest
 is_honest : (net : NetTold) → ToldInMemory net → (host : HostView) → Tells net.calls host.log → (other : SlaveDesc) → Honest (parties host.scenario other) host.log
@@ -141,3 +168,61 @@ module _ (words : List (List ℕ)) (source out trace : Change) (told : NetTold) 
     is_in_step NetFault outcome code = absurd (neither 6 refl refl code)
     is_in_step OutOfMemory outcome code = absurd (neither 7 refl refl code)
     is_in_step Differs outcome code = absurd (neither 8 refl refl code)
+
+  -- the same of a number's scenario, where the writer of the trace is as it was
+  module _ (memory : ToldInMemory told) (number : ℕ) (named : Names words (Soak number)) (untraced : trace.is ≡ trace.was) where
+    abbrev pub Soaked : Status → Type 0
+    Soaked status = SoaksInStep number source.was source.is out.was out.is trace.was trace.is (status_code status)
+
+    -- a run whose line and sum were written whole
+    soaked : (report : Report) (input text traced : List ℕ) → TakesFor source.was source.is (Soak number) input → SoaksTo number told input report text
+        → DeliversBoth out.was out.is out.before out.now trace.was trace.is trace.before trace.now text traced Whole → Soaked (status_after (judgement_of_report report) Whole)
+    soaked report input text traced taken soak written =
+        let Of : List ℕ → Type 0 = λ bytes. SoaksTo number told bytes report text in
+        let own : SoaksTo number told (soak_text number) report text = subst Of taken.0 soak in
+        let host = own.run.host in
+        let run = own.run in
+        let steps : (other : SlaveDesc) → SumsInStep host.scenario other host.log report (rows_after host) =
+        λ other. sums_in_step host report run.reported other (run.in_step other (is_honest told memory host run.ended.run.told other)).keeps in
+        record {
+          net = told;
+          report = report;
+          text = text;
+          unread = taken.1;
+          memory = memory;
+          soak = own;
+          printed = written.0.0;
+          untraced = untraced;
+          status = refl;
+          in_step = steps;
+          exact = own.text_is ∙ ap (λ (sum : ℤ). first_line number report ++ sum_text sum) (sum_is_whole host.scenario run.sound host.log report (rows_after host) steps);
+        }
+
+    -- an answer to the words is of the number's scenario
+    module _ (judgement : Judgement) (answered : Answered words source out trace (sure_change told) judgement Whole) where
+      is_number : answered.0 ≡ Soak number
+      is_number = is_soak words answered.0 number answered.4 named
+
+      took_none : TakesFor source.was source.is (Soak number) answered.1
+      took_none = let Taken : Command → Type 0 = λ command. TakesFor source.was source.is command answered.1 in subst Taken is_number answered.5
+
+      says_soak : SaysSoak number told answered.1 judgement answered.2
+      says_soak = let Said : Command → Type 0 = λ command. Says command told answered.1 judgement answered.2 answered.3 in (subst Said is_number answered.7).0
+
+    soaked_good : Answered words source out trace (sure_change told) Good Whole → Soaked Done
+    soaked_good answered = let said = says_soak Good answered in soaked (reports.Finished said.0) answered.1 answered.2 answered.3 (took_none Good answered) said.1 answered.8
+
+    soaked_failed : Answered words source out trace (sure_change told) Failed Whole → Soaked RunFailed
+    soaked_failed answered =
+        let said = says_soak Failed answered in soaked (reports.Failed said.0 said.1 said.2) answered.1 answered.2 answered.3 (took_none Failed answered) said.3 answered.8
+
+    pub soaks_in_step : (status : Status) → Outcome words source out trace (sure_change told) status → (status_code status ≡ 0) ⊎ (status_code status ≡ 3) → Soaked status
+    soaks_in_step Done outcome code = soaked_good outcome
+    soaks_in_step RunFailed outcome code = soaked_failed outcome
+    soaks_in_step Usage outcome code = absurd (neither 1 refl refl code)
+    soaks_in_step BadInput outcome code = absurd (neither 2 refl refl code)
+    soaks_in_step ReadFault outcome code = absurd (neither 4 refl refl code)
+    soaks_in_step WriteFault outcome code = absurd (neither 5 refl refl code)
+    soaks_in_step NetFault outcome code = absurd (neither 6 refl refl code)
+    soaks_in_step OutOfMemory outcome code = absurd (neither 7 refl refl code)
+    soaks_in_step Differs outcome code = absurd (neither 8 refl refl code)

@@ -114,7 +114,7 @@ runs_to : (net : NetTold) (input : List ℕ) (host : HostView) (report : Report)
 runs_to net input host report ended sound hosted master slaves reported =
     let whole = ended.run.whole in
     let rounds : HasRounds host = record { sound = sound; hosted = hosted; count = suc whole.count; rounds = whole_rounds host whole; master = master; slaves = slaves } in
-    record { host = host; ended = ended; master = master; slaves = slaves; reported = reported; shows = shown host sound (of_master host hosted master) report reported; text_is = refl; trace_is = refl; in_step = in_step host rounds report reported }
+    record { host = host; ended = ended; sound = sound; master = master; slaves = slaves; reported = reported; shows = shown host sound (of_master host hosted master) report reported; text_is = refl; trace_is = refl; in_step = in_step host rounds report reported }
 
 -- what is delivered of a run is what the command says of its text
 pub run_says : (held holds : Option (List ℕ)) (before now : ℕ) (kept keeps : Option (List ℕ)) (began ends : ℕ) (net : NetTold) (input : List ℕ) (host : HostView) (status : Status)

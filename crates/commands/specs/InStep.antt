@@ -24,6 +24,17 @@ pub record KeepsInStep (sc : Scenario) (other : SlaveDesc) (log : List LogEntry)
   pub keeps : KeepsToReference sc other log
   pub prints : PrintsReference sc keeps.rows keeps.fault report text
 
+-- The rows that are summed are a front of the reference's. Where the run finished they are all of them, and the reference has no fault.
+pub record SumsReference (rows : List (List ℤ)) (fault : Option RefFault) (report : Report) (summed : List (List ℤ)) : Type 0 where
+  pub rest : List (List ℤ)
+  pub front : rows ≡ summed ++ rest
+  pub whole : (steps : ℕ) → report ≡ Finished steps → (summed ≡ rows) × (fault ≡ None)
+
+-- The log keeps to the reference of its scenario from its first moment to its last, and the rows that are summed are those of that reference. other stands for slaves that are not there.
+pub record SumsInStep (sc : Scenario) (other : SlaveDesc) (log : List LogEntry) (report : Report) (summed : List (List ℤ)) : Type 0 where
+  pub keeps : KeepsToReference sc other log
+  pub sums : SumsReference keeps.rows keeps.fault report summed
+
 -- so it is, if each datagram that was got had been sent so not long before
 abbrev pub IsInStepIfHonest : Scenario → List LogEntry → Report → (text : List ℕ) → Type 0
 IsInStepIfHonest sc log report text = (other : SlaveDesc) → Honest (parties sc other) log → KeepsInStep sc other log report text

@@ -1,18 +1,22 @@
 -- How the program ends over a reader and two writers.
-use Rattle.std.specs.Prelude.{◌≡◌, ℕ, List, [], Option, Some, MatchOption}
+use Rattle.std.specs.Prelude.{◌≡◌, ℕ, List, [], ◌++◌, Option, Some, MatchOption}
 use Rattle.std.specs.Io.KnownBytes.{Appends}
 use Rattle.byte_spool.specs.declared.outputs.Delivery.TheVariants.{Whole}
 use Rattle.dcp_ends.specs.declared.entries.LogEntry.{LogEntry}
 use Rattle.slave_desc.specs.declared.descriptions.SlaveDesc.{SlaveDesc}
 use Rattle.master_spec.specs.declared.reports.Report.{Report}
 use Rattle.net_world.specs.Calls.{AllRecent, GivesDue}
+use Rattle.soaks.specs.Summaries.{first_line, sum_text}
+use Rattle.soaks.specs.Sums.{whole_sum}
+use Rattle.soaks.specs.Texts.{soak_text}
 use Rattle.commands.specs.declared.statuses.Status.{Status}
 use Rattle.commands.specs.Changes.{Change, NetChange}
-use Rattle.commands.specs.InStep.{KeepsInStep}
+use Rattle.commands.specs.InStep.{KeepsInStep, SumsInStep}
 use Rattle.commands.specs.Inputs.{TakesInput}
 use Rattle.commands.specs.Limits.{input_limit}
 use Rattle.commands.specs.Outcomes.{Outcome}
 use Rattle.commands.specs.SaysRun.{NetTold, RunsTo}
+use Rattle.commands.specs.SaysSoak.{SoaksTo, rows_after}
 use Rattle.commands.specs.Statuses.{judgement_of_report, status_after, status_code}
 
 -- an object that has had no fault before
@@ -51,3 +55,17 @@ pub record RunsInStep (left rest held holds kept keeps : Option (List ℕ)) (cod
   pub traced : Appends kept keeps trace
   pub status : code ≡ status_code (status_after (judgement_of_report report) Whole)
   pub in_step : (other : SlaveDesc) → KeepsInStep run.host.scenario other run.host.log report text
+
+-- There is a run of the scenario of this number over a network in memory. The reader and the writer of the trace are as they were, the line of its report and the sum of its rows were written to the other writer, and the status is that of its report. It keeps to the lockstep of the scenario's reference, whose rows it sums, and the sum that is written is the whole number that it is.
+pub record SoaksInStep (number : ℕ) (left rest held holds kept keeps : Option (List ℕ)) (code : ℕ) : Type 0 where
+  pub net : NetTold
+  pub report : Report
+  pub text : List ℕ
+  pub unread : rest ≡ left
+  pub memory : ToldInMemory net
+  pub soak : SoaksTo number net (soak_text number) report text
+  pub printed : Appends held holds text
+  pub untraced : keeps ≡ kept
+  pub status : code ≡ status_code (status_after (judgement_of_report report) Whole)
+  pub in_step : (other : SlaveDesc) → SumsInStep soak.run.host.scenario other soak.run.host.log report (rows_after soak.run.host)
+  pub exact : text ≡ first_line number report ++ sum_text (whole_sum (rows_after soak.run.host))

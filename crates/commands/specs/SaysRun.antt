@@ -7,6 +7,7 @@ use Rattle.dcp_ends.specs.declared.entries.LogEntry.{LogEntry}
 use Rattle.dcp_net.specs.declared.openings.Opening.{Opening}
 use Rattle.dcp_record.specs.Traces.{trace_bytes}
 use Rattle.scenario.specs.declared.scenarios.Scenario.{Scenario}
+use Rattle.scenario.specs.Sound.{IsScenario}
 use Rattle.scenario_text.specs.Reads.{ReadsAsScenario}
 use Rattle.master_spec.specs.declared.causes.Cause.{Cause}
 use Rattle.master_spec.specs.declared.reports.Report.{Report}
@@ -70,10 +71,11 @@ abbrev pub ShowsEnd : Scenario → List LogEntry → Report → Type 0
 ShowsEnd sc log (reports.Finished steps) = IsFinished (setup_from sc) (reverse log) steps × AllExchanged (setup_from sc) (reverse log)
 ShowsEnd sc log (reports.Failed id phase cause) = (slave : Slave) × ((slave.id ≡ id) × First (setup_from sc) (reverse log) slave phase cause)
 
--- There is a run of the scenario that the text is, in whose log each end follows its rules, and after which its master has this report, which the log shows. The text is its rows and the report, and the trace is that of the run. Over an honest network it keeps to the lockstep of the scenario's reference.
+-- There is a run of the scenario that the text is, which is a sound one, in whose log each end follows its rules, and after which its master has this report, which the log shows. The text is its rows and the report, and the trace is that of the run. Over an honest network it keeps to the lockstep of the scenario's reference.
 pub record RunsTo (net : NetTold) (input : List ℕ) (report : Report) (text trace : List ℕ) : Type 0 where
   pub host : HostView
   pub ended : HasEnded net input host
+  pub sound : IsScenario host.scenario
   pub master : IfSome (master_in host) (λ rules. Follows rules host.log)
   pub slaves : All (λ rules. Follows rules host.log) (slaves_in host)
   pub reported : report_after host ≡ Some report

@@ -1,10 +1,10 @@
 //! The program over readers and writers of the standard library.
 
-ghost use Rattle.std.specs.Prelude.{◌≡◌, ◌⊎◌};
+ghost use Rattle.std.specs.Prelude.{◌≡◌, ◌⊎◌, ℕ};
 ghost use Rattle.std.specs.Process.{exit_status};
-ghost use Rattle.commands.specs.declared.command_words.Command.TheVariants.{Run};
+ghost use Rattle.commands.specs.declared.command_words.Command.TheVariants.{Run, Soak};
 ghost use Rattle.commands.specs.CommandWords.{Names};
-ghost use Rattle.commands.specs.Programs.{ExitsWith, RunsInStep};
+ghost use Rattle.commands.specs.Programs.{ExitsWith, RunsInStep, SoaksInStep};
 
 use crate::top_calls::run_words;
 use crate::word_lists::Words;
@@ -29,7 +29,8 @@ pub struct Ended<R, W, E> {
 
 /// Does what the words say over a reader, a writer and a writer of the trace, with a network in memory,
 /// and gives the exit status. Where they tell their bytes, the clauses of `run_words` hold of these. The
-/// network does not fail, and is honest: a run that has its report is in step with the reference.
+/// network does not fail, and is honest: a run that has its report is in step with the reference, of `run`
+/// and of `soak`.
 pub fn run_program<R: io::Read + Drop, W: io::Write + Drop, E: io::Write + Drop>(
     alloc: Global,
     words: &Words,
@@ -44,6 +45,8 @@ pub fn run_program<R: io::Read + Drop, W: io::Write + Drop, E: io::Write + Drop>
     ensures untouched { Names words.now Run ⊎ (result.errors ≡ errors) }
     ensures in_step { Names words.now Run → (exit_status result.code ≡ 0) ⊎ (exit_status result.code ≡ 3)
         → RunsInStep (R.remaining reader) (R.remaining result.reader) (W.contents writer) (W.contents result.writer) (E.contents errors) (E.contents result.errors) (exit_status result.code) }
+    ensures soaks_in_step { (number : ℕ) → Names words.now (Soak number) → (exit_status result.code ≡ 0) ⊎ (exit_status result.code ≡ 3)
+        → SoaksInStep number (R.remaining reader) (R.remaining result.reader) (W.contents writer) (W.contents result.writer) (E.contents errors) (E.contents result.errors) (exit_status result.code) }
     ensures sure { exit_status result.code ≡ 6 → ⊥ }
 {
     let mut source = StdSource::new(reader);

@@ -2,13 +2,12 @@
 use Rattle.std.proofs.Common.{◌≡◌, ℕ, zero, suc, ◌+◌, List, [], ◌∷◌, ◌++◌, length, take, refl, sym, ap, ◌∙◌, arith, append-nil, append_assoc, Option, Some}
 use Rattle.std.specs.Prelude.{ℤ, ◌+ℤ◌, pos, fold, slice_get, option_to_list}
 use Rattle.std.specs.Int.{w128, int_wrap}
-use Rattle.std.specs.List.{flat_map}
 use Rattle.std.proofs.lemmas.Grind.{flat_map-append}
 use Rattle.std.proofs.lemmas.Int.{int_wrap-add_left}
 use Rattle.std.proofs.lemmas.List.Sums.{fold-append}
 use Rattle.slave_desc.specs.declared.descriptions.SlaveDesc.{SlaveDesc}
 use Rattle.run_text.specs.Tables.{first_rows, outputs_of, ports_of}
-use Rattle.soaks.specs.Sums.{plus, sum_of}
+use Rattle.soaks.specs.Sums.{plus, sum_of, values_of}
 
 -- to wrap on the way changes nothing
 wrapped : (a : ℤ) (values : List ℤ) → fold plus (int_wrap w128 a) values ≡ int_wrap w128 (fold (λ x y. x +ℤ y) a values)
@@ -51,9 +50,6 @@ slave_more sum value ds j d e =
     ∙ ap (λ (i : ℕ). fold plus sum (outputs_of value 1 (take j ds) ++ ports_of (value i) (length d.outputs))) at
     ∙ ap (λ (l : List ℤ). fold plus sum l) (outputs_more value 1 ds j d e)
     ∙ ap (λ (m : ℕ). fold plus sum (outputs_of value 1 (take m ds))) next
-
-abbrev pub values_of : List (List ℤ) → List ℤ
-values_of rows = flat_map (λ row. row) rows
 
 -- one row more
 pub row_more : (sum : ℤ) (row : ℕ → List ℤ) (n : ℕ) → fold plus (fold plus sum (values_of (first_rows row n))) (row n) ≡ fold plus sum (values_of (first_rows row (n + 1)))

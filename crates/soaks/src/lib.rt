@@ -6,10 +6,12 @@
 #![tactic(auto)]
 
 mod draws;
+mod laws;
 mod slaves;
 mod summaries;
 mod sums;
 mod texts;
 
+pub use laws::sums_are_exact;
 pub use summaries::write_summary;
 pub use texts::soak_text;

@@ -1,10 +1,11 @@
-use Rattle.std.proofs.Common.{◌≡◌, ◌⊎◌, ℕ, ap, subst, sym, ◌∙◌}
+use Rattle.std.proofs.Common.{◌≡◌, ◌⊎◌, inl, inr, ℕ, ap, subst, sym, ◌∙◌}
 use Rattle.commands.specs.Changes.{Change}
 use Rattle.commands.specs.Outcomes.{Outcome}
-use Rattle.commands.specs.Programs.{RunsInStep, change_of, sure_change}
+use Rattle.commands.specs.Programs.{RunsInStep, SoaksInStep, change_of, sure_change}
 use Rattle.commands.specs.SaysRun.{NetTold}
 use Rattle.commands.proofs.Outcomes.{change, same_change}
-use Rattle.commands.proofs.Memory.{is_in_step, is_sure, told_in_memory}
+use Rattle.commands.proofs.Memory.{is_in_step, is_sure, soaks_in_step, told_in_memory}
+use Rattle.commands.proofs.Named.{one_not_two}
 use Rattle.net_world.specs.World.{calls_of, opening_of}
 use Rattle.commands.proofs.programs.run_program.Goals as goal
 
@@ -52,6 +53,24 @@ returns-clause-in_step g c = λ named code.
     let written = change_of (contents c.args.writer) (contents c.into_inner-2.result) ends.2 in
     let traced = change_of (texts c.args.errors) (texts c.into_inner-3.result) ends.3 in
     subst Coded (sym ends.5) (is_in_step c.args.words.now read written traced ends.4 ends.7 named ends.0 ends.6 (subst Ended ends.5 code))
+
+pub returns-clause-soaks_in_step : goal.returns-clause-soaks_in_step
+returns-clause-soaks_in_step g c = λ number named code.
+    let remaining = g.R.Read.remaining in
+    let contents = g.W.Write.contents in
+    let texts = g.E.Write.contents in
+    let ends = returns-clause-outcome g c in
+    let Coded : ℕ → Type 0 = λ n. SoaksInStep number (remaining c.args.reader) (remaining c.into_inner.result) (contents c.args.writer) (contents c.into_inner-2.result)
+    (texts c.args.errors) (texts c.into_inner-3.result) n in
+    let Ended : ℕ → Type 0 = λ n. (n ≡ 0) ⊎ (n ≡ 3) in
+    let read = change_of (remaining c.args.reader) (remaining c.into_inner.result) ends.1 in
+    let written = change_of (contents c.args.writer) (contents c.into_inner-2.result) ends.2 in
+    let traced = change_of (texts c.args.errors) (texts c.into_inner-3.result) ends.3 in
+    let same : texts c.into_inner-3.result ≡ texts c.args.errors = elim c.run_words-status.ensures.untouched [
+      | inl run ↦ absurd (one_not_two c.args.words.now _ _ named.0 run named.1)
+      | inr still ↦ ap (λ e. texts e) (c.into_inner-3.ensures ∙ ap (λ t. t.inner) still ∙ c.new-trace.ensures.inner)
+    ] in
+    subst Coded (sym ends.5) (soaks_in_step c.args.words.now read written traced ends.4 ends.7 number named same ends.0 ends.6 (subst Ended ends.5 code))
 
 pub returns-clause-sure : goal.returns-clause-sure
 returns-clause-sure g c = λ code.

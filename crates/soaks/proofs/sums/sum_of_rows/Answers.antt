@@ -5,8 +5,8 @@ use Rattle.std.proofs.lemmas.Int.{to_z-of_z}
 use Rattle.master_spec.specs.Course.{course}
 use Rattle.master_core.specs.Standing.{setup_of}
 use Rattle.run_text.specs.Tables.{first_rows, row_after, table_after}
-use Rattle.soaks.specs.Sums.{plus}
-use Rattle.soaks.proofs.Adding.{all_is, row_more, values_of}
+use Rattle.soaks.specs.Sums.{plus, values_of}
+use Rattle.soaks.proofs.Adding.{all_is, row_more}
 use Rattle.soaks.proofs.sums.sum_of_rows.Goals as goal
 
 pub loop-k-preserved : goal.loop-k-preserved

@@ -4,8 +4,7 @@ use Rattle.std.specs.Prelude.{pos, fold, reverse}
 use Rattle.dcp_ends.specs.Events.{Event}
 use Rattle.master_core.specs.Standing.{StandsAfter, setup_of}
 use Rattle.run_text.specs.Tables.{first_rows, row_after}
-use Rattle.soaks.specs.Sums.{plus}
-use Rattle.soaks.proofs.Adding.{values_of}
+use Rattle.soaks.specs.Sums.{plus, values_of}
 use Rattle.soaks.proofs.sums.sum_of_rows.Given as goal
 
 abbrev pub invariant-loop-k : goal.invariant-loop-k
