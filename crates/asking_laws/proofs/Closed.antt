@@ -10,10 +10,10 @@ use Rattle.master_spec.specs.declared.reactions.Reaction.{Reaction}
 use Rattle.master_spec.specs.declared.reactions.Reaction.TheVariants.{Wait, Ask, Repeat, GiveUp}
 use Rattle.master_spec.specs.declared.causes.Cause.TheVariants as causes
 use Rattle.master_spec.specs.Jobs.{Job}
-use Rattle.master_spec.specs.News.{bytes_of}
-use Rattle.master_spec.specs.Marks.{Mark, Begun, Asked, Again, Answered, Hinted, Brought, Turned, Ended, asked, latest, open_in, open_request, job_of, has_ended, turns_since, is_sending, newest_number, sendings}
+use Rattle.master_spec.specs.News.{request_bytes}
+use Rattle.master_spec.specs.Marks.{Mark, Begun, Asked, Again, Answered, Hinted, Brought, Turned, Ended, asked, latest, open_in, open_request, job_of, conversation_ended, turns_since, is_sending, newest_number, sendings}
 use Rattle.master_spec.specs.Conversation.{awaited_by, on_hint, on_turn, on_silence, on_mark, reaction_in, reaction, done, messages_of}
-use Rattle.asking_laws.specs.Closed.{answered, open_count, IsFit, MayCome, AsksWhenClosed, StaysFit}
+use Rattle.asking_laws.specs.Closed.{answered_requests, open_count, IsFit, MayCome, AsksWhenClosed, StaysFit}
 
 -- silence asks nothing new
 no_ask : (limits : Limits) (marks : List Mark) (request : Request) → on_silence limits marks ≡ Ask request → ⊥
@@ -47,7 +47,7 @@ mark_open limits job (Ended c) marks request h = absurd cc
 
 in_open : (limits : Limits) (job : Option Job) (m : Mark) (marks : List Mark) (request : Request) → reaction_in limits job m marks (m ∷ marks) ≡ Ask request → open_request (m ∷ marks) ≡ None
 in_open limits None m marks request h = absurd cc
-in_open limits (Some job) m marks request h = by (has_ended marks) h
+in_open limits (Some job) m marks request h = by (conversation_ended marks) h
   where
     by : (b : Bool) → (if b then Wait else on_mark limits job m marks (m ∷ marks)) ≡ Ask request → open_request (m ∷ marks) ≡ None
     by true e = absurd cc
@@ -57,13 +57,13 @@ pub asks_open : (limits : Limits) (m : Mark) (marks : List Mark) (request : Requ
 unfolding reaction
 asks_open limits m marks request h = in_open limits (job_of (m ∷ marks)) m marks request h
 
-answered_more : (marks : List Mark) (request : Request) (answer : Answer) → asked marks ≡ answered marks + 1 → IsFit (Answered request answer ∷ marks)
+answered_more : (marks : List Mark) (request : Request) (answer : Answer) → asked marks ≡ answered_requests marks + 1 → IsFit (Answered request answer ∷ marks)
 answered_more marks request answer z = grind arith
 
 -- what comes leaves the counts fit
 comes_fit : (m : Mark) (marks : List Mark) → IsFit marks → MayCome m marks → IsFit (m ∷ marks)
-comes_fit (Begun job) marks f c = f ∙ ap (λ o. answered marks + open_count o) c
-comes_fit (Answered request answer) marks f c = let z : asked marks ≡ answered marks + 1 = f ∙ ap (λ o. answered marks + open_count o) c in answered_more marks request answer z
+comes_fit (Begun job) marks f c = f ∙ ap (λ o. answered_requests marks + open_count o) c
+comes_fit (Answered request answer) marks f c = let z : asked marks ≡ answered_requests marks + 1 = f ∙ ap (λ o. answered_requests marks + open_count o) c in answered_more marks request answer z
 comes_fit Hinted marks f c = f
 comes_fit (Brought number payload) marks f c = f
 comes_fit (Turned settled) marks f c = f
@@ -73,7 +73,7 @@ comes_fit (Ended cause) marks f c = absurd c
 
 done_fit : (r : Reaction) (marks : List Mark) → IsFit marks → ((request : Request) → r ≡ Ask request → open_request marks ≡ None) → IsFit (done r marks)
 done_fit Wait marks f o = f
-done_fit (Ask request) marks f o = let z = f ∙ ap (λ q. answered marks + open_count q) (o request refl) in omega (arith, z)
+done_fit (Ask request) marks f o = let z = f ∙ ap (λ q. answered_requests marks + open_count q) (o request refl) in omega (arith, z)
 done_fit Repeat marks f o = f
 done_fit (GiveUp cause) marks f o = f
 
@@ -83,9 +83,9 @@ stays_fit limits m marks f c = done_fit (reaction limits m marks) (m ∷ marks) 
 pub asks_closed : AsksWhenClosed
 asks_closed limits id m marks request f c h =
     let none = asks_open limits m marks request h in
-    let closed : asked (m ∷ marks) ≡ answered (m ∷ marks) = comes_fit m marks f c ∙ ap (λ q. answered (m ∷ marks) + open_count q) none ∙ omega arith in
+    let closed : asked (m ∷ marks) ≡ answered_requests (m ∷ marks) = comes_fit m marks f c ∙ ap (λ q. answered_requests (m ∷ marks) + open_count q) none ∙ omega arith in
     record {
       none_open = none;
       closed = closed;
-      sent = ap (messages_of id (m ∷ marks)) h ∙ ap (λ k. bytes_of (k % 65536) id request ∷ []) closed;
+      sent = ap (messages_of id (m ∷ marks)) h ∙ ap (λ k. request_bytes (k % 65536) id request ∷ []) closed;
     }

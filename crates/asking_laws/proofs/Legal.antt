@@ -20,9 +20,9 @@ use Rattle.master_spec.specs.declared.setups.Slave.{Slave}
 use Rattle.master_spec.specs.declared.setups.Setup.{Setup}
 use Rattle.master_spec.specs.Jobs.{Job}
 use Rattle.master_spec.specs.Setup.{jobs_of}
-use Rattle.master_spec.specs.Marks.{Mark, Begun, Asked, Again, Answered, Hinted, Brought, Turned, Ended, count, is_begun, open_request, job_of, has_ended, verdict_of}
-use Rattle.master_spec.specs.Conversation.{on_mark, reaction_in, reaction, done, after, extended}
-use Rattle.master_spec.specs.Course.{Talk, Course, course, fresh, mark_of_gram, marked, is_settled_as, is_passed_as, is_settled, is_quiet, failed_by, failed, begun_with, begun, phases, with_next, with_report, decided, with_turns, decided_if, turned, still, after_gram, after_turn, step}
+use Rattle.master_spec.specs.Marks.{Mark, Begun, Asked, Again, Answered, Hinted, Brought, Turned, Ended, count, is_begun, open_request, job_of, conversation_ended, verdict_of}
+use Rattle.master_spec.specs.Conversation.{on_mark, reaction_in, reaction, done, marks_after, extended}
+use Rattle.master_spec.specs.Course.{CourseTalk, Course, course, fresh_talk, mark_of_gram, marked, is_settled_as, is_passed_as, is_settled, is_quiet, failed_by, failed, begun_with, task_begun, phases, with_next, with_report, decided, with_turns, decided_if, course_turned, still, after_gram, course_after_turn, step}
 use Rattle.asking_laws.specs.Closed.{MayCome, AllTalks}
 use Rattle.asking_laws.specs.Legal.{IsLegal, AreLegal, GoesByRule, AllWith, TalksGoByRule}
 use Rattle.asking_laws.proofs.Courses.{gram_may, gram_no_begin, IsBefore, Fine, fine}
@@ -50,7 +50,7 @@ own_mark limits job (Turned settled) marks o = absurd o
 
 own_in : (limits : Limits) (o : Option Job) (m : Mark) (marks : List Mark) → IsOwn m → reaction_in limits o m marks (m ∷ marks) ≡ Wait
 own_in limits None m marks o = refl
-own_in limits (Some job) m marks o = by (has_ended marks)
+own_in limits (Some job) m marks o = by (conversation_ended marks)
   where
     by : (b : Bool) → (if b then Wait else on_mark limits job m marks (m ∷ marks)) ≡ Wait
     by true = refl
@@ -68,11 +68,11 @@ goes_done limits js phase m marks (Ask request) e l c = record { legal = (e, l);
 goes_done limits js phase m marks Repeat e l c = record { legal = (e, l); rests = own_rests limits Again (m ∷ marks) tt; phase_is = c }
 goes_done limits js phase m marks (GiveUp cause) e l c = record { legal = (e, l); rests = own_rests limits (Ended cause) (m ∷ marks) tt; phase_is = c }
 
-goes_after : (limits : Limits) (js : List Job) (phase : ℕ) (m : Mark) (marks : List Mark) → IsLegal limits js m marks → AreLegal limits js marks → count is_begun (m ∷ marks) ≡ phase → GoesByRule limits js phase (after limits m marks)
+goes_after : (limits : Limits) (js : List Job) (phase : ℕ) (m : Mark) (marks : List Mark) → IsLegal limits js m marks → AreLegal limits js marks → count is_begun (m ∷ marks) ≡ phase → GoesByRule limits js phase (marks_after limits m marks)
 goes_after limits js phase m marks k l c = goes_done limits js phase m marks (reaction limits m marks) refl (k, l) c
 
 -- what comes from outside, and a turn
-goes_coming : (limits : Limits) (js : List Job) (phase : ℕ) (m : Mark) (marks : List Mark) → MayCome m marks → ((job : Job) → m ≡ Begun job → ⊥) → GoesByRule limits js phase marks → GoesByRule limits js phase (after limits m marks)
+goes_coming : (limits : Limits) (js : List Job) (phase : ℕ) (m : Mark) (marks : List Mark) → MayCome m marks → ((job : Job) → m ≡ Begun job → ⊥) → GoesByRule limits js phase marks → GoesByRule limits js phase (marks_after limits m marks)
 goes_coming limits js phase (Begun job) marks c n g = absurd (n job refl)
 goes_coming limits js phase (Asked request) marks c n g = absurd c
 goes_coming limits js phase Again marks c n g = absurd c
@@ -86,11 +86,11 @@ goes_extended : (limits : Limits) (js : List Job) (phase : ℕ) (o : Option Mark
 goes_extended limits js phase None marks c n g = g
 goes_extended limits js phase (Some m) marks c n g = goes_coming limits js phase m marks (c m refl) (λ job e. n job (ap (λ (k : Mark). Some k) e)) g
 
-goes_turned : (limits : Limits) (js : List Job) (phase : ℕ) (settled : Bool) (marks : List Mark) → GoesByRule limits js phase marks → GoesByRule limits js phase (after limits (Turned settled) marks)
+goes_turned : (limits : Limits) (js : List Job) (phase : ℕ) (settled : Bool) (marks : List Mark) → GoesByRule limits js phase marks → GoesByRule limits js phase (marks_after limits (Turned settled) marks)
 goes_turned limits js phase settled marks g = goes_after limits js phase (Turned settled) marks g.rests g.legal g.phase_is
 
 goes_begun : (limits : Limits) (js : List Job) (phase : ℕ) (job : Job) (marks : List Mark) → slice_get js phase ≡ Some job → open_request marks ≡ None → (job_of marks ≡ None) ⊎ (verdict_of marks ≡ verdicts.Passed)
-    → GoesByRule limits js phase marks → GoesByRule limits js (phase + 1) (after limits (Begun job) marks)
+    → GoesByRule limits js phase marks → GoesByRule limits js (phase + 1) (marks_after limits (Begun job) marks)
 goes_begun limits js phase job marks e f p g =
     goes_after limits js (phase + 1) (Begun job) marks (g.rests, record { job_is = ap (slice_get js) g.phase_is ∙ e; free = f; passed = p }) g.legal (ap (λ (n : ℕ). n + 1) g.phase_is)
 
@@ -102,12 +102,12 @@ module _ (setup : Setup) (runs : 1 ≤ setup.runs) where
   abbrev Goes : ℕ → Slave → List Mark → Type 0
   Goes phase slave marks = GoesByRule setup.limits (jobs_of setup slave) phase marks
 
-  gram_goes : (phase : ℕ) (from : Address) (bytes : List ℕ) (talks : List Talk) → AllWith (Goes phase) talks → AllWith (Goes phase) (map (λ talk. marked setup.limits talk (mark_of_gram talk from bytes)) talks)
+  gram_goes : (phase : ℕ) (from : Address) (bytes : List ℕ) (talks : List CourseTalk) → AllWith (Goes phase) talks → AllWith (Goes phase) (map (λ talk. marked setup.limits talk (mark_of_gram talk from bytes)) talks)
   gram_goes phase from bytes [] g = tt
   gram_goes phase from bytes (talk ∷ talks) g =
       (goes_extended setup.limits (jobs_of setup talk.slave) phase (mark_of_gram talk from bytes) talk.marks (gram_may talk from bytes) (gram_no_begin talk from bytes) g.0, gram_goes phase from bytes talks g.1)
 
-  pub turn_goes : (phase : ℕ) (settled : Bool) (talks : List Talk) → AllWith (Goes phase) talks → AllWith (Goes phase) (map (λ talk. marked setup.limits talk (Some (Turned settled))) talks)
+  pub turn_goes : (phase : ℕ) (settled : Bool) (talks : List CourseTalk) → AllWith (Goes phase) talks → AllWith (Goes phase) (map (λ talk. marked setup.limits talk (Some (Turned settled))) talks)
   turn_goes phase settled [] g = tt
   turn_goes phase settled (talk ∷ talks) g = (goes_turned setup.limits (jobs_of setup talk.slave) phase settled talk.marks g.0, turn_goes phase settled talks g.1)
 
@@ -121,11 +121,11 @@ module _ (setup : Setup) (runs : 1 ≤ setup.runs) where
       by [] l = absurd (omega (arith, l))
       by (job ∷ js) l = job
 
-  next_goes : (phase : ℕ) (talks : List Talk) → phase < phases setup → AllWith (Goes phase) talks → AllTalks IsFreeToGo talks → AllWith (Goes (phase + 1)) (map (λ talk. marked setup.limits talk (begun setup (phase + 1) talk)) talks)
+  next_goes : (phase : ℕ) (talks : List CourseTalk) → phase < phases setup → AllWith (Goes phase) talks → AllTalks IsFreeToGo talks → AllWith (Goes (phase + 1)) (map (λ talk. marked setup.limits talk (task_begun setup (phase + 1) talk)) talks)
   next_goes phase [] l g f = tt
   next_goes phase (talk ∷ talks) l g f =
       let j = job_at phase talk.slave l in
-      let e : begun setup (phase + 1) talk ≡ Some (Begun j.0) = ap (λ (n : ℕ). begun_with (slice_get (jobs_of setup talk.slave) n)) (omega arith) ∙ ap begun_with j.1 in
+      let e : task_begun setup (phase + 1) talk ≡ Some (Begun j.0) = ap (λ (n : ℕ). begun_with (slice_get (jobs_of setup talk.slave) n)) (omega arith) ∙ ap begun_with j.1 in
       let P : Option Mark → Type 0 = λ o. Goes (phase + 1) talk.slave (extended setup.limits o talk.marks) in
       (subst P (sym e) (goes_begun setup.limits (jobs_of setup talk.slave) phase j.0 talk.marks j.1 (f.0).0 (f.0).1 g.0), next_goes phase talks l g.1 f.1)
 
@@ -136,14 +136,14 @@ module _ (setup : Setup) (runs : 1 ≤ setup.runs) where
   quiet_passed o verdicts.Going phase slave rest f q = absurd cc
   quiet_passed o (verdicts.Ended cause) phase slave rest f q = absurd cc
 
-  pub all_passed : (phase : ℕ) (talks : List Talk) → list_all is_quiet talks ≡ true → failed phase talks ≡ None → AllTalks IsFreeToGo talks
+  pub all_passed : (phase : ℕ) (talks : List CourseTalk) → list_all is_quiet talks ≡ true → failed phase talks ≡ None → AllTalks IsFreeToGo talks
   all_passed phase [] q f = tt
   all_passed phase (talk ∷ talks) q f =
       let p = and_parts (is_quiet talk) (list_all is_quiet talks) q in
       let h = quiet_passed (open_request talk.marks) (verdict_of talk.marks) phase talk.slave (failed phase talks) f p.0 in
       ((h.0, inr (h.1).0), all_passed phase talks p.1 (h.1).1)
 
-  pub all_before : (talks : List Talk) → AllTalks IsBefore talks → AllTalks IsFreeToGo talks
+  pub all_before : (talks : List CourseTalk) → AllTalks IsBefore talks → AllTalks IsFreeToGo talks
   all_before [] b = tt
   all_before (talk ∷ talks) b = (((b.0).0, inl (b.0).1), all_before talks b.1)
 
@@ -164,23 +164,23 @@ module _ (setup : Setup) (runs : 1 ≤ setup.runs) where
           let less : c.phase < phases setup = omega (arith, few, other) in
           record { few = omega (arith, less); goes = next_goes c.phase c.talks less g.goes (all_passed c.phase c.talks q e) }
 
-  turned_going : (c : Course) → Going c → Going (turned setup c)
+  turned_going : (c : Course) → Going c → Going (course_turned setup c)
   turned_going c g = by (list_all is_quiet c.talks) refl
     where
       by : (b : Bool) → list_all is_quiet c.talks ≡ b → Going (decided_if setup b c)
       by true q = decided_going c g q (failed c.phase c.talks) refl
       by false q = g
 
-  tick_going : (c : Course) → Fine c → Going c → Going (after_turn setup c)
+  tick_going : (c : Course) → Fine c → Going c → Going (course_after_turn setup c)
   tick_going c f g = by (c.phase == 0) refl
     where
-      by : (b : Bool) → (c.phase == 0) ≡ b → Going (if b then with_next setup (still c) else turned setup (with_turns setup (list_all is_settled c.talks) c))
+      by : (b : Bool) → (c.phase == 0) ≡ b → Going (if b then with_next setup (still c) else course_turned setup (with_turns setup (list_all is_settled c.talks) c))
       by true z =
           let zero_is = eqb-true c.phase 0 z in
           record { few = omega (arith, zero_is); goes = next_goes c.phase c.talks (omega (arith, zero_is)) g.goes (all_before c.talks (f.before zero_is)) }
       by false z = turned_going (with_turns setup (list_all is_settled c.talks) c) (record { few = g.few; goes = turn_goes c.phase (list_all is_settled c.talks) c.talks g.goes })
 
-  first_goes : (slaves : List Slave) → AllWith (Goes 0) (map fresh slaves)
+  first_goes : (slaves : List Slave) → AllWith (Goes 0) (map fresh_talk slaves)
   first_goes [] = tt
   first_goes (slave ∷ slaves) = (record { legal = tt; rests = tt; phase_is = refl }, first_goes slaves)
 
@@ -193,7 +193,7 @@ step_going setup runs (Gram from bytes) c f g = by (is_some c.report)
     by false = record { few = g.few; goes = gram_goes setup runs c.phase from bytes c.talks g.goes }
 step_going setup runs Tick c f g = by (is_some c.report)
   where
-    by : (b : Bool) → Going setup runs (if b then still c else after_turn setup c)
+    by : (b : Bool) → Going setup runs (if b then still c else course_after_turn setup c)
     by true = record { few = g.few; goes = g.goes }
     by false = tick_going setup runs c f g
 

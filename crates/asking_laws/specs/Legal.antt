@@ -11,7 +11,7 @@ use Rattle.master_spec.specs.Jobs.{Job}
 use Rattle.master_spec.specs.Setup.{jobs_of}
 use Rattle.master_spec.specs.Marks.{Mark, Begun, Asked, Again, Answered, Hinted, Brought, Turned, Ended, count, is_begun, open_request, job_of, verdict_of}
 use Rattle.master_spec.specs.Conversation.{reaction}
-use Rattle.master_spec.specs.Course.{Talk, course}
+use Rattle.master_spec.specs.Course.{CourseTalk, course}
 
 -- what follows from the newest mark
 abbrev pub Does : Limits → List Mark → Reaction → Type 0
@@ -24,13 +24,13 @@ Rests limits [] = Unit {0}
 Rests limits (m ∷ marks) = reaction limits m marks ≡ Wait
 
 -- a phase begins with its job once the one before has passed, and no request is open
-pub record Begins (js : List Job) (job : Job) (marks : List Mark) : Type 0 where
+pub record BeginsJob (js : List Job) (job : Job) (marks : List Mark) : Type 0 where
   pub job_is : slice_get js (count is_begun marks) ≡ Some job
   pub free : open_request marks ≡ None
   pub passed : (job_of marks ≡ None) ⊎ (verdict_of marks ≡ verdicts.Passed)
 
 abbrev pub IsLegal : Limits → List Job → Mark → List Mark → Type 0
-IsLegal limits js (Begun job) marks = Rests limits marks × Begins js job marks
+IsLegal limits js (Begun job) marks = Rests limits marks × BeginsJob js job marks
 IsLegal limits js (Asked request) marks = Does limits marks (Ask request)
 IsLegal limits js Again marks = Does limits marks Repeat
 IsLegal limits js (Answered request answer) marks = Rests limits marks × (open_request marks ≡ Some request)
@@ -50,7 +50,7 @@ pub record GoesByRule (limits : Limits) (js : List Job) (phase : ℕ) (marks : L
   pub phase_is : count is_begun marks ≡ phase
 
 -- ---- all conversations
-abbrev pub AllWith : (Slave → List Mark → Type 0) → List Talk → Type 0
+abbrev pub AllWith : (Slave → List Mark → Type 0) → List CourseTalk → Type 0
 AllWith P [] = Unit {0}
 AllWith P (talk ∷ talks) = P talk.slave talk.marks × AllWith P talks
 

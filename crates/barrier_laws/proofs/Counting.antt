@@ -6,7 +6,7 @@ use Rattle.std.proofs.lemmas.List.Sums.{sum_by-cons}
 use Rattle.dcp_types.specs.declared.limits.Limits.{Limits}
 use Rattle.pdu_layout.specs.declared.messages.Cfg.{Cfg}
 use Rattle.pdu_layout.specs.declared.messages.Cfg.TheVariants as cfg
-use Rattle.lockstep_laws.specs.Steps.{RowEvent, Show, Step, Restart, told_by, Progress, events_counted, view_after}
+use Rattle.lockstep_laws.specs.Steps.{RowEvent, Show, Step, Restart, told_by, BenchProgress, events_counted, view_after}
 use Rattle.lockstep_laws.specs.Steps as steps
 use Rattle.master_spec.specs.declared.causes.Cause.{Cause}
 use Rattle.master_spec.specs.declared.causes.Verdict.TheVariants as verdicts
@@ -24,7 +24,7 @@ use Rattle.master_spec.specs.Conversation.{reaction}
 use Rattle.master_spec.specs.Requests.{Asking, Decision, decided_by, is_main, is_acked_by, is_acked, acked}
 use Rattle.asking_laws.specs.Legal.{Does, Rests, IsLegal, AreLegal}
 use Rattle.asking_laws.proofs.Legal.{own_rests}
-use Rattle.index_laws.specs.Index.{Placed, at, marks_of, code_of, first_at, again_at, decided_at, told}
+use Rattle.index_laws.specs.Index.{Placed, at, marks_of, code_of, first_at, again_at, decided_at, askings_told}
 use Rattle.index_laws.specs.Late.{AreLate}
 use Rattle.index_laws.proofs.Events.{acts}
 use Rattle.phase_laws.specs.Laws.{AreDecided}
@@ -37,7 +37,7 @@ use Rattle.phase_laws.proofs.Tags.{job_phase, job_some, no_reaction, none_asked,
 use Rattle.rest_laws.proofs.Resting.{rest_before, rest_open}
 use Rattle.row_laws.specs.Laws.{event_for, asks_event, reply_by, progress_after, progress}
 use Rattle.row_laws.proofs.Views.{acknowledged}
-use Rattle.barrier_laws.specs.Laws.{event_in, events_before, StandsIn}
+use Rattle.barrier_laws.specs.Laws.{row_event_in, events_before, StandsInPhase}
 use Rattle.barrier_laws.proofs.Scripts.{events_of, none_before, before_next}
 
 -- ---- counting requests
@@ -123,7 +123,7 @@ in_one : (q : Request) (n : ℕ) (r : Request) (o : Option RowEvent) → slice_g
 in_one q zero r o e h = let z : q ≡ r = cc in ap (λ (y : Request). event_for (code_of y)) (sym z) ∙ h
 in_one q (suc n) r o e h = absurd cc
 
-task_event : (task : Task) (list : List Cfg) (n : ℕ) (r : Request) → slice_get (asked_by (record { task = task; list = list })) n ≡ Some r → event_for (code_of r) ≡ event_in task
+task_event : (task : Task) (list : List Cfg) (n : ℕ) (r : Request) → slice_get (asked_by (record { task = task; list = list })) n ≡ Some r → event_for (code_of r) ≡ row_event_in task
 task_event (tasks.Register uuid) list n r e = in_one _ n r None e refl
 task_event tasks.Setup list n r e = in_list list n r e
 task_event tasks.Prepare list n r e = in_one _ n r None e refl
@@ -138,11 +138,11 @@ task_event tasks.Reset list n r e = in_one _ n r (Some Restart) e refl
 task_event tasks.Adjust list n r e = in_list list n r e
 task_event tasks.Deregister list n r e = in_one _ n r None e refl
 
-pub slot_event : (job : Job) (n : ℕ) (r : Request) → slice_get (asked_by job) n ≡ Some r → event_for (code_of r) ≡ event_in job.task
+pub slot_event : (job : Job) (n : ℕ) (r : Request) → slice_get (asked_by job) n ≡ Some r → event_for (code_of r) ≡ row_event_in job.task
 slot_event job n r e = task_event job.task job.list n r e
 
 -- and it is the one request of its job
-pub task_alone : (task : Task) (list : List Cfg) → is_some (event_in task) ≡ true → length (asked_by (record { task = task; list = list })) ≡ 1
+pub task_alone : (task : Task) (list : List Cfg) → is_some (row_event_in task) ≡ true → length (asked_by (record { task = task; list = list })) ≡ 1
 task_alone (tasks.FirstOutputs row) list h = refl
 task_alone (tasks.Step k) list h = refl
 task_alone (tasks.Outputs k row) list h = refl
@@ -170,7 +170,7 @@ abbrev if_some : Option RowEvent → ℕ → ℕ
 if_some None n = 0
 if_some (Some k) n = n
 
-mains_events : (job : Job) (o : Option RowEvent) → event_in job.task ≡ o → (ms : List Asking) → AreMains job ms → events_acked ms ≡ if_some o (acked ms)
+mains_events : (job : Job) (o : Option RowEvent) → row_event_in job.task ≡ o → (ms : List Asking) → AreMains job ms → events_acked ms ≡ if_some o (acked ms)
 mains_events job None e [] m = refl
 mains_events job (Some k) e [] m = refl
 mains_events job None e (b ∷ ms) m =
@@ -184,9 +184,9 @@ mains_events job (Some k) e (b ∷ ms) m =
     ∙ ap (λ (t : Bool). one_if (t && is_acked b) + acked ms) (sym y) ∙ sym (acked_more b ms)
 
 pub whole_events : (job : Job) (ms : List Asking) → AreMains job ms → acked ms ≡ length (asked_by job) → events_acked ms ≡ events_of job
-whole_events job ms m w = by (event_in job.task) refl
+whole_events job ms m w = by (row_event_in job.task) refl
   where
-    by : (o : Option RowEvent) → event_in job.task ≡ o → events_acked ms ≡ events_of job
+    by : (o : Option RowEvent) → row_event_in job.task ≡ o → events_acked ms ≡ events_of job
     by None e = mains_events job None e ms m ∙ sym (ap (λ (o : Option RowEvent). if is_some o then 1 else 0) e)
     by (Some k) e = mains_events job (Some k) e ms m ∙ w ∙ task_alone job.task job.list (ap is_some e) ∙ sym (ap (λ (o : Option RowEvent). if is_some o then 1 else 0) e)
 
@@ -212,36 +212,36 @@ job_none (Turned t ∷ ms) c = job_none ms c
 job_none (Ended cause ∷ ms) c = job_none ms c
 
 -- what was acknowledged before the phase
-pub past_events : (limits : Limits) (js : List Job) (xs : List Placed) → AreLegal limits js (marks_of xs) → (p : ℕ) → count is_begun (marks_of xs) ≡ p + 1 → events_acked (told (past xs)) ≡ events_before js p
+pub past_events : (limits : Limits) (js : List Job) (xs : List Placed) → AreLegal limits js (marks_of xs) → (p : ℕ) → count is_begun (marks_of xs) ≡ p + 1 → events_acked (askings_told (past xs)) ≡ events_before js p
 past_events limits js [] l p c = absurd (omega (arith, c))
 past_events limits js (x ∷ xs) l p c = by x.mark l.0 c (λ p c. past_events limits js xs l.1 p c)
   where
-    from_zero : (p : ℕ) → count is_begun (marks_of xs) ≡ p → job_of (marks_of xs) ≡ None → events_acked (told xs) ≡ events_before js p
+    from_zero : (p : ℕ) → count is_begun (marks_of xs) ≡ p → job_of (marks_of xs) ≡ None → events_acked (askings_told xs) ≡ events_before js p
     from_zero p c e =
         let z = none_asked limits js xs l.1 e in
         let y : p ≡ 0 = sym c ∙ z.1 in
         ap events_acked z.0 ∙ sym (none_before js) ∙ ap (events_before js) (sym y)
 
-    from_passed : (p : ℕ) → count is_begun (marks_of xs) ≡ p → Rests limits (marks_of xs) → open_request (marks_of xs) ≡ None → HasPassed (marks_of xs) → ((q : ℕ) → count is_begun (marks_of xs) ≡ q + 1 → events_acked (told (past xs)) ≡ events_before js q) → events_acked (told xs) ≡ events_before js p
+    from_passed : (p : ℕ) → count is_begun (marks_of xs) ≡ p → Rests limits (marks_of xs) → open_request (marks_of xs) ≡ None → HasPassed (marks_of xs) → ((q : ℕ) → count is_begun (marks_of xs) ≡ q + 1 → events_acked (askings_told (past xs)) ≡ events_before js q) → events_acked (askings_told xs) ≡ events_before js p
     from_passed zero c r o h f = let z = job_none (marks_of xs) c in let y : None ≡ Some h.job = sym z ∙ h.job_is in absurd cc
     from_passed (suc q) c r o h f =
         let c' : count is_begun (marks_of xs) ≡ q + 1 = omega (arith, c) in
         let here = job_phase limits js (marks_of xs) l.1 h.job h.job_is q c' in
         let full = passed_events limits js h.job xs l.1 (stage limits js xs l.1 r h.cause_is h.job h.job_is) h.passed o in
         let before = f q c' in
-        let whole = ap events_acked (split limits js xs l.1) ∙ events_append (now xs) (told (past xs)) in
+        let whole = ap events_acked (split limits js xs l.1) ∙ events_append (now xs) (askings_told (past xs)) in
         let next = before_next js q h.job here in
         let k : suc q ≡ q + 1 = omega arith in
-        let e : events_acked (told xs) ≡ events_before js (q + 1) = omega (arith, whole, full, before, next) in
+        let e : events_acked (askings_told xs) ≡ events_before js (q + 1) = omega (arith, whole, full, before, next) in
         e ∙ ap (events_before js) (sym k)
 
-    by : (m : Mark) → IsLegal limits js m (marks_of xs) → count is_begun (m ∷ marks_of xs) ≡ p + 1 → ((q : ℕ) → count is_begun (marks_of xs) ≡ q + 1 → events_acked (told (past xs)) ≡ events_before js q) → events_acked (told (past_by m xs (past xs))) ≡ events_before js p
+    by : (m : Mark) → IsLegal limits js m (marks_of xs) → count is_begun (m ∷ marks_of xs) ≡ p + 1 → ((q : ℕ) → count is_begun (marks_of xs) ≡ q + 1 → events_acked (askings_told (past xs)) ≡ events_before js q) → events_acked (askings_told (past_by m xs (past xs))) ≡ events_before js p
     by (Begun j) k c f = begun (k.1).passed
       where
         c' : count is_begun (marks_of xs) ≡ p
         c' = omega (arith, c)
 
-        begun : (job_of (marks_of xs) ≡ None) ⊎ (verdict_of (marks_of xs) ≡ verdicts.Passed) → events_acked (told xs) ≡ events_before js p
+        begun : (job_of (marks_of xs) ≡ None) ⊎ (verdict_of (marks_of xs) ≡ verdicts.Passed) → events_acked (askings_told xs) ≡ events_before js p
         begun (inl e) = from_zero p c' e
         begun (inr v) = from_passed p c' k.0 (k.1).free (verdict_passed (marks_of xs) v) f
     by (Asked r) k c f = f p c
@@ -386,7 +386,7 @@ few limits js (x ∷ xs) l = by x.mark l (linked limits js xs l.1) (few limits j
 
 -- ---- where a conversation stands in its phase
 -- what is told later takes nothing back
-told_rises : (t : steps.Told) (v : Progress) → v.done ≤ (view_after t v).done
+told_rises : (t : steps.Told) (v : BenchProgress) → v.done ≤ (view_after t v).done
 told_rises (steps.Begins k) v = by v.waiting
   where
     by : (b : Bool) → v.done ≤ (if b then v.done + 1 else v.done)
@@ -404,7 +404,7 @@ told_rises steps.Rested v = by v.waiting
     by false = omega arith
 told_rises steps.Nothing v = omega arith
 
-one_rises : (code : ℕ) (d : Option Decision) (v : Progress) → v.done ≤ (progress_after code d v).done
+one_rises : (code : ℕ) (d : Option Decision) (v : BenchProgress) → v.done ≤ (progress_after code d v).done
 one_rises code None v = omega arith
 one_rises code (Some d) v = told_rises (told_by (event_for code) (reply_by d.answer)) v
 
@@ -412,31 +412,31 @@ progress_rises : (bs cs : List Asking) → (progress cs).done ≤ (progress (bs 
 progress_rises [] cs = omega arith
 progress_rises (b ∷ bs) cs = let h = progress_rises bs cs in let e = one_rises b.code b.decision (progress (bs ++ cs)) in omega (arith, h, e)
 
-pub at_rest : (v : Progress) → v.waiting ≡ false → events_counted v ≡ v.done
+pub at_rest : (v : BenchProgress) → v.waiting ≡ false → events_counted v ≡ v.done
 at_rest v e = ap (λ (b : Bool). if b then v.done + 1 else v.done) e
 
 abbrev Placing : Limits → List Job → List Placed → ℕ → Type 0
 Placing limits js xs p = AreLegal limits js (marks_of xs) × (count is_begun (marks_of xs) ≡ p + 1)
 
 -- the row events of the phases before are done
-past_done : (limits : Limits) (js : List Job) (xs : List Placed) (p : ℕ) → Placing limits js xs p → (progress (told (past xs))).done ≡ events_before js p
-past_done limits js xs p k = sym (at_rest (progress (told (past xs))) (rest_before limits js xs k.0)) ∙ acknowledged (told (past xs)) ∙ past_events limits js xs k.0 p k.1
+past_done : (limits : Limits) (js : List Job) (xs : List Placed) (p : ℕ) → Placing limits js xs p → (progress (askings_told (past xs))).done ≡ events_before js p
+past_done limits js xs p k = sym (at_rest (progress (askings_told (past xs))) (rest_before limits js xs k.0)) ∙ acknowledged (askings_told (past xs)) ∙ past_events limits js xs k.0 p k.1
 
 -- requests of this phase of which at most its row event is acknowledged
-stands_by : (limits : Limits) (js : List Job) (xs : List Placed) (p : ℕ) → Placing limits js xs p → (bs : List Asking) → events_acked bs ≤ events_by (job_of (marks_of xs)) → StandsIn js p (progress (bs ++ told (past xs)))
+stands_by : (limits : Limits) (js : List Job) (xs : List Placed) (p : ℕ) → Placing limits js xs p → (bs : List Asking) → events_acked bs ≤ events_by (job_of (marks_of xs)) → StandsInPhase js p (progress (bs ++ askings_told (past xs)))
 stands_by limits js xs p k bs h =
-    let rise = progress_rises bs (told (past xs)) in
+    let rise = progress_rises bs (askings_told (past xs)) in
     let done = past_done limits js xs p k in
-    let all = acknowledged (bs ++ told (past xs)) ∙ events_append bs (told (past xs)) in
+    let all = acknowledged (bs ++ askings_told (past xs)) ∙ events_append bs (askings_told (past xs)) in
     let before = past_events limits js xs k.0 p k.1 in
     let j = job_some (marks_of xs) p k.1 in
     let next = before_next js p j.0 (job_phase limits js (marks_of xs) k.0 j.0 j.1 p k.1) in
     let own : events_by (job_of (marks_of xs)) ≡ events_of j.0 = ap events_by j.1 in
     record { least = omega (arith, rise, done); most = omega (arith, all, before, next, own, h) }
 
-pub stands : (limits : Limits) (js : List Job) (xs : List Placed) (p : ℕ) → AreLegal limits js (marks_of xs) → count is_begun (marks_of xs) ≡ p + 1 → StandsIn js p (progress (told xs))
+pub stands : (limits : Limits) (js : List Job) (xs : List Placed) (p : ℕ) → AreLegal limits js (marks_of xs) → count is_begun (marks_of xs) ≡ p + 1 → StandsInPhase js p (progress (askings_told xs))
 stands limits js xs p l c =
-    let P : List Asking → Type 0 = λ z. StandsIn js p (progress z) in
+    let P : List Asking → Type 0 = λ z. StandsInPhase js p (progress z) in
     subst P (sym (split limits js xs l)) (stands_by limits js xs p (l, c) (now xs) (few limits js xs l).few)
 
 -- the newest request may be answered late
@@ -453,28 +453,28 @@ same_progress n (c ∷ cs) (b ∷ bs) l d =
     by None e h = absurd cc
     by (Some d) e h = (l.0).kept d e ∙ sym e
 
-pub late_stands : (limits : Limits) (js : List Job) (xs : List Placed) (p : ℕ) → AreLegal limits js (marks_of xs) → count is_begun (marks_of xs) ≡ p + 1 → (n : ℕ) (cs : List Asking) → AreLate n cs (told xs) → StandsIn js p (progress cs)
+pub late_stands : (limits : Limits) (js : List Job) (xs : List Placed) (p : ℕ) → AreLegal limits js (marks_of xs) → count is_begun (marks_of xs) ≡ p + 1 → (n : ℕ) (cs : List Asking) → AreLate n cs (askings_told xs) → StandsInPhase js p (progress cs)
 late_stands limits js xs p l c n cs late = by (latest (marks_of xs)) refl (linked limits js xs l) (few limits js xs l)
   where
-    P : Progress → Type 0
-    P v = StandsIn js p v
+    P : BenchProgress → Type 0
+    P v = StandsInPhase js p v
 
-    closed : open_request (marks_of xs) ≡ None → StandsIn js p (progress cs)
-    closed o = subst P (sym (same_progress n cs (told xs) late ((ordered limits js xs l).decided o))) (stands limits js xs p l c)
+    closed : open_request (marks_of xs) ≡ None → StandsInPhase js p (progress cs)
+    closed o = subst P (sym (same_progress n cs (askings_told xs) late ((ordered limits js xs l).decided o))) (stands limits js xs p l c)
 
     at_most : (x y : Bool) → one_if (x && y) ≤ 1
     at_most true true = omega arith
     at_most true false = omega arith
     at_most false y = omega arith
 
-    opened : (r : Request) (ys : List Asking) → now xs ≡ ys → latest (marks_of xs) ≡ latests.Asked r → Linked (latests.Asked r) ys → AreLate n cs (ys ++ told (past xs)) → Few (job_of (marks_of xs)) (latests.Asked r) ys → StandsIn js p (progress cs)
+    opened : (r : Request) (ys : List Asking) → now xs ≡ ys → latest (marks_of xs) ≡ latests.Asked r → Linked (latests.Asked r) ys → AreLate n cs (ys ++ askings_told (past xs)) → Few (job_of (marks_of xs)) (latests.Asked r) ys → StandsInPhase js p (progress cs)
     opened r [] e q k a f = absurd k
     opened r (b ∷ ys) e q k a f = newest cs a
       where
-        newest : (cs : List Asking) → AreLate n cs ((b ∷ ys) ++ told (past xs)) → StandsIn js p (progress cs)
+        newest : (cs : List Asking) → AreLate n cs ((b ∷ ys) ++ askings_told (past xs)) → StandsInPhase js p (progress cs)
         newest [] a = absurd a
         newest (d ∷ ds) a =
-            let Q : List Asking → Type 0 = λ z. StandsIn js p (progress (d ∷ z)) in
+            let Q : List Asking → Type 0 = λ z. StandsInPhase js p (progress (d ∷ z)) in
             subst Q (sym a.1) (stands_by limits js xs p (l, c) (d ∷ ys) (bounded (is_some (event_for (code_of r))) refl (events_more d ys) (events_more b ys)))
           where
             code_is : asks_event d ≡ is_some (event_for (code_of r))
@@ -492,7 +492,7 @@ late_stands limits js xs p l c n cs late = by (latest (marks_of xs)) refl (linke
                 let y = f.few in
                 omega (arith, u, v, x, y)
 
-    by : (o : Latest) → latest (marks_of xs) ≡ o → Linked o (now xs) → Few (job_of (marks_of xs)) o (now xs) → StandsIn js p (progress cs)
+    by : (o : Latest) → latest (marks_of xs) ≡ o → Linked o (now xs) → Few (job_of (marks_of xs)) o (now xs) → StandsInPhase js p (progress cs)
     by latests.Nothing e k f = closed (ap open_in e)
     by (latests.Answered r a) e k f = closed (ap open_in e)
     by (latests.Asked r) e k f =
@@ -502,13 +502,13 @@ late_stands limits js xs p l c n cs late = by (latest (marks_of xs)) refl (linke
 -- ---- where a row event is open
 -- xs end in the request for it, or in its repeat
 pub record IsOpen (limits : Limits) (js : List Job) (xs : List Placed) (r : Request) (k : RowEvent) : Type 0 where
-  pub rest : (progress (told xs)).waiting ≡ false
+  pub rest : (progress (askings_told xs)).waiting ≡ false
   pub f : ℕ
   pub phase_is : count is_begun (marks_of xs) ≡ f + 1
   pub job : Job
   pub job_is : slice_get js f ≡ Some job
-  pub event_is : event_in job.task ≡ Some k
-  pub done : (progress (told xs)).done ≡ events_before js f
+  pub event_is : row_event_in job.task ≡ Some k
+  pub done : (progress (askings_told xs)).done ≡ events_before js f
 
 pub open_event : (limits : Limits) (js : List Job) (xs : List Placed) (r : Request) (k : RowEvent) → AreLegal limits js (marks_of xs) → Rests limits (marks_of xs) → cause_of (marks_of xs) ≡ None → (job : Job) → job_of (marks_of xs) ≡ Some job
     → latest (marks_of xs) ≡ latests.Asked r → event_for (code_of r) ≡ Some k → (p : ℕ) → count is_begun (marks_of xs) ≡ p + 1 → IsOpen limits js xs r k
@@ -516,10 +516,10 @@ open_event limits js xs r k l rs c job j o e p n =
     let s = open_stage job (marks_of xs) (now xs) r o (stage limits js xs l rs c job j) in
     let none = open_none job r (now xs) s (ap is_some e) in
     let rest = rest_open limits js xs r k l rs c job j o e in
-    let all = ap events_acked (split limits js xs l) ∙ events_append (now xs) (told (past xs)) in
+    let all = ap events_acked (split limits js xs l) ∙ events_append (now xs) (askings_told (past xs)) in
     let before = past_events limits js xs l p n in
     let zero_now = none.0 in
-    let counted = sym (at_rest (progress (told xs)) rest) ∙ acknowledged (told xs) in
+    let counted = sym (at_rest (progress (askings_told xs)) rest) ∙ acknowledged (askings_told xs) in
     record {
       rest = rest;
       f = p;
@@ -530,7 +530,7 @@ open_event limits js xs r k l rs c job j o e p n =
       done = omega (arith, all, before, zero_now, counted);
     }
   where
-    by : Main job r None (now xs) ⊎ Question job r None (now xs) → event_in job.task ≡ Some k
+    by : Main job r None (now xs) ⊎ Question job r None (now xs) → row_event_in job.task ≡ Some k
     by (inl m) = sym (slot_event job (acked m.ms) r m.slot) ∙ e
     by (inr q) =
         let b : Asking = q.newest in

@@ -5,7 +5,7 @@ use Rattle.std.specs.List.{list_any}
 use Rattle.std.proofs.lemmas.Bool.{eqb-true, and_parts}
 use Rattle.std.proofs.lemmas.List.{append_assoc}
 use Rattle.dcp_types.specs.declared.limits.Limits.{Limits}
-use Rattle.lockstep_laws.specs.Steps.{RowEvent, Reply, AtRest, Otherwise, told_by, is_on_its_way, Progress, events_counted, view_after}
+use Rattle.lockstep_laws.specs.Steps.{RowEvent, Reply, AtRest, Otherwise, told_by, is_on_its_way, BenchProgress, events_counted, view_after}
 use Rattle.master_spec.specs.declared.requests.Request.{Request}
 use Rattle.master_spec.specs.declared.requests.Request.TheVariants.{AskState}
 use Rattle.master_spec.specs.declared.requests.Answer.{Answer}
@@ -19,7 +19,7 @@ use Rattle.master_spec.specs.Conversation.{is_state}
 use Rattle.master_spec.specs.Requests.{Asking, Decision, is_state_question, acked}
 use Rattle.master_spec.specs.Shown.{names_in, names_target}
 use Rattle.asking_laws.specs.Legal.{Rests, AreLegal}
-use Rattle.index_laws.specs.Index.{Placed, marks_of, told}
+use Rattle.index_laws.specs.Index.{Placed, marks_of, askings_told}
 use Rattle.phase_laws.proofs.Now.{now, past, split}
 use Rattle.phase_laws.proofs.Mains.{AreMains, AreQuestions, of_main}
 use Rattle.phase_laws.proofs.Counts.{names_it, reached_now}
@@ -29,7 +29,7 @@ use Rattle.phase_laws.proofs.Tags.{job_phase, HasPassed, mains_name, passed_reac
 use Rattle.rest_laws.proofs.Resting.{rest_before}
 use Rattle.row_laws.specs.Laws.{event_for, reply_by, progress_after, progress}
 use Rattle.row_laws.proofs.Views.{acknowledged}
-use Rattle.barrier_laws.specs.Laws.{event_in, events_before}
+use Rattle.barrier_laws.specs.Laws.{row_event_in, events_before}
 use Rattle.barrier_laws.proofs.Scripts.{events_of, before_next}
 use Rattle.barrier_laws.proofs.Counting.{events_acked, events_append, not_event, events_off, questions_off, slot_event, whole_events, past_events, at_rest}
 
@@ -46,7 +46,7 @@ off_events : (bs : List Asking) → AreOff bs → events_acked bs ≡ 0
 off_events [] a = refl
 off_events (b ∷ bs) a = events_off b bs (ap is_some a.0) ∙ off_events bs a.1
 
-still_rests : (code : ℕ) (d : Option Decision) (v : Progress) → event_for code ≡ None → v.waiting ≡ false → (progress_after code d v).waiting ≡ false
+still_rests : (code : ℕ) (d : Option Decision) (v : BenchProgress) → event_for code ≡ None → v.waiting ≡ false → (progress_after code d v).waiting ≡ false
 still_rests code None v e h = h
 still_rests code (Some d) v e h = ap (λ (o : Option RowEvent). (view_after (told_by o (reply_by d.answer)) v).waiting) e ∙ by (reply_by d.answer)
   where
@@ -65,21 +65,21 @@ questions_are_off : (qs : List Asking) → AreQuestions qs → AreOff qs
 questions_are_off [] q = tt
 questions_are_off (b ∷ qs) q = (none_of (event_for b.code) (not_event b q.0), questions_are_off qs q.1)
 
-mains_are_off : (job : Job) (ms : List Asking) → event_in job.task ≡ None → AreMains job ms → AreOff ms
+mains_are_off : (job : Job) (ms : List Asking) → row_event_in job.task ≡ None → AreMains job ms → AreOff ms
 mains_are_off job [] e m = tt
 mains_are_off job (b ∷ ms) e m = (ap event_for ((m.0).of).0 ∙ slot_event job (acked ms) (m.0).request (m.0).slot ∙ e, mains_are_off job ms e (m.1).1)
 
-main_is_off : (job : Job) (r : Request) (d : Option Answer) (bs : List Asking) → event_in job.task ≡ None → Main job r d bs → AreOff bs
+main_is_off : (job : Job) (r : Request) (d : Option Answer) (bs : List Asking) → row_event_in job.task ≡ None → Main job r d bs → AreOff bs
 main_is_off job r d bs e k =
     let P : List Asking → Type 0 = λ z. AreOff z in
     subst P (sym k.is) (ap event_for (k.of).0 ∙ slot_event job (acked k.ms) r k.slot ∙ e, mains_are_off job k.ms e k.mains)
 
-question_is_off : (job : Job) (r : Request) (d : Option Answer) (bs : List Asking) → event_in job.task ≡ None → Question job r d bs → AreOff bs
+question_is_off : (job : Job) (r : Request) (d : Option Answer) (bs : List Asking) → row_event_in job.task ≡ None → Question job r d bs → AreOff bs
 question_is_off job r d bs e k =
     let P : List Asking → Type 0 = λ z. AreOff z in
     subst P (sym k.is) (off_append (k.newest ∷ k.qs) k.ms (questions_are_off (k.newest ∷ k.qs) (of_main r k.newest k.of ∙ k.asks, k.questions)) (mains_are_off job k.ms e k.mains))
 
-stage_is_off : (job : Job) (xs : List Placed) → event_in job.task ≡ None → Stage job (marks_of xs) (now xs) → AreOff (now xs)
+stage_is_off : (job : Job) (xs : List Placed) → row_event_in job.task ≡ None → Stage job (marks_of xs) (now xs) → AreOff (now xs)
 stage_is_off job xs e (idling q b a) = let P : List Asking → Type 0 = λ z. AreOff z in subst P (sym b) tt
 stage_is_off job xs e (main_open r q k) = main_is_off job r None (now xs) e k
 stage_is_off job xs e (question_open r q k) = question_is_off job r None (now xs) e k
@@ -103,14 +103,14 @@ names_rest tasks.Reset s h = ap is_on_its_way (eqb-true s _ h)
 names_rest tasks.Adjust s h = ap is_on_its_way (eqb-true s _ h)
 names_rest tasks.Deregister s h = absurd cc
 
-told_target : (task : Task) (a : Answer) (v : Progress) → names_in task a ≡ true → (view_after (told_by None (reply_by a)) v).waiting ≡ false
+told_target : (task : Task) (a : Answer) (v : BenchProgress) → names_in task a ≡ true → (view_after (told_by None (reply_by a)) v).waiting ≡ false
 told_target task (StateAck s) v h = ap (λ (t : Bool). (view_after (told_by None (if t then Otherwise else AtRest)) v).waiting) (names_rest task s h)
 told_target task Ack v h = absurd cc
 told_target task (Nack code) v h = absurd cc
 told_target task (ErrorAck code) v h = absurd cc
 told_target task LogAck v h = absurd cc
 
-target_rests : (task : Task) (b : Asking) (v : Progress) → names_it task b ≡ true → (progress_after b.code b.decision v).waiting ≡ false
+target_rests : (task : Task) (b : Asking) (v : BenchProgress) → names_it task b ≡ true → (progress_after b.code b.decision v).waiting ≡ false
 target_rests task b v h = by b.decision p.1
   where
     p : (is_state_question b ≡ true) × (names_target task b.decision ≡ true)
@@ -156,7 +156,7 @@ question_done job r d bs before h k =
       questions_off qs k.ms q ∙ whole_events job k.ms k.mains k.whole,
     )
 
-event_task : (task : Task) (k : RowEvent) → event_in task ≡ Some k → (is_by_list task ≡ false) × (is_by_end task ≡ false)
+event_task : (task : Task) (k : RowEvent) → row_event_in task ≡ Some k → (is_by_list task ≡ false) × (is_by_end task ≡ false)
 event_task (tasks.FirstOutputs row) k e = (refl, refl)
 event_task (tasks.Step n) k e = (refl, refl)
 event_task (tasks.Outputs n row) k e = (refl, refl)
@@ -192,8 +192,8 @@ stage_done limits js job xs before l p h (mains_done r q k w) = let z : false �
 stage_done limits js job xs before l p h (state_told s q k w) = question_done job AskState (Some (StateAck s)) (now xs) before h k
 
 pub passed_rests : (limits : Limits) (js : List Job) (xs : List Placed) (p : ℕ) → AreLegal limits js (marks_of xs) → Rests limits (marks_of xs) → HasPassed (marks_of xs) → count is_begun (marks_of xs) ≡ p + 1
-    → progress (told xs) ≡ record { done = events_before js (p + 1); waiting = false }
-passed_rests limits js xs p l rs h c = both (progress (told xs)) (subst P (sym (split limits js xs l)) done.0) count_is
+    → progress (askings_told xs) ≡ record { done = events_before js (p + 1); waiting = false }
+passed_rests limits js xs p l rs h c = both (progress (askings_told xs)) (subst P (sym (split limits js xs l)) done.0) count_is
   where
     P : List Asking → Type 0
     P z = (progress z).waiting ≡ false
@@ -201,25 +201,25 @@ passed_rests limits js xs p l rs h c = both (progress (told xs)) (subst P (sym (
     at_stage : Stage h.job (marks_of xs) (now xs)
     at_stage = stage limits js xs l rs h.cause_is h.job h.job_is
 
-    by : (o : Option RowEvent) → event_in (h.job).task ≡ o → IsDone h.job (now xs) (told (past xs))
+    by : (o : Option RowEvent) → row_event_in (h.job).task ≡ o → IsDone h.job (now xs) (askings_told (past xs))
     by None e =
         let off = stage_is_off h.job xs e at_stage in
-        (off_rests (now xs) (told (past xs)) off (rest_before limits js xs l), off_events (now xs) off ∙ sym (ap (λ (o : Option RowEvent). if is_some o then 1 else 0) e))
+        (off_rests (now xs) (askings_told (past xs)) off (rest_before limits js xs l), off_events (now xs) off ∙ sym (ap (λ (o : Option RowEvent). if is_some o then 1 else 0) e))
     by (Some k) e =
         let t = event_task (h.job).task k e in
         let z = sym (reached_now (h.job).task limits js xs l) ∙ passed_reached h.job (marks_of xs) t.0 t.1 h.passed in
-        stage_done limits js h.job xs (told (past xs)) l h.passed z at_stage
+        stage_done limits js h.job xs (askings_told (past xs)) l h.passed z at_stage
 
-    done : IsDone h.job (now xs) (told (past xs))
-    done = by (event_in (h.job).task) refl
+    done : IsDone h.job (now xs) (askings_told (past xs))
+    done = by (row_event_in (h.job).task) refl
 
-    count_is : events_counted (progress (told xs)) ≡ events_before js (p + 1)
+    count_is : events_counted (progress (askings_told xs)) ≡ events_before js (p + 1)
     count_is =
-        let all = acknowledged (told xs) ∙ ap events_acked (split limits js xs l) ∙ events_append (now xs) (told (past xs)) in
+        let all = acknowledged (askings_told xs) ∙ ap events_acked (split limits js xs l) ∙ events_append (now xs) (askings_told (past xs)) in
         let before = past_events limits js xs l p c in
         let own = done.1 in
         let next = before_next js p h.job (job_phase limits js (marks_of xs) l h.job h.job_is p c) in
         omega (arith, all, before, own, next)
 
-    both : (v : Progress) → v.waiting ≡ false → events_counted v ≡ events_before js (p + 1) → v ≡ record { done = events_before js (p + 1); waiting = false }
+    both : (v : BenchProgress) → v.waiting ≡ false → events_counted v ≡ events_before js (p + 1) → v ≡ record { done = events_before js (p + 1); waiting = false }
     both v e n = ap (λ (b : Bool). record { done = v.done; waiting = b }) e ∙ ap (λ (i : ℕ). record { done = i; waiting = false }) (sym (at_rest v e) ∙ n)

@@ -10,20 +10,20 @@ use Rattle.lockstep.specs.Lockstep.{row_index}
 use Rattle.lockstep_laws.specs.Steps.{RowEvent, Show, Step, Restart, row_event_at, run_after}
 use Rattle.master_spec.specs.declared.setups.Script.{Script}
 use Rattle.master_spec.specs.declared.tasks.Task.TheVariants as tasks
-use Rattle.master_spec.specs.Tasks.{row_of}
+use Rattle.master_spec.specs.Tasks.{task_row}
 use Rattle.master_spec.specs.Jobs.{Job, step_jobs, run_jobs, between_jobs, jobs_from, jobs}
-use Rattle.barrier_laws.specs.Laws.{event_in, events_before}
+use Rattle.barrier_laws.specs.Laws.{row_event_in, events_before}
 
 -- ---- counting jobs
 abbrev pub events_of : Job → ℕ
-events_of job = if is_some (event_in job.task) then 1 else 0
+events_of job = if is_some (row_event_in job.task) then 1 else 0
 
 pub none_before : (js : List Job) → events_before js 0 ≡ 0
 none_before [] = refl
 none_before (job ∷ js) = refl
 
 pub before_cons : (job : Job) (js : List Job) (p : ℕ) → events_before (job ∷ js) (suc p) ≡ events_of job + events_before js p
-before_cons job js p = sum_by-cons (λ (j : Job). if is_some (event_in j.task) then 1 else 0) job (take p js)
+before_cons job js p = sum_by-cons (λ (j : Job). if is_some (row_event_in j.task) then 1 else 0) job (take p js)
 
 pub before_next : (js : List Job) (p : ℕ) (job : Job) → slice_get js p ≡ Some job → events_before js (p + 1) ≡ events_before js p + events_of job
 before_next [] p job e = absurd cc
@@ -118,9 +118,9 @@ in_run steps q k n l e = ap (λ (i : ℕ). i / (steps + 1) + 1) e ∙ ap (λ (i 
 
 -- ---- each job asks for the row event that comes next
 pub record IsInPlace (steps runs n : ℕ) (job : Job) : Type 0 where
-  pub next : (k : RowEvent) → event_in job.task ≡ Some k → k ≡ row_event_at steps n
-  pub within : (k : RowEvent) → event_in job.task ≡ Some k → run_after steps n ≤ runs
-  pub row : (row : ℕ) → row_of job.task ≡ Some row → n ≡ 2 * row
+  pub next : (k : RowEvent) → row_event_in job.task ≡ Some k → k ≡ row_event_at steps n
+  pub within : (k : RowEvent) → row_event_in job.task ≡ Some k → run_after steps n ≤ runs
+  pub row : (row : ℕ) → task_row job.task ≡ Some row → n ≡ 2 * row
 
 abbrev AreInPlace : (steps runs n : ℕ) → List Job → Type 0
 AreInPlace steps runs n [] = Unit {0}
@@ -148,10 +148,10 @@ same_some : {A : Type 0} {x y : A} → Some x ≡ Some y → x ≡ y
 same_some z = cc
 
 -- a job that asks for none
-idle_place : (steps runs n : ℕ) (job : Job) → event_in job.task ≡ None → row_of job.task ≡ None → IsInPlace steps runs n job
+idle_place : (steps runs n : ℕ) (job : Job) → row_event_in job.task ≡ None → task_row job.task ≡ None → IsInPlace steps runs n job
 idle_place steps runs n job e r = record { next = λ k h. absurd (clash (sym e ∙ h)); within = λ k h. absurd (clash (sym e ∙ h)); row = λ k h. absurd (clash (sym r ∙ h)) }
 
-event_place : (steps runs n : ℕ) (job : Job) (k : RowEvent) → event_in job.task ≡ Some k → row_of job.task ≡ None → k ≡ row_event_at steps n → run_after steps n ≤ runs → IsInPlace steps runs n job
+event_place : (steps runs n : ℕ) (job : Job) (k : RowEvent) → row_event_in job.task ≡ Some k → task_row job.task ≡ None → k ≡ row_event_at steps n → run_after steps n ≤ runs → IsInPlace steps runs n job
 event_place steps runs n job k e r h w =
     record {
       next = λ c f. sym (same_some (sym e ∙ f)) ∙ h;
@@ -159,7 +159,7 @@ event_place steps runs n job k e r h w =
       row = λ c f. absurd (clash (sym r ∙ f));
     }
 
-show_place : (steps runs n : ℕ) (job : Job) (row : ℕ) → event_in job.task ≡ Some Show → row_of job.task ≡ Some row → n ≡ 2 * row → run_after steps n ≤ runs → IsInPlace steps runs n job
+show_place : (steps runs n : ℕ) (job : Job) (row : ℕ) → row_event_in job.task ≡ Some Show → task_row job.task ≡ Some row → n ≡ 2 * row → run_after steps n ≤ runs → IsInPlace steps runs n job
 show_place steps runs n job row e r h w =
     record {
       next = λ c f. sym (same_some (sym e ∙ f)) ∙ even_shows steps n row h;

@@ -13,7 +13,7 @@ use Rattle.log_spec.specs.Messages.{Note, Request as Wanted, role_read}
 use Rattle.log_spec.specs.Log.{Parties, IsSlaveOf, same, role_heard, Requests, in_channel, sent_in}
 use Rattle.log_spec.specs.Moves.{decided_exchanges}
 use Rattle.log_spec.proofs.Moves.{asked, requests_by_move}
-use Rattle.lockstep_laws.specs.Steps.{RowEvent, row_event_at, event_asked, run_after, Progress, view}
+use Rattle.lockstep_laws.specs.Steps.{RowEvent, row_event_at, event_asked, run_after, BenchProgress, view}
 use Rattle.master_spec.specs.declared.requests.Request.{Request}
 use Rattle.master_spec.specs.declared.reactions.Reaction.{Reaction}
 use Rattle.master_spec.specs.declared.reactions.Reaction.TheVariants.{Wait, Ask, Repeat}
@@ -28,8 +28,8 @@ use Rattle.master_spec.specs.Requests.{Asking, asks}
 use Rattle.master_spec.specs.Setup.{jobs_of}
 use Rattle.asking_laws.specs.Legal.{Does, AreLegal}
 use Rattle.asking_laws.proofs.Legal.{own_rests}
-use Rattle.index_laws.specs.Index.{Placed, at, marks_of, code_of, first_at, again_at, told, ReadBack, IsAsked, IsAgain, Owes}
-use Rattle.index_laws.specs.Runs.{course_at, owed, IsFirst, where_it_is, IsRun}
+use Rattle.index_laws.specs.Index.{Placed, at, marks_of, code_of, first_at, again_at, askings_told, ReadBack, IsAsked, IsAgain, Owes}
+use Rattle.index_laws.specs.Runs.{course_at, owed, IsFirstSend, where_it_is, IsRun}
 use Rattle.index_laws.specs.Laws.{AreHeard}
 use Rattle.index_laws.specs.Follows.{mine}
 use Rattle.index_laws.proofs.Laws.{listens}
@@ -42,7 +42,7 @@ use Rattle.master_meets.proofs.Sends.{role_told}
 use Rattle.master_meets.proofs.Asking.{same_as, mine_first, not_sent}
 use Rattle.row_laws.specs.Laws.{event_for, progress}
 use Rattle.row_laws.proofs.Views.{progress_told}
-use Rattle.barrier_laws.specs.Laws.{event_in, events_before, IsLeastDone, RowEventsWaitForAll}
+use Rattle.barrier_laws.specs.Laws.{row_event_in, events_before, IsLeastDone, RowEventsWaitForAll}
 use Rattle.barrier_laws.proofs.Scripts.{in_place, same_before}
 use Rattle.barrier_laws.proofs.Counting.{IsOpen, open_event}
 use Rattle.barrier_laws.proofs.Standing.{goes_at, progress_by_phase}
@@ -60,25 +60,25 @@ progress_again n [] = refl
 progress_again n (b ∷ bs) = refl
 
 -- where a slave stands that is asked for a row event, by its requests before
-record FindsAll (js : List Job) (phase : ℕ) (v : Progress) (k : RowEvent) : Type 0 where
+record FindsAll (js : List Job) (phase : ℕ) (v : BenchProgress) (k : RowEvent) : Type 0 where
   pub rest : v.waiting ≡ false
   pub f : ℕ
   pub phase_is : phase ≡ f + 1
   pub job : Job
   pub job_is : slice_get js f ≡ Some job
-  pub event_is : event_in job.task ≡ Some k
+  pub event_is : row_event_in job.task ≡ Some k
   pub done : v.done ≡ events_before js f
 
-finds_all : (limits : Limits) (js : List Job) (xs : List Placed) (r : Request) (k : RowEvent) (phase : ℕ) (bs : List Asking) → count is_begun (marks_of xs) ≡ phase → progress (told xs) ≡ progress bs → IsOpen limits js xs r k → FindsAll js phase (progress bs) k
+finds_all : (limits : Limits) (js : List Job) (xs : List Placed) (r : Request) (k : RowEvent) (phase : ℕ) (bs : List Asking) → count is_begun (marks_of xs) ≡ phase → progress (askings_told xs) ≡ progress bs → IsOpen limits js xs r k → FindsAll js phase (progress bs) k
 finds_all limits js xs r k phase bs n e o =
     record {
-      rest = ap (λ (v : Progress). v.waiting) (sym e) ∙ o.rest;
+      rest = ap (λ (v : BenchProgress). v.waiting) (sym e) ∙ o.rest;
       f = o.f;
       phase_is = sym n ∙ o.phase_is;
       job = o.job;
       job_is = o.job_is;
       event_is = o.event_is;
-      done = ap (λ (v : Progress). v.done) (sym e) ∙ o.done;
+      done = ap (λ (v : BenchProgress). v.done) (sym e) ∙ o.done;
     }
 
 -- what is sent, and what it finds where it asks for a row event
@@ -89,7 +89,7 @@ record IsSentToAll (id : ℕ) (js : List Job) (phase : ℕ) (bs : List Asking) (
   pub finds : (k : RowEvent) → event_for (code_of request) ≡ Some k → FindsAll js phase (progress bs) k
 
 sent_to_all : (limits : Limits) (js : List Job) (good : Request → Type 0) (id phase : ℕ) (marks' : List Mark) (xs : List Placed) (b : List ℕ) (more : List (List ℕ)) → ((r : Request) → good r → ReadBack id r)
-    → Owes good id (b ∷ more) marks' (marks_of xs) → AreLegal limits js marks' → count is_begun marks' ≡ phase → IsSentToAll id js phase (told xs) b
+    → Owes good id (b ∷ more) marks' (marks_of xs) → AreLegal limits js marks' → count is_begun marks' ≡ phase → IsSentToAll id js phase (askings_told xs) b
 sent_to_all limits js good id phase marks' xs b (c ∷ more) back o l n = absurd o
 sent_to_all limits js good id phase marks' xs b [] back o l n = by o.0 (o.1).0 ((o.1).1).0 ((o.1).1).1
   where
@@ -102,7 +102,7 @@ sent_to_all limits js good id phase marks' xs b [] back o l n = by o.0 (o.1).0 (
     repeats' : Wait ≡ Repeat → ⊥
     repeats' z = cc
 
-    by : (r : Request) → good r → cause_of (marks_of xs) ≡ None → IsAsked id b marks' (marks_of xs) r ⊎ IsAgain id b marks' (marks_of xs) r → IsSentToAll id js phase (told xs) b
+    by : (r : Request) → good r → cause_of (marks_of xs) ≡ None → IsAsked id b marks' (marks_of xs) r ⊎ IsAgain id b marks' (marks_of xs) r → IsSentToAll id js phase (askings_told xs) b
     by r g c (inl k) =
         let l' = subst P k.0 l in
         let j = job_there limits (marks_of xs) (Ask r) l'.0 (asks' r) in
@@ -113,7 +113,7 @@ sent_to_all limits js good id phase marks' xs b [] back o l n = by o.0 (o.1).0 (
           request = r;
           number = marks.asked (marks_of xs) % 65536;
           read = ap message_in k.1 ∙ back r g (marks.asked (marks_of xs) % 65536) (omega arith);
-          finds = λ e h. finds_all limits js (x ∷ xs) r e phase (told xs) m refl (open_event limits js (x ∷ xs) r e l' (own_rests limits (marks.Asked r) (marks_of xs) tt) c j.0 j.1 refl h p.0 p.1);
+          finds = λ e h. finds_all limits js (x ∷ xs) r e phase (askings_told xs) m refl (open_event limits js (x ∷ xs) r e l' (own_rests limits (marks.Asked r) (marks_of xs) tt) c j.0 j.1 refl h p.0 p.1);
         }
     by r g c (inr k) =
         let l' = subst P k.0 l in
@@ -125,14 +125,14 @@ sent_to_all limits js good id phase marks' xs b [] back o l n = by o.0 (o.1).0 (
           request = r;
           number = newest_number (marks_of xs);
           read = ap message_in (k.1).1 ∙ back r g (newest_number (marks_of xs)) (omega arith);
-          finds = λ e h. finds_all limits js (x ∷ xs) r e phase (told xs) m (progress_again 0 (told xs)) (open_event limits js (x ∷ xs) r e l' (own_rests limits marks.Again (marks_of xs) tt) c j.0 j.1 (open_latest (latest (marks_of xs)) r (k.1).0) h p.0 p.1);
+          finds = λ e h. finds_all limits js (x ∷ xs) r e phase (askings_told xs) m (progress_again 0 (askings_told xs)) (open_event limits js (x ∷ xs) r e l' (own_rests limits marks.Again (marks_of xs) tt) c j.0 j.1 (open_latest (latest (marks_of xs)) r (k.1).0) h p.0 p.1);
         }
 
 module _ (setup : Setup) (h : AreHeard setup) (w : Parties) (ps : ArePartiesOf setup w) (s : ℕ) (is : IsSlaveOf w s) (slave : Slave) (p : IsParty setup w s slave) where
   abbrev phase_at : List LogEntry → ℕ
   phase_at log = (course_at setup log).phase
 
-  to_all : (log : List LogEntry) → IsRun setup log → (to : Address) (bytes : List ℕ) → IsFirst (owed setup log) to bytes → same_address to slave.address ≡ true → IsSentToAll slave.id (jobs_of setup slave) (phase_at log) (asks setup.address slave log) bytes
+  to_all : (log : List LogEntry) → IsRun setup log → (to : Address) (bytes : List ℕ) → IsFirstSend (owed setup log) to bytes → same_address to slave.address ≡ true → IsSentToAll slave.id (jobs_of setup slave) (phase_at log) (asks setup.address slave log) bytes
   to_all log run to bytes first here = by (course_at setup log).report refl
     where
       first' : (more : List (List ℕ)) × (mine slave.address (owed setup log) ≡ bytes ∷ more)
@@ -170,8 +170,8 @@ module _ (setup : Setup) (h : AreHeard setup) (w : Parties) (ps : ArePartiesOf s
   finds (Turn at') log run n k e v = absurd (no_note n e)
   finds (Sent from to bytes) log run n k e v = by (same_address from setup.address && same_address to slave.address) refl
     where
-      first : same_address from setup.address ≡ true → IsFirst (owed setup log) to bytes
-      first x = let Q : Bool → Type 0 = λ b. where_it_is b (IsFirst (owed setup log) to bytes) in subst Q x run.0
+      first : same_address from setup.address ≡ true → IsFirstSend (owed setup log) to bytes
+      first x = let Q : Bool → Type 0 = λ b. where_it_is b (IsFirstSend (owed setup log) to bytes) in subst Q x run.0
 
       by : (b : Bool) → (same_address from setup.address && same_address to slave.address) ≡ b → FindsAll (jobs_of setup slave) (phase_at log) (progress (asks setup.address slave log)) k
       by false x = absurd (no_note n (sym (not_sent w s from to (role_heard w bytes) (both from to ∙ x)) ∙ e))
@@ -206,6 +206,6 @@ least_done setup h w ps log run s is slave p k f =
 
 pub events_wait : RowEventsWaitForAll
 events_wait setup h w ps e log run s is slave p n k mv v =
-    let P : Progress → Type 0 = λ x. FindsAll (jobs_of setup slave) (course_at setup log).phase x k in
+    let P : BenchProgress → Type 0 = λ x. FindsAll (jobs_of setup slave) (course_at setup log).phase x k in
     let f = finds setup h w ps s is slave p e log run n k (requests_by_move w s e ∙ ap asked mv) v in
     inr (least_done setup h w ps log run.1 s is slave p k (subst P (sym (progress_told setup h w ps log run.1 s is slave p)) f))

@@ -3,7 +3,7 @@
 ghost use Rattle.std.specs.Prelude.{◌≡◌, List, [], ◌∷◌, ◌++◌};
 ghost use Rattle.std.specs.Borrow.{ftrue};
 ghost use Rattle.dcp_ends.specs.declared.entries.LogEntry.{LogEntry};
-ghost use Rattle.call_history.specs.Entries.{entry_of};
+ghost use Rattle.call_history.specs.Entries.{call_entry};
 
 use dcp_types::Address;
 use std::marker::Model;
@@ -50,7 +50,7 @@ impl History {
     /// The history with this call after the others.
     #[inline(always)]
     pub fn then(&self, call: &Call<'_>) -> History
-        ensures { result.calls ≡ self.now.calls ++ entry_of call.now ∷ [] }
+        ensures { result.calls ≡ self.now.calls ++ call_entry call.now ∷ [] }
     {
         History {}
     }

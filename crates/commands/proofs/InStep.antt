@@ -20,12 +20,12 @@ use Rattle.scenario_laws.proofs.Scenarios.{events_reverse, finished_acknowledged
 use Rattle.log_spec.specs.Oldest.{Honest}
 use Rattle.rounds.specs.Rounds.{Rounds}
 use Rattle.rounds.specs.Told.{Follows}
-use Rattle.slave_spec.specs.Slaves.{rules_from}
+use Rattle.slave_spec.specs.Slaves.{slave_rules_from}
 use Rattle.host.specs.declared.hosted.Hosted.{Hosted}
-use Rattle.host.specs.Hosting.{hosted_from, is_hosted, master_of, slaves_of}
+use Rattle.host.specs.Hosting.{all_ends, hosted_from, is_hosted, master_of, slaves_of}
 use Rattle.host.specs.Views.{HostView, master_in, slaves_in}
-use Rattle.scenario_runs.specs.Runs.{IsWhole, all_ends}
-use Rattle.run_laws.specs.Laws.{IsRunInRounds, parties, slave_rules}
+use Rattle.scenario_runs.specs.Runs.{IsWhole}
+use Rattle.run_laws.specs.Laws.{IsRunInRounds, parties, rules_of_slaves}
 use Rattle.run_laws.proofs.Rounded.{rounds_are_runs}
 use Rattle.headline_laws.specs.Headline.{IsInLockstep, KeepsToReference}
 use Rattle.headline_laws.proofs.Headline.{keep_to_reference}
@@ -53,8 +53,8 @@ all_hosted (d ∷ ds) k few =
     cond-true (is_hosted all_ends (k + 1)) (d ∷ hosted_from all_ends (k + 1 + 1) ds) (hosted_from all_ends (k + 1 + 1) ds) (is_there k (omega (arith, few)))
     ∙ ap (λ (rest : List SlaveDesc). d ∷ rest) (all_hosted ds (k + 1) (omega (arith, few)))
 
-all_slaves : (sc : Scenario) → IsScenario sc → slaves_of sc all_ends ≡ slave_rules sc
-all_slaves sc ok = ap (λ (ds : List SlaveDesc). map (λ (d : SlaveDesc). rules_from (record { desc = d; micro = sc.micro })) ds) (all_hosted sc.slaves 0 (omega (arith, ok.few_slaves.1)))
+all_slaves : (sc : Scenario) → IsScenario sc → slaves_of sc all_ends ≡ rules_of_slaves sc
+all_slaves sc ok = ap (λ (ds : List SlaveDesc). map (λ (d : SlaveDesc). slave_rules_from (record { desc = d; micro = sc.micro })) ds) (all_hosted sc.slaves 0 (omega (arith, ok.few_slaves.1)))
 
 -- ---- a run of all ends is one of which the laws speak
 
@@ -76,14 +76,14 @@ is_run host has other honest =
     let Leads : Hosted → Type 0 = λ h. IfSome (master_of sc h) (λ rules. Follows rules log) in
     let Each : Hosted → Type 0 = λ h. All (λ rules. Follows rules log) (slaves_of sc h) in
     let One : List Rules → Type 0 = λ all. All (λ rules. Follows rules log) all in
-    let each : All (λ rules. Follows rules log) (slave_rules sc) = subst One (all_slaves sc has.sound) (subst Each has.hosted has.slaves) in
+    let each : All (λ rules. Follows rules log) (rules_of_slaves sc) = subst One (all_slaves sc has.sound) (subst Each has.hosted has.slaves) in
     record {
       honest = honest;
       count = has.count;
       rounds = subst Among (all_slaves sc has.sound) (subst Hosts has.hosted has.rounds);
       master = subst Leads has.hosted has.master;
       slaves = λ s is. (
-          let made : SlaveDesc → Rules = λ d. rules_from (record { desc = d; micro = sc.micro }) in
+          let made : SlaveDesc → Rules = λ d. slave_rules_from (record { desc = d; micro = sc.micro }) in
           let lt : s - 1 < length sc.slaves = omega (arith, is.0, is.1) in
           let all_made = length-map sc.slaves made in
           subst (λ (rules : Rules). Follows rules log) (get_or-map made sc.slaves (s - 1) other (made other) lt) (each (s - 1) (made other) (omega (arith, lt, all_made)))

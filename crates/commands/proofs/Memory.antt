@@ -9,7 +9,7 @@ use Rattle.master_spec.specs.declared.reports.Report.{Report}
 use Rattle.master_spec.specs.declared.reports.Report.TheVariants as reports
 use Rattle.net_laws.proofs.Honesty.{honest}
 use Rattle.net_world.specs.Calls.{AllRecent, Carried, GivesDue}
-use Rattle.net_world.specs.World.{calls_of, opening_of}
+use Rattle.net_world.specs.World.{calls_of, carried_opening}
 use Rattle.rounds.specs.Steps.{without_turns}
 use Rattle.run_text.specs.Runs.{DeliversBoth}
 use Rattle.run_laws.specs.Laws.{parties}
@@ -22,7 +22,7 @@ use Rattle.commands.specs.declared.statuses.Judgement.{Judgement}
 use Rattle.commands.specs.declared.statuses.Judgement.TheVariants.{Good, Failed}
 use Rattle.commands.specs.declared.statuses.Status.{Status}
 use Rattle.commands.specs.declared.statuses.Status.TheVariants.{Done, Usage, BadInput, RunFailed, ReadFault, WriteFault, NetFault, OutOfMemory, Differs}
-use Rattle.commands.specs.Changes.{Change}
+use Rattle.commands.specs.Changes.{RunChange}
 use Rattle.commands.specs.CommandWords.{Names}
 use Rattle.commands.specs.Given.{TakesFor}
 use Rattle.commands.specs.InStep.{SumsInStep}
@@ -43,7 +43,7 @@ use Rattle.commands.proofs.Outcomes.{stops_rose}
 
 -- what a network in memory tells
 pub told_in_memory : (traffic : Option Carried) → IfSome traffic (λ carried. GivesDue carried.opening [] carried.calls) → IfSome traffic (λ carried. AllRecent [] carried.calls)
-    → ToldInMemory (record { calls = calls_of traffic; opening = opening_of traffic })
+    → ToldInMemory (record { calls = calls_of traffic; opening = carried_opening traffic })
 told_in_memory None given recent = record { calls = []; told = refl; due = refl; recent = tt }
 told_in_memory (Some carried) given recent = record { calls = carried.calls; told = refl; due = given; recent = recent }
 
@@ -106,7 +106,7 @@ neither : (n : ℕ) → (n == 0) ≡ false → (n == 3) ≡ false → (n ≡ 0) 
 neither n a b (inl e) = true≢false (sym (eq-eqb n 0 e) ∙ a)
 neither n a b (inr e) = true≢false (sym (eq-eqb n 3 e) ∙ b)
 
-module _ (words : List (List ℕ)) (source out trace : Change) (told : NetTold) where
+module _ (words : List (List ℕ)) (source out trace : RunChange) (told : NetTold) where
   -- such a network has no fault
   pub is_sure : (status : Status) → Outcome words source out trace (sure_change told) status → status_code status ≡ 6 → ⊥
   is_sure NetFault outcome e = omega (arith, stops_rose outcome.0 outcome.1 0 0 outcome.5)

@@ -14,8 +14,7 @@ use Rattle.master_spec.specs.Rules.{MasterRun}
 use Rattle.scenario.specs.Sound.{IsScenario}
 use Rattle.scenario_laws.proofs.Scenarios.{failed_first, finished_acknowledged}
 use Rattle.finish_laws.proofs.Whole.{finished_is_exchanged}
-use Rattle.scenario_runs.specs.Runs.{all_ends}
-use Rattle.host.specs.Hosting.{master_of}
+use Rattle.host.specs.Hosting.{all_ends, master_of}
 use Rattle.dcp_ends.specs.Logs.{events_at}
 use Rattle.scenario.specs.declared.scenarios.Scenario.{Scenario}
 use Rattle.master_spec.specs.Setup.{setup_from}
@@ -26,8 +25,8 @@ use Rattle.replays.specs.declared.faults.ReplayFault.TheVariants as faults
 use Rattle.replays.specs.declared.replays.Replayed.{Replayed}
 use Rattle.replays.specs.Replays.{Answers}
 use Rattle.run_text.specs.Runs.{DeliversBoth, text_after}
-use Rattle.commands.specs.declared.answers.Answer.{Answer}
-use Rattle.commands.specs.declared.answers.Answer.TheVariants as answers
+use Rattle.commands.specs.declared.answers.CommandAnswer.{CommandAnswer}
+use Rattle.commands.specs.declared.answers.CommandAnswer.TheVariants as answers
 use Rattle.commands.specs.declared.command_words.Command.{Command}
 use Rattle.commands.specs.declared.command_words.Command.TheVariants.{Decode, Encode, Describe, Reference, Talk, Run, Replay, Soak}
 use Rattle.commands.specs.declared.answers.Unsaid.TheVariants as unsaid
@@ -40,11 +39,11 @@ use Rattle.text_lines.specs.Readings.{IsFirstBad}
 use Rattle.text_lines.specs.declared.reasons.TextRefused.{TextRefused}
 use Rattle.text_lines.specs.declared.reasons.TextRefused.TheVariants as refusals
 use Rattle.scenario_text.specs.Judging.{scenario_why_at}
-use Rattle.commands.specs.Answers.{Delivered, Gives, IsAlone, IsWritableAnswer, RanOrRefused, RunDelivered, SoakDelivered}
+use Rattle.commands.specs.Answers.{Delivered, GivesAnswer, IsAlone, IsWritableAnswer, RanOrRefused, RunDelivered, SoakDelivered}
 use Rattle.commands.specs.Replays.{FollowsReport, GivesReplay, GoesThrough, ReplayDelivered, SaysStop}
 use Rattle.commands.specs.SaysReplay.{IsTraceOf, ReplaysTo, SaysReplay, unended_line}
-use Rattle.commands.specs.declared.said.Said.{Said}
-use Rattle.commands.specs.Changes.{Change, NetChange}
+use Rattle.commands.specs.declared.said.Statement.{Statement}
+use Rattle.commands.specs.Changes.{RunChange, NetChange}
 use Rattle.commands.specs.Refusals.{RefusesText}
 use Rattle.commands.specs.Said.{text_of}
 use Rattle.commands.specs.CommandWords.{IsCommand}
@@ -88,7 +87,7 @@ stops_still Run input before now stopped = stopped
 stops_still (Soak number) input before now stopped = stopped
 
 -- a text that no scenario is, refused at its first line that is refused
-pub refused_run : (net : NetTold) (input : List ℕ) (refusal : TextRefused) (said : Said) → length input ≤ 1048576 → IsFirstBad scenario_why_at input refusal → RefusesText refusal said
+pub refused_run : (net : NetTold) (input : List ℕ) (refusal : TextRefused) (said : Statement) → length input ≤ 1048576 → IsFirstBad scenario_why_at input refusal → RefusesText refusal said
     → SaysRun net input said.judgement (text_of said.text) []
 refused_run net input (refusals.Fault fault) said short bad refuses =
     let Judged : Judgement → Type 0 = λ judgement. SaysRun net input judgement (text_of said.text) [] in
@@ -144,7 +143,7 @@ soak_says held holds before now kept count net input number host status ended ru
     says (reports.Failed slave phase cause) text soaks = (slave, phase, cause, soaks)
 
 -- a refusal of a run's text is one of a number's text
-pub refused_soak : (number : ℕ) (net : NetTold) (input : List ℕ) (said : Said) → RanOrRefused (answers.Said said) → Gives Run net input (answers.Said said) → Gives (Soak number) net input (answers.Said said)
+pub refused_soak : (number : ℕ) (net : NetTold) (input : List ℕ) (said : Statement) → RanOrRefused (answers.Said said) → GivesAnswer Run net input (answers.Said said) → GivesAnswer (Soak number) net input (answers.Said said)
 refused_soak number net input said refused given =
     let Ran : Judgement → Type 0 = λ judgement. SaysRun net input judgement (text_of said.text) [] in
     let Soaked : Judgement → Type 0 = λ judgement. SaysSoak number net input judgement (text_of said.text) in
@@ -179,7 +178,7 @@ unfolding IsWritten
 wrote report status follows = subst IsWritten (sym follows.1) (written_after report follows.0)
 
 -- where a replay stops is what the command says
-pub stop_says : (input : List ℕ) (scenario : Scenario) (hosted : Hosted) (entries : List LogEntry) (fault : ReplayFault) (said : Said) → IsTraceOf input scenario hosted entries
+pub stop_says : (input : List ℕ) (scenario : Scenario) (hosted : Hosted) (entries : List LogEntry) (fault : ReplayFault) (said : Statement) → IsTraceOf input scenario hosted entries
     → Answers {T = Replayed} scenario hosted entries (Err fault) → SaysStop fault said → SaysReplay input said.judgement (text_of said.text)
 stop_says input scenario hosted entries (faults.Differs at) said trace answers says =
     let Judged : Judgement → Type 0 = λ judgement. SaysReplay input judgement (text_of said.text) in
@@ -190,25 +189,25 @@ stop_says input scenario hosted entries (faults.Unended count) said trace answer
 stop_says input scenario hosted entries faults.OutOfMemory said trace answers says = absurd says
 
 -- what a replay gives is an answer of its command
-pub replay_gives : (net : NetTold) (input : List ℕ) (answer : Answer) → GivesReplay input answer → Gives Replay net input answer
+pub replay_gives : (net : NetTold) (input : List ℕ) (answer : CommandAnswer) → GivesReplay input answer → GivesAnswer Replay net input answer
 replay_gives net input (answers.Said said) given = (given, refl)
 replay_gives net input (answers.Ran host) given = absurd given
 replay_gives net input (answers.Replayed scenario replayed) given = (refl, given.1)
 replay_gives net input (answers.Soaked number host) given = absurd given
 
-pub replay_writable : (input : List ℕ) (answer : Answer) → GivesReplay input answer → IsWritableAnswer input answer
+pub replay_writable : (input : List ℕ) (answer : CommandAnswer) → GivesReplay input answer → IsWritableAnswer input answer
 replay_writable input (answers.Said said) given = tt
 replay_writable input (answers.Ran host) given = absurd given
 replay_writable input (answers.Replayed scenario replayed) given = given.0
 replay_writable input (answers.Soaked number host) given = absurd given
 
-pub replay_alone : (input : List ℕ) (answer : Answer) → GivesReplay input answer → IsAlone answer
+pub replay_alone : (input : List ℕ) (answer : CommandAnswer) → GivesReplay input answer → IsAlone answer
 replay_alone input (answers.Said said) given = tt
 replay_alone input (answers.Ran host) given = absurd given
 replay_alone input (answers.Replayed scenario replayed) given = tt
 replay_alone input (answers.Soaked number host) given = absurd given
 
-module _ (words : List (List ℕ)) (source out trace : Change) (net : NetChange) where
+module _ (words : List (List ℕ)) (source out trace : RunChange) (net : NetChange) where
   pub outcome_is : (judgement : Judgement) (delivery : Delivery) → Answered words source out trace net judgement delivery → Outcome words source out trace net (status_after judgement delivery)
   outcome_is Good Whole answered = answered
   outcome_is Good Cut answered = inl answered
@@ -238,7 +237,7 @@ module _ (words : List (List ℕ)) (source out trace : Change) (net : NetChange)
   outcome_free WriteFault (inr (inl failed)) named read written traced called = elim (cut_failed Failed failed) [ inl first ↦ written first | inr second ↦ traced second ]
   outcome_free WriteFault (inr (inr differs)) named read written traced called = elim (cut_failed judged.Differs differs) [ inl first ↦ written first | inr second ↦ traced second ]
 
-abbrev pub change : Option (List ℕ) → Option (List ℕ) → (before now : ℕ) → Change
+abbrev pub change : Option (List ℕ) → Option (List ℕ) → (before now : ℕ) → RunChange
 change was is before now = record { was = was; is = is; before = before; now = now }
 
 -- the same change in other words

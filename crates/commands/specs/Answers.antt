@@ -6,11 +6,11 @@ use Rattle.scenario.specs.Sound.{IsScenario}
 use Rattle.master_spec.specs.declared.reports.Report.{Report}
 use Rattle.rounds.specs.Told.{Follows}
 use Rattle.host.specs.Views.{HostView, master_in, slaves_in}
-use Rattle.scenario_runs.specs.Runs.{all_ends}
+use Rattle.host.specs.Hosting.{all_ends}
 use Rattle.run_text.specs.Runs.{DeliversBoth}
 use Rattle.soaks.specs.Summaries.{summary}
-use Rattle.commands.specs.declared.answers.Answer.{Answer}
-use Rattle.commands.specs.declared.answers.Answer.TheVariants.{Said, Ran, Replayed, Soaked}
+use Rattle.commands.specs.declared.answers.CommandAnswer.{CommandAnswer}
+use Rattle.commands.specs.declared.answers.CommandAnswer.TheVariants.{Said, Ran, Replayed, Soaked}
 use Rattle.commands.specs.declared.command_words.Command.{Command}
 use Rattle.commands.specs.declared.command_words.Command.TheVariants.{Run, Replay, Soak}
 use Rattle.commands.specs.declared.statuses.Judgement.{Judgement}
@@ -25,11 +25,11 @@ use Rattle.commands.specs.Replays.{GoesThrough}
 use Rattle.commands.specs.Statuses.{judgement_of_report, status_after}
 
 -- what the command says of the input is in this answer
-abbrev pub Gives : Command → NetTold → (input : List ℕ) → Answer → Type 0
-Gives command net input (Said said) = Says command net input said.judgement (text_of said.text) []
-Gives command net input (Ran host) = (command ≡ Run) × HasEnded net input host
-Gives command net input (Replayed scenario replayed) = (command ≡ Replay) × GoesThrough input scenario replayed
-Gives command net input (Soaked number host) = (command ≡ Soak number) × HasEnded net input host
+abbrev pub GivesAnswer : Command → NetTold → (input : List ℕ) → CommandAnswer → Type 0
+GivesAnswer command net input (Said said) = Says command net input said.judgement (text_of said.text) []
+GivesAnswer command net input (Ran host) = (command ≡ Run) × HasEnded net input host
+GivesAnswer command net input (Replayed scenario replayed) = (command ≡ Replay) × GoesThrough input scenario replayed
+GivesAnswer command net input (Soaked number host) = (command ≡ Soak number) × HasEnded net input host
 
 -- the scenario is sound, all its ends are hosted, no fault stopped them, and the master has its report
 pub record IsWritable (input : List ℕ) (host : HostView) : Type 0 where
@@ -39,27 +39,27 @@ pub record IsWritable (input : List ℕ) (host : HostView) : Type 0 where
   pub reported : report_after host ≢ None
   pub short : length input ≤ input_limit
 
-abbrev pub IsWritableAnswer : (input : List ℕ) → Answer → Type 0
+abbrev pub IsWritableAnswer : (input : List ℕ) → CommandAnswer → Type 0
 IsWritableAnswer input (Said said) = Unit {0}
 IsWritableAnswer input (Ran host) = IsWritable input host
 IsWritableAnswer input (Replayed scenario replayed) = IsScenario scenario
 IsWritableAnswer input (Soaked number host) = IsWritable input host
 
 -- nothing is left for the trace
-abbrev pub IsAlone : Answer → Type 0
+abbrev pub IsAlone : CommandAnswer → Type 0
 IsAlone (Said said) = Unit {0}
 IsAlone (Ran host) = ⊥
 IsAlone (Replayed scenario replayed) = Unit {0}
 IsAlone (Soaked number host) = Unit {0}
 
-abbrev pub IsRefusal : Answer → Type 0
+abbrev pub IsRefusal : CommandAnswer → Type 0
 IsRefusal (Said said) = said.judgement ≡ Refused
 IsRefusal (Ran host) = ⊥
 IsRefusal (Replayed scenario replayed) = ⊥
 IsRefusal (Soaked number host) = ⊥
 
 -- a run, or the refusal of its text
-abbrev pub RanOrRefused : Answer → Type 0
+abbrev pub RanOrRefused : CommandAnswer → Type 0
 RanOrRefused (Said said) = said.judgement ≡ Refused
 RanOrRefused (Ran host) = Unit {0}
 RanOrRefused (Replayed scenario replayed) = ⊥

@@ -4,16 +4,16 @@ use Rattle.dcp_io.specs.Faults.{Rose}
 use Rattle.commands.specs.SaysRun.{NetTold}
 
 -- The bytes that it told before and tells now, where it tells them: what a source had left and has left, or what a sink held and holds. And its counts of faults before and now.
-pub record Change : Type 0 where
+pub record RunChange : Type 0 where
   pub was : Option (List ℕ)
   pub is : Option (List ℕ)
   pub before : ℕ
   pub now : ℕ
 
-abbrev pub HasFailed : Change → Type 0
+abbrev pub HasFailed : RunChange → Type 0
 HasFailed c = Rose c.before c.now
 
-abbrev pub HasNotFailed : Change → Type 0
+abbrev pub HasNotFailed : RunChange → Type 0
 HasNotFailed c = c.now ≡ c.before
 
 -- what the network tells now, and its counts of faults before and now

@@ -34,7 +34,7 @@ module _ (old new : Option (List ℕ)) where
   GivesBy own limit before now gathered.OutOfMemory = TakesSomeBy own limit × (now ≡ before)
 
 -- the text of the number's scenario
-abbrev pub IsMade : (number : ℕ) → Gathered → Type 0
-IsMade number (gathered.Bytes input) = input.items ≡ soak_text number
-IsMade number gathered.Failed = ⊥
-IsMade number gathered.OutOfMemory = Unit {0}
+abbrev pub IsSoakMade : (number : ℕ) → Gathered → Type 0
+IsSoakMade number (gathered.Bytes input) = input.items ≡ soak_text number
+IsSoakMade number gathered.Failed = ⊥
+IsSoakMade number gathered.OutOfMemory = Unit {0}

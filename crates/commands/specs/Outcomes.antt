@@ -10,13 +10,13 @@ use Rattle.commands.specs.declared.statuses.Judgement.TheVariants as judged
 use Rattle.byte_spool.specs.declared.outputs.Delivery.{Delivery}
 use Rattle.byte_spool.specs.declared.outputs.Delivery.TheVariants.{Whole, Cut}
 use Rattle.run_text.specs.Runs.{DeliversBoth}
-use Rattle.commands.specs.Changes.{Change, NetChange, HasFailed, HasNotFailed}
+use Rattle.commands.specs.Changes.{RunChange, NetChange, HasFailed, HasNotFailed}
 use Rattle.commands.specs.CommandWords.{Names, IsCommand}
 use Rattle.commands.specs.Given.{TakesFor, TakesSomeFor}
 use Rattle.commands.specs.Says.{Says, Stops}
 
 -- these words were given, and this happened to the source, the two sinks and the network
-module _ (words : List (List ℕ)) (source out trace : Change) (net : NetChange) where
+module _ (words : List (List ℕ)) (source out trace : RunChange) (net : NetChange) where
   -- the text was written to the one sink, and then the trace to the other
   abbrev pub Wrote : (text traced : List ℕ) → Delivery → Type 0
   Wrote = DeliversBoth out.was out.is out.before out.now trace.was trace.is trace.before trace.now

@@ -10,7 +10,7 @@ use Rattle.soaks.specs.Summaries.{first_line, sum_text}
 use Rattle.soaks.specs.Sums.{whole_sum}
 use Rattle.soaks.specs.Texts.{soak_text}
 use Rattle.commands.specs.declared.statuses.Status.{Status}
-use Rattle.commands.specs.Changes.{Change, NetChange}
+use Rattle.commands.specs.Changes.{RunChange, NetChange}
 use Rattle.commands.specs.InStep.{KeepsInStep, SumsInStep}
 use Rattle.commands.specs.Inputs.{TakesInput}
 use Rattle.commands.specs.Limits.{input_limit}
@@ -20,7 +20,7 @@ use Rattle.commands.specs.SaysSoak.{SoaksTo, rows_after}
 use Rattle.commands.specs.Statuses.{judgement_of_report, status_after, status_code}
 
 -- an object that has had no fault before
-abbrev pub change_of : Option (List ℕ) → Option (List ℕ) → ℕ → Change
+abbrev pub change_of : Option (List ℕ) → Option (List ℕ) → ℕ → RunChange
 change_of was is faults = record { was = was; is = is; before = 0; now = faults }
 
 -- a network of which no call fails

@@ -3,7 +3,7 @@ use Rattle.std.specs.Prelude.{◌≡◌, ◌⊎◌, ℕ, ◌<◌, ◌≤◌, Lis
 use Rattle.text_lines.specs.Causes.{cause_word}
 use Rattle.text_lines.specs.declared.reasons.TextRefused.{TextRefused}
 use Rattle.text_lines.specs.declared.reasons.TextRefused.TheVariants as refused
-use Rattle.commands.specs.declared.said.Said.{Said}
+use Rattle.commands.specs.declared.said.Statement.{Statement}
 use Rattle.commands.specs.declared.statuses.Judgement.{Judgement}
 use Rattle.commands.specs.declared.statuses.Judgement.TheVariants.{Refused}
 use Rattle.commands.specs.Limits.{input_limit}
@@ -18,11 +18,11 @@ abbrev pub byte_refusal : ℕ → List ℕ → List ℕ
 byte_refusal at word = codes "input: byte " ++ (decimal at ++ (codes " " ++ (word ++ codes "\n")))
 
 -- this line refuses the input
-abbrev pub Refuses : List ℕ → Said → Type 0
+abbrev pub Refuses : List ℕ → Statement → Type 0
 Refuses line said = (said.judgement ≡ Refused) × (text_of said.text ≡ line)
 
 -- the line of a text that is refused, and why; want of memory refuses none
-abbrev pub RefusesText : TextRefused → Said → Type 0
+abbrev pub RefusesText : TextRefused → Statement → Type 0
 RefusesText (refused.Fault fault) said = Refuses (line_refusal fault.line (cause_word fault.why)) said
 RefusesText refused.OutOfMemory said = ⊥
 

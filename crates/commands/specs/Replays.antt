@@ -19,9 +19,9 @@ use Rattle.replays.specs.declared.replays.Replayed as replays
 use Rattle.replays.specs.Differences.{IsEnded}
 use Rattle.replays.specs.Expected.{AreRight}
 use Rattle.replays.specs.Replays.{IsReplayed}
-use Rattle.commands.specs.declared.answers.Answer.{Answer}
-use Rattle.commands.specs.declared.answers.Answer.TheVariants as answers
-use Rattle.commands.specs.declared.said.Said.{Said}
+use Rattle.commands.specs.declared.answers.CommandAnswer.{CommandAnswer}
+use Rattle.commands.specs.declared.answers.CommandAnswer.TheVariants as answers
+use Rattle.commands.specs.declared.said.Statement.{Statement}
 use Rattle.commands.specs.declared.says.replay.Opened.{Opened}
 use Rattle.commands.specs.declared.says.replay.Opened.TheVariants.{Trace, Refused}
 use Rattle.commands.specs.declared.statuses.Judgement.TheVariants as judged
@@ -42,7 +42,7 @@ IsOpened input (Trace scenario hosted entries) = IsScenario scenario × IsTraceO
 IsOpened input (Refused said) = (said.judgement ≡ judged.Refused) × RefusesTrace input (text_of said.text)
 
 -- the line of a trace that does not go through; want of memory has none
-abbrev pub SaysStop : ReplayFault → Said → Type 0
+abbrev pub SaysStop : ReplayFault → Statement → Type 0
 SaysStop (Differs at) said = (said.judgement ≡ judged.Differs) × (text_of said.text ≡ differs_line at)
 SaysStop (Unended entries) said = (said.judgement ≡ judged.Differs) × (text_of said.text ≡ unended_line entries)
 SaysStop OutOfMemory said = ⊥
@@ -56,7 +56,7 @@ pub record GoesThrough (input : List ℕ) (scenario : Scenario) (replayed : repl
   pub ended : IsEnded (master_of scenario hosted) (slaves_of scenario hosted) entries
   pub stands : IsReplayed scenario entries replayed
 
-abbrev pub GivesReplay : (input : List ℕ) → Answer → Type 0
+abbrev pub GivesReplay : (input : List ℕ) → CommandAnswer → Type 0
 GivesReplay input (answers.Said said) = SaysReplay input said.judgement (text_of said.text)
 GivesReplay input (answers.Ran host) = ⊥
 GivesReplay input (answers.Soaked number host) = ⊥

@@ -4,7 +4,7 @@ use Rattle.pdu_layout.specs.Message.{Message, Spells}
 use Rattle.pdu_codec.specs.declared.faults.DecodeWhy.{DecodeWhy}
 use Rattle.pdu_codec.specs.declared.faults.DecodeWhy.TheVariants.{Empty, UnknownType, Short, Long, BadState, BadType, TooLong}
 use Rattle.pdu_codec.specs.Refusals.{Refusal}
-use Rattle.pdu_text.specs.Printed.{line_of}
+use Rattle.pdu_text.specs.Printed.{line_of_message}
 use Rattle.commands.specs.declared.statuses.Judgement.{Judgement}
 use Rattle.commands.specs.declared.statuses.Judgement.TheVariants as judged
 use Rattle.commands.specs.Refusals.{byte_refusal}
@@ -21,7 +21,7 @@ decode_word TooLong = codes "TOO_LONG"
 
 -- the line of the message that the bytes spell, or where and why they spell none
 abbrev pub SaysDecoded : List ℕ → Judgement → List ℕ → Type 0
-SaysDecoded input judged.Good text = (message : Message) × Spells message input × (text ≡ line_of message)
+SaysDecoded input judged.Good text = (message : Message) × Spells message input × (text ≡ line_of_message message)
 SaysDecoded input judged.Refused text = (at : ℕ) × (why : DecodeWhy) × Refusal input at why × (text ≡ byte_refusal at (decode_word why))
 SaysDecoded input judged.Failed text = ⊥
 SaysDecoded input judged.Differs text = ⊥

@@ -3,7 +3,7 @@ use Rattle.std.specs.Prelude.{◌≡◌, ◌⊎◌, ℕ, ◌+◌, ◌/◌, ◌%�
 use Rattle.dcp_ends.specs.Logs.{events_at}
 use Rattle.dcp_ends.specs.declared.entries.LogEntry.{LogEntry}
 use Rattle.dcp_record.specs.Traces.{IsTrace}
-use Rattle.dcp_record.specs.Refusals.{Refusal}
+use Rattle.dcp_record.specs.Refusals.{TraceRefusal}
 use Rattle.dcp_record.specs.Words.{trace_word}
 use Rattle.dcp_record.specs.declared.faults.TraceWhy.{TraceWhy}
 use Rattle.dcp_record.specs.declared.faults.TraceWhy.TheVariants.{Header}
@@ -76,7 +76,7 @@ pub record StopsShort (input text : List ℕ) : Type 0 where
 pub record IsNoTrace (input text : List ℕ) : Type 0 where
   pub at : ℕ
   pub why : TraceWhy
-  pub refusal : Refusal input at why
+  pub refusal : TraceRefusal input at why
   pub text_is : text ≡ byte_refusal at (trace_word why)
 
 -- the bytes are a trace whose scenario does not read

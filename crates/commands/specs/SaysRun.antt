@@ -20,9 +20,9 @@ use Rattle.master_spec.specs.Setup.{setup_from}
 use Rattle.exchange_laws.specs.Laws.{IsFinished}
 use Rattle.run_text.specs.Runs.{all_bits, text_after}
 use Rattle.rounds.specs.Told.{Follows}
-use Rattle.host.specs.Hosting.{opening_of}
+use Rattle.host.specs.Hosting.{all_ends, opening_of}
 use Rattle.host.specs.Views.{HostView, Tells, master_in, slaves_in}
-use Rattle.scenario_runs.specs.Runs.{IsWhole, all_ends}
+use Rattle.scenario_runs.specs.Runs.{IsWhole}
 use Rattle.commands.specs.declared.answers.Unsaid.{Unsaid}
 use Rattle.commands.specs.declared.answers.Unsaid.TheVariants.{NetFault, OutOfMemory}
 use Rattle.commands.specs.declared.statuses.Judgement.{Judgement}
@@ -38,7 +38,7 @@ pub record NetTold : Type 0 where
   pub opening : Option Opening
 
 -- The host of all ends of a scenario has run whole rounds to the master's report. Where the network tells them, it was opened for these ends with the scenario's plan, and its calls are the host's log without its turns.
-pub record IsRun (net : NetTold) (host : HostView) : Type 0 where
+pub record IsNetRun (net : NetTold) (host : HostView) : Type 0 where
   pub hosted : host.hosted ≡ all_ends
   pub whole : IsWhole host
   pub opened : IfSome net.opening (λ opening. opening ≡ opening_of host.scenario all_ends)
@@ -48,7 +48,7 @@ pub record IsRun (net : NetTold) (host : HostView) : Type 0 where
 pub record HasEnded (net : NetTold) (input : List ℕ) (host : HostView) : Type 0 where
   pub short : length input ≤ input_limit
   pub reads : ReadsAsScenario input host.scenario
-  pub run : IsRun net host
+  pub run : IsNetRun net host
 
 -- what happened to the master of a run, the newest first
 abbrev pub master_events : HostView → List Event

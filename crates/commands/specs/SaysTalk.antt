@@ -3,7 +3,7 @@ use Rattle.std.specs.Prelude.{◌≡◌, ℕ, List, []}
 use Rattle.text_lines.specs.Readings.{FirstBad}
 use Rattle.text_lines.specs.declared.reasons.TextWhy.{TextWhy}
 use Rattle.text_lines.specs.Causes.{cause_word}
-use Rattle.slave_spec.specs.Slaves.{rules_from}
+use Rattle.slave_spec.specs.Slaves.{slave_rules_from}
 use Rattle.talk_text.specs.declared.events.Talk.{Talk}
 use Rattle.talk_text.specs.Talks.{IsTalk, events_of}
 use Rattle.talk_text.specs.Judging.{talk_why_at}
@@ -14,7 +14,7 @@ use Rattle.commands.specs.Refusals.{line_refusal}
 
 -- the lines of the messages that the slave of a talk sends over its events, in order; a step has one micro step
 abbrev pub talk_lines : Talk → List ℕ
-talk_lines t = lines_shown (sends_over (rules_from (record { desc = t.desc; micro = 1 })) [] (events_of t))
+talk_lines t = lines_shown (sends_over (slave_rules_from (record { desc = t.desc; micro = 1 })) [] (events_of t))
 
 -- what the slave says, or the first line of the text that is refused
 abbrev pub SaysTalk : List ℕ → Judgement → List ℕ → Type 0

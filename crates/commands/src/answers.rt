@@ -1,7 +1,7 @@
 //! What a command answers to an input, and the writing of it.
 
 ghost use Rattle.std.specs.Prelude.{◌≡◌, ℕ, List};
-ghost use Rattle.commands.specs.Answers.{Delivered, Gives, IsRefusal, IsAlone, IsWritable, IsWritableAnswer, RunDelivered, SoakDelivered};
+ghost use Rattle.commands.specs.Answers.{Delivered, GivesAnswer, IsRefusal, IsAlone, IsWritable, IsWritableAnswer, RunDelivered, SoakDelivered};
 ghost use Rattle.commands.specs.Replays.{FollowsReport, ReplayDelivered};
 ghost use Rattle.replays.specs.Replays.{IsReplayed};
 ghost use Rattle.scenario.specs.Sound.{IsScenario};
@@ -10,7 +10,7 @@ ghost use Rattle.commands.specs.Statuses.{ComesBeforeWriting, ComesWithoutNet, j
 ghost use Rattle.commands.specs.SaysRun.{NetTold};
 ghost use Rattle.commands.specs.declared.command_words.Command.{Command};
 
-use crate::said::{Said, write_text};
+use crate::said::{Statement, write_text};
 use crate::statuses::{Judgement, Status};
 use dcp_io::Sink;
 use dcp_types::OutOfMemory;
@@ -23,9 +23,9 @@ use soaks::write_summary;
 
 /// What a command answers to an input.
 #[derive(Drop)]
-pub enum Answer {
+pub enum CommandAnswer {
     /// A text.
-    Said(Said),
+    Said(Statement),
     /// The host of all ends of a scenario, which have run until the master had its report.
     Ran(Host),
     /// A trace of this scenario that went through, with the master that has its rows and its report.
@@ -122,9 +122,14 @@ fn deliver_soak<K: Sink>(out: &mut K, number: u32, host: &Host) -> Status
 }
 
 /// Writes a text to the one sink and nothing to the other; or what a run leaves to both.
-pub fn deliver<K: Sink, R: Sink>(out: &mut K, trace: &mut R, answer: Answer, input: &[u8]) -> Status
+pub fn deliver<K: Sink, R: Sink>(
+    out: &mut K,
+    trace: &mut R,
+    answer: CommandAnswer,
+    input: &[u8],
+) -> Status
     requires { IsWritableAnswer input.now answer }
-    ensures delivered { (command : Command) (net : NetTold) → Gives command net input.now answer
+    ensures delivered { (command : Command) (net : NetTold) → GivesAnswer command net input.now answer
         → Delivered (K.written out.old) (K.written out.new) (K.faults out.old) (K.faults out.new) (R.written trace.old) (R.written trace.new) (R.faults trace.old) (R.faults trace.new) command net input.now result }
     ensures untouched { IsAlone answer → trace.new ≡ trace.old }
     ensures written { ComesBeforeWriting result → ⊥ }
@@ -132,9 +137,11 @@ pub fn deliver<K: Sink, R: Sink>(out: &mut K, trace: &mut R, answer: Answer, inp
     ensures refused { ComesWithoutNet result → IsRefusal answer }
 {
     match answer {
-        Answer::Said(said) => said.judgement.status(write_text(out, &said.text)),
-        Answer::Ran(host) => deliver_run(out, trace, &host, input),
-        Answer::Replayed { scenario, replayed } => deliver_replayed(out, &scenario, &replayed),
-        Answer::Soaked { number, host } => deliver_soak(out, number, &host),
+        CommandAnswer::Said(said) => said.judgement.status(write_text(out, &said.text)),
+        CommandAnswer::Ran(host) => deliver_run(out, trace, &host, input),
+        CommandAnswer::Replayed { scenario, replayed } => deliver_replayed(
+            out, &scenario, &replayed,
+        ),
+        CommandAnswer::Soaked { number, host } => deliver_soak(out, number, &host),
     }
 }

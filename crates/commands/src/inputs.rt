@@ -2,7 +2,7 @@
 
 ghost use Rattle.std.specs.Prelude.{◌≡◌, ◌≤◌, ◌≢◌, None};
 ghost use Rattle.commands.specs.CommandWords.{own_number};
-ghost use Rattle.commands.specs.Given.{GivesBy, IsMade};
+ghost use Rattle.commands.specs.Given.{GivesBy, IsSoakMade};
 ghost use Rattle.commands.specs.Inputs.{Gathers};
 ghost use Rattle.commands.specs.Limits.{limit_of};
 
@@ -67,7 +67,7 @@ pub(crate) fn input_for<S: Source>(alloc: Global, command: Command, source: &mut
 
 /// The text of the scenario of a number.
 fn made_input(alloc: Global, number: u32) -> Gathered
-    ensures { IsMade number result }
+    ensures { IsSoakMade number result }
 {
     let Ok(text) = soak_text(alloc, number) else {
         return Gathered::OutOfMemory;

@@ -21,7 +21,7 @@ pub use command_words::Command;
 pub use inputs::{Gathered, LIMIT, TRACE_LIMIT, read_input};
 pub use programs::{Ended, run_program};
 pub use refusals::{refuse_line, refuse_past_limit, refuse_text};
-pub use said::{Said, Text, write_text};
+pub use said::{Statement, Text, write_text};
 pub use statuses::{Judgement, Status};
 pub use top_calls::run_words;
 pub use word_lists::Words;

@@ -4,24 +4,24 @@ ghost use Rattle.std.specs.Prelude.{◌≡◌, IfOk};
 ghost use Rattle.commands.specs.Refusals.{Refuses, RefusesText, byte_refusal, line_refusal};
 ghost use Rattle.commands.specs.Said.{past_limit};
 
-use crate::said::{Said, Text};
+use crate::said::{Statement, Text};
 use crate::statuses::Judgement;
 use dcp_types::OutOfMemory;
 use std::alloc::Global;
 use text_lines::TextRefused;
 
 /// A refusal, said by this line.
-fn refused(line: Vec<u8>) -> Said
+fn refused(line: Vec<u8>) -> Statement
     ensures { Refuses line.items result }
 {
-    Said {
+    Statement {
         judgement: Judgement::Refused,
         text: Text::Whole(line),
     }
 }
 
 /// Refuses a text at this line of it, from 1, for the reason that the word names.
-pub fn refuse_line(alloc: Global, line: u32, word: &str) -> Result<Said, OutOfMemory>
+pub fn refuse_line(alloc: Global, line: u32, word: &str) -> Result<Statement, OutOfMemory>
     ensures { IfOk result (Refuses (line_refusal line word.now)) }
 {
     let text = format!(in alloc; "input: line {line} {word}\n")?;
@@ -30,7 +30,7 @@ pub fn refuse_line(alloc: Global, line: u32, word: &str) -> Result<Said, OutOfMe
 
 /// Refuses a text at its first line that is refused, for the reason that was found there. Want of
 /// memory while it was read is passed on.
-pub fn refuse_text(alloc: Global, refused: TextRefused) -> Result<Said, OutOfMemory>
+pub fn refuse_text(alloc: Global, refused: TextRefused) -> Result<Statement, OutOfMemory>
     ensures { IfOk result (RefusesText refused) }
 {
     match refused {
@@ -40,7 +40,7 @@ pub fn refuse_text(alloc: Global, refused: TextRefused) -> Result<Said, OutOfMem
 }
 
 /// Refuses bytes at this place of them, from 0, for the reason that the word names.
-pub fn refuse_byte(alloc: Global, at: usize, word: &str) -> Result<Said, OutOfMemory>
+pub fn refuse_byte(alloc: Global, at: usize, word: &str) -> Result<Statement, OutOfMemory>
     ensures { IfOk result (Refuses (byte_refusal at word.now)) }
 {
     let text = format!(in alloc; "input: byte {at} {word}\n")?;
@@ -48,10 +48,10 @@ pub fn refuse_byte(alloc: Global, at: usize, word: &str) -> Result<Said, OutOfMe
 }
 
 /// Refuses a text that is longer than an input may be.
-pub fn refuse_past_limit() -> Said
+pub fn refuse_past_limit() -> Statement
     ensures { Refuses past_limit result }
 {
-    Said {
+    Statement {
         judgement: Judgement::Refused,
         text: Text::PastLimit,
     }

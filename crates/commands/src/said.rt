@@ -13,7 +13,7 @@ use report_text::{put_reference_line, put_reference_rows};
 
 /// What a command says of an input.
 #[derive(Drop)]
-pub struct Said {
+pub struct Statement {
     /// What the command makes of the input.
     pub judgement: Judgement,
     /// What is to be written.

@@ -1,7 +1,7 @@
 //! What each command says of an input.
 
 ghost use Rattle.std.specs.Prelude.{◌≡◌, ◌≢◌, ◌⊎◌, None, IfErr, IfOk};
-ghost use Rattle.commands.specs.Answers.{Gives, IsRefusal, IsAlone, IsWritableAnswer};
+ghost use Rattle.commands.specs.Answers.{GivesAnswer, IsRefusal, IsAlone, IsWritableAnswer};
 ghost use Rattle.commands.specs.CommandWords.{own_number};
 ghost use Rattle.commands.specs.Says.{Stops};
 
@@ -14,7 +14,7 @@ mod run;
 mod soak;
 mod talk;
 
-use crate::answers::{Answer, Unsaid};
+use crate::answers::{CommandAnswer, Unsaid};
 use crate::command_words::Command;
 use dcp_net::Net;
 use std::alloc::Global;
@@ -26,8 +26,8 @@ pub fn say<N: Net>(
     command: Command,
     input: &[u8],
     net: &mut N,
-) -> Result<Answer, Unsaid>
-    ensures says { IfOk result (Gives command (record { calls = N.calls net.new; opening = N.opening net.new }) input.now) }
+) -> Result<CommandAnswer, Unsaid>
+    ensures says { IfOk result (GivesAnswer command (record { calls = N.calls net.new; opening = N.opening net.new }) input.now) }
     ensures writable { IfOk result (IsWritableAnswer input.now) }
     ensures refused { IfOk result (λ answer. IsRefusal answer → net.new ≡ net.old) }
     ensures still { IfOk result (λ answer. N.count net.new ≡ N.count net.old) }
@@ -36,11 +36,11 @@ pub fn say<N: Net>(
     ensures uncalled { (command ≡ Command.Run) ⊎ ((own_number command ≢ None) ⊎ (net.new ≡ net.old)) }
 {
     match command {
-        Command::Decode => Ok(Answer::Said(decode::say_decoded(alloc, input)?)),
-        Command::Encode => Ok(Answer::Said(encode::say_encoded(alloc, input)?)),
-        Command::Describe => Ok(Answer::Said(describe::say_described(alloc, input)?)),
-        Command::Reference => Ok(Answer::Said(reference::say_reference(alloc, input)?)),
-        Command::Talk => Ok(Answer::Said(talk::say_talk(alloc, input)?)),
+        Command::Decode => Ok(CommandAnswer::Said(decode::say_decoded(alloc, input)?)),
+        Command::Encode => Ok(CommandAnswer::Said(encode::say_encoded(alloc, input)?)),
+        Command::Describe => Ok(CommandAnswer::Said(describe::say_described(alloc, input)?)),
+        Command::Reference => Ok(CommandAnswer::Said(reference::say_reference(alloc, input)?)),
+        Command::Talk => Ok(CommandAnswer::Said(talk::say_talk(alloc, input)?)),
         Command::Run => run::say_run(alloc, input, net),
         Command::Replay => Ok(replay::say_replay(alloc, input)?),
         Command::Soak(number) => soak::say_soak(alloc, number, input, net),

@@ -19,7 +19,7 @@ use Rattle.pdu_layout.specs.declared.messages.Rsp.TheVariants as rsp
 use Rattle.pdu_layout.specs.Message.{message_of}
 use Rattle.pdu_layout.specs.Reading.{message_in}
 use Rattle.master_spec.specs.News.{news_of, news_in, Nothing, Answers, Hints, Brings}
-use Rattle.conversation.specs.Hearing.{news_for, taken}
+use Rattle.conversation.specs.Hearing.{news_for, answer_taken}
 
 told : (p : Pdu) → news_in (Some (message_of p)) ≡ news_for p
 told (pdu.Stc seq receiver state (stc.Register uuid op_mode major minor)) = refl
@@ -79,28 +79,28 @@ mark_hint slave marks sender id e = ap (λ (n : ℕ). if sender == n then Some H
 pub mark_answer : (slave : Slave) (marks : List Mark) (number sender id : ℕ) (answer : Answer) → slave.id ≡ id → answer_mark id number sender answer marks ≡ mark_for slave marks (Answers number sender answer)
 mark_answer slave marks number sender id answer e = ap (λ (n : ℕ). answer_mark n number sender answer marks) (sym e)
 
-taken_if : (b : Bool) (request : Request) (answer : Answer) (marks : List Mark) → taken (if b then Some (Answered request answer) else None) marks ≡ None
+taken_if : (b : Bool) (request : Request) (answer : Answer) (marks : List Mark) → answer_taken (if b then Some (Answered request answer) else None) marks ≡ None
 taken_if true request answer marks = refl
 taken_if false request answer marks = refl
 
-taken_open : (o : Option Request) (number wanted : ℕ) (answer : Answer) (marks : List Mark) → taken (if_open o number wanted answer) marks ≡ None
+taken_open : (o : Option Request) (number wanted : ℕ) (answer : Answer) (marks : List Mark) → answer_taken (if_open o number wanted answer) marks ≡ None
 taken_open None number wanted answer marks = refl
 taken_open (Some request) number wanted answer marks = taken_if (number == wanted) request answer marks
 
-taken_from : (b : Bool) (o : Option Request) (number wanted : ℕ) (answer : Answer) (marks : List Mark) → taken (if b then if_open o number wanted answer else None) marks ≡ None
+taken_from : (b : Bool) (o : Option Request) (number wanted : ℕ) (answer : Answer) (marks : List Mark) → answer_taken (if b then if_open o number wanted answer else None) marks ≡ None
 taken_from true o number wanted answer marks = taken_open o number wanted answer marks
 taken_from false o number wanted answer marks = refl
 
 -- an answer brings no values
-pub taken_answer : (slave : Slave) (marks : List Mark) (number sender : ℕ) (answer : Answer) → None ≡ taken (mark_for slave marks (Answers number sender answer)) marks
+pub taken_answer : (slave : Slave) (marks : List Mark) (number sender : ℕ) (answer : Answer) → None ≡ answer_taken (mark_for slave marks (Answers number sender answer)) marks
 taken_answer slave marks number sender answer = sym (taken_from (sender == slave.id) (open_request marks) number (newest_number marks) answer marks)
 
-taken_hinted : (b : Bool) (marks : List Mark) → taken (if b then Some Hinted else None) marks ≡ None
+taken_hinted : (b : Bool) (marks : List Mark) → answer_taken (if b then Some Hinted else None) marks ≡ None
 taken_hinted true marks = refl
 taken_hinted false marks = refl
 
 -- nor does a notice
-pub taken_hint : (slave : Slave) (marks : List Mark) (sender : ℕ) → None ≡ taken (mark_for slave marks (Hints sender)) marks
+pub taken_hint : (slave : Slave) (marks : List Mark) (sender : ℕ) → None ≡ answer_taken (mark_for slave marks (Hints sender)) marks
 taken_hint slave marks sender = sym (taken_hinted (sender == slave.id) marks)
 
 -- values that come make nothing due

@@ -1,15 +1,14 @@
 //! What a datagram is to the conversation with its sender.
 
-ghost use Rattle.std.specs.Prelude.{◌≡◌, ◌≤◌, ◌<◌, ◌^◌, ◌&&◌, ◌==◌, ℕ, List, length, Bool, true, false, [], Option, Some, None, IfSome};
+ghost use Rattle.std.specs.Prelude.{◌≡◌, ◌≤◌, ◌<◌, ◌^◌, ◌&&◌, ◌==◌, ℕ, List, length, false, [], Option, Some, None, IfSome};
 ghost use Rattle.master_spec.specs.declared.setups.Slave.{Slave};
 ghost use Rattle.master_spec.specs.Marks.{Mark};
 ghost use Rattle.master_spec.specs.News.{Brings, Hints, news_of};
 ghost use Rattle.std.specs.Option.{option_map};
 ghost use Rattle.master_spec.specs.Conversation.{extended, messages_if};
-ghost use Rattle.master_spec.specs.Course.{payload_size, mark_for};
-ghost use Rattle.pdu_layout.specs.Message.{message_of};
+ghost use Rattle.master_spec.specs.Course.{mark_for};
 ghost use Rattle.conversation.specs.Standing.{Stands, HasList, CanSendAfter, due_of};
-ghost use Rattle.conversation.specs.Hearing.{IsWith, news_for, taken};
+ghost use Rattle.conversation.specs.Hearing.{IsWith, news_for, answer_taken};
 
 use crate::records::Conversation;
 use pdu_codec::read;
@@ -27,7 +26,7 @@ fn take_message<'a>(
     requires { talk.old.is_due ≡ false }
     ensures stands { (marks : List Mark) (slave : Slave) → Stands talk.old marks → HasList marks setup.now → IsWith talk.old slave size → Stands talk.new (extended talk.old.limits (mark_for slave marks (news_for message.entry)) marks) }
     ensures due { (marks : List Mark) (slave : Slave) → Stands talk.old marks → HasList marks setup.now → IsWith talk.old slave size → CanSendAfter talk.old.limits talk.old.id (mark_for slave marks (news_for message.entry)) marks → due_of talk.new ≡ messages_if talk.old.limits talk.old.id (mark_for slave marks (news_for message.entry)) marks }
-    ensures taken { (marks : List Mark) (slave : Slave) → Stands talk.old marks → IsWith talk.old slave size → option_map (λ out. out.now) result ≡ taken (mark_for slave marks (news_for message.entry)) marks }
+    ensures taken { (marks : List Mark) (slave : Slave) → Stands talk.old marks → IsWith talk.old slave size → option_map (λ out. out.now) result ≡ answer_taken (mark_for slave marks (news_for message.entry)) marks }
     ensures sized { IfSome result (λ out. length out.now ≡ size) }
     ensures given { (talk.new.id ≡ talk.old.id) × (talk.new.limits ≡ talk.old.limits) }
 {
@@ -58,7 +57,7 @@ fn take_outputs<'a>(
 ) -> Option<&'a [u8]>
     ensures stands { (marks : List Mark) (slave : Slave) → Stands talk.old marks → IsWith talk.old slave size → Stands talk.new (extended talk.old.limits (mark_for slave marks (Brings seq data_id payload.now)) marks) }
     ensures quiet { due_of talk.new ≡ due_of talk.old }
-    ensures taken { (marks : List Mark) (slave : Slave) → Stands talk.old marks → IsWith talk.old slave size → option_map (λ out. out.now) result ≡ taken (mark_for slave marks (Brings seq data_id payload.now)) marks }
+    ensures taken { (marks : List Mark) (slave : Slave) → Stands talk.old marks → IsWith talk.old slave size → option_map (λ out. out.now) result ≡ answer_taken (mark_for slave marks (Brings seq data_id payload.now)) marks }
     ensures sized { IfSome result (λ out. length out.now ≡ size) }
     ensures given { (talk.new.id ≡ talk.old.id) × (talk.new.limits ≡ talk.old.limits) }
 {
@@ -99,7 +98,7 @@ pub fn hear<'a>(
     requires { talk.old.is_due ≡ false }
     ensures stands { (marks : List Mark) (slave : Slave) → Stands talk.old marks → HasList marks setup.now → IsWith talk.old slave size → Stands talk.new (extended talk.old.limits (mark_for slave marks (news_of bytes.now)) marks) }
     ensures due { (marks : List Mark) (slave : Slave) → Stands talk.old marks → HasList marks setup.now → IsWith talk.old slave size → CanSendAfter talk.old.limits talk.old.id (mark_for slave marks (news_of bytes.now)) marks → due_of talk.new ≡ messages_if talk.old.limits talk.old.id (mark_for slave marks (news_of bytes.now)) marks }
-    ensures taken { (marks : List Mark) (slave : Slave) → Stands talk.old marks → IsWith talk.old slave size → option_map (λ out. out.now) result ≡ taken (mark_for slave marks (news_of bytes.now)) marks }
+    ensures taken { (marks : List Mark) (slave : Slave) → Stands talk.old marks → IsWith talk.old slave size → option_map (λ out. out.now) result ≡ answer_taken (mark_for slave marks (news_of bytes.now)) marks }
     ensures sized { IfSome result (λ out. length out.now ≡ size) }
     ensures given { (talk.new.id ≡ talk.old.id) × (talk.new.limits ≡ talk.old.limits) }
 {

@@ -12,12 +12,12 @@ use Rattle.pdu_layout.specs.Fields.FieldValue.{Number, Signed, Bytes}
 use Rattle.slave_desc.specs.declared.descriptions.SlaveDesc.{SlaveDesc}
 use Rattle.scenario.specs.declared.scenarios.Scenario.{Scenario}
 use Rattle.log_spec.specs.Messages.{Note, is_request_code}
-use Rattle.log_spec.specs.Log.{Decision}
+use Rattle.log_spec.specs.Log.{DecidedRequest}
 use Rattle.plan_laws.specs.Runs.{lists_until}
 use Rattle.lockstep_laws.specs.Steps.{RowEvent, Show, Step, Restart, event_asked, Accepted, reply_with, reply_of, Does, told_by, told_of}
 use Rattle.slave_spec.specs.declared.words.Asked.{Asked}
 use Rattle.slave_spec.specs.declared.words.Asked.TheVariants.{Change, Setting, Question}
-use Rattle.slave_spec.specs.Heard.{Brings, Nothing, number_at, bytes_at, state_from, stc_of, cfg_of, inf_of, asks}
+use Rattle.slave_spec.specs.Heard.{Brings, Nothing, number_at, bytes_at, state_from, stc_of, cfg_of, inf_of, heard_asking}
 use Rattle.course_spec.specs.Taken.{asked_heard, asked_in, is_acknowledged, setting_taken, settings_taken, tells_initialized, told_after, told_since, same_settings}
 use Rattle.course_spec.specs.Courses.{tuned, opened, may_set}
 
@@ -63,7 +63,7 @@ reset_event n named r h = by (nat_lt c 32) refl h
     vs : List FieldValue
     vs = n.message.values
 
-    rest : (b2 b3 b4 : Bool) → asked_heard (if b2 then asks vs (Setting (cfg_of c vs)) else (if b3 then asks vs (Question (inf_of c vs)) else (if b4 then Brings (number_at 0 vs) (number_at 1 vs) (bytes_at 2 vs) else Nothing))) ≡ Some (Change named stc.Reset) → ⊥
+    rest : (b2 b3 b4 : Bool) → asked_heard (if b2 then heard_asking vs (Setting (cfg_of c vs)) else (if b3 then heard_asking vs (Question (inf_of c vs)) else (if b4 then Brings (number_at 0 vs) (number_at 1 vs) (bytes_at 2 vs) else Nothing))) ≡ Some (Change named stc.Reset) → ⊥
     rest true b3 b4 k = cc
     rest false true b4 k = cc
     rest false false true k = cc
@@ -72,11 +72,11 @@ reset_event n named r h = by (nat_lt c 32) refl h
     event : ℕ → Option RowEvent
     event k = if k == 8 then Some Show else (if k == 7 then Some Step else (if k == 10 then Some Restart else None))
 
-    by : (b : Bool) → nat_lt c 32 ≡ b → asked_heard (if b then asks vs (Change (state_from (number_at 2 vs)) (stc_of c vs)) else (if nat_lt c 128 then asks vs (Setting (cfg_of c vs)) else (if nat_lt c 176 then asks vs (Question (inf_of c vs)) else (if c == 240 then Brings (number_at 0 vs) (number_at 1 vs) (bytes_at 2 vs) else Nothing)))) ≡ Some (Change named stc.Reset) → event_asked n ≡ Some Restart
+    by : (b : Bool) → nat_lt c 32 ≡ b → asked_heard (if b then heard_asking vs (Change (state_from (number_at 2 vs)) (stc_of c vs)) else (if nat_lt c 128 then heard_asking vs (Setting (cfg_of c vs)) else (if nat_lt c 176 then heard_asking vs (Question (inf_of c vs)) else (if c == 240 then Brings (number_at 0 vs) (number_at 1 vs) (bytes_at 2 vs) else Nothing)))) ≡ Some (Change named stc.Reset) → event_asked n ≡ Some Restart
     by true e k = let q : stc_of c vs ≡ stc.Reset = cc in ap event (reset_code c vs r e q)
     by false e k = absurd (rest (nat_lt c 128) (nat_lt c 176) (c == 240) k)
 
-reset_does : (e : Decision) (named : State) → is_request_code e.request.message.code ≡ true → asked_in e.request ≡ Some (Change named stc.Reset) → is_acknowledged e.answer ≡ true → told_of e ≡ Does
+reset_does : (e : DecidedRequest) (named : State) → is_request_code e.request.message.code ≡ true → asked_in e.request ≡ Some (Change named stc.Reset) → is_acknowledged e.answer ≡ true → told_of e ≡ Does
 reset_does e named r h a = ap (λ q. told_by q (reply_of e.answer)) (reset_event e.request named r h) ∙ ap (told_by (Some Restart)) (accepted_reply e.answer a)
 
 -- ---- what stays
@@ -101,7 +101,7 @@ told_stays (Some (Change named stc.Reset)) true tells f = absurd (f named refl r
 told_stays (Some (Change named stc.Reset)) false tells f = still tells
 
 -- no setting is asked where the outputs are ready
-same_taken : (sc : Scenario) (s : ℕ) (d : SlaveDesc) (es : List Decision) (o : Option Asked) (acked : Bool) (rest : List Cfg) → told_since es ≡ true → may_set sc s d es o ≡ true → setting_taken o acked rest ≡ rest
+same_taken : (sc : Scenario) (s : ℕ) (d : SlaveDesc) (es : List DecidedRequest) (o : Option Asked) (acked : Bool) (rest : List Cfg) → told_since es ≡ true → may_set sc s d es o ≡ true → setting_taken o acked rest ≡ rest
 same_taken sc s d es None acked rest t m = refl
 same_taken sc s d es (Some (Change named request)) acked rest t m = refl
 same_taken sc s d es (Some (Question q)) acked rest t m = refl
@@ -116,7 +116,7 @@ both true false h k = k
 both false b h k = h
 
 -- but for a reset that is done, an opened slave stays opened
-pub opened_same : (sc : Scenario) (s : ℕ) (d : SlaveDesc) (run : ℕ) (e : Decision) (es : List Decision) → (told_of e ≡ Does → ⊥) → is_request_code e.request.message.code ≡ true → may_set sc s d es (asked_in e.request) ≡ true
+pub opened_same : (sc : Scenario) (s : ℕ) (d : SlaveDesc) (run : ℕ) (e : DecidedRequest) (es : List DecidedRequest) → (told_of e ≡ Does → ⊥) → is_request_code e.request.message.code ≡ true → may_set sc s d es (asked_in e.request) ≡ true
     → opened sc s d run es ≡ true → opened sc s d run (e ∷ es) ≡ true
 opened_same sc s d run e es not_done r m h =
     let a = and_parts (tuned sc s d run es) (told_since es) h in

@@ -8,7 +8,7 @@ use Rattle.pdu_layout.specs.Fields.{FieldValue}
 use Rattle.pdu_layout.specs.Fields.FieldValue.{Number, Signed}
 use Rattle.pdu_layout.specs.Message.{message_of}
 use Rattle.log_spec.specs.Messages.{Note}
-use Rattle.log_spec.specs.Log.{Decision}
+use Rattle.log_spec.specs.Log.{DecidedRequest}
 use Rattle.slave_spec.specs.declared.words.Asked.{Asked}
 use Rattle.slave_spec.specs.declared.words.Asked.TheVariants.{Change, Setting}
 use Rattle.slave_spec.specs.Heard.{Heard, Asks, Brings, Nothing, heard_as}
@@ -30,7 +30,7 @@ abbrev pub setting_taken : Option Asked → Bool → List Cfg → List Cfg
 setting_taken (Some (Setting body)) true rest = body ∷ rest
 setting_taken asked acked rest = rest
 
-abbrev pub settings_taken : List Decision → List Cfg
+abbrev pub settings_taken : List DecidedRequest → List Cfg
 settings_taken [] = []
 settings_taken (e ∷ es) = setting_taken (asked_in e.request) (is_acknowledged e.answer) (settings_taken es)
 
@@ -39,7 +39,7 @@ abbrev pub reset_taken : Option Asked → Bool → ℕ → ℕ
 reset_taken (Some (Change named stc.Reset)) true n = n + 1
 reset_taken asked acked n = n
 
-abbrev pub resets_taken : List Decision → ℕ
+abbrev pub resets_taken : List DecidedRequest → ℕ
 resets_taken [] = 0
 resets_taken (e ∷ es) = reset_taken (asked_in e.request) (is_acknowledged e.answer) (resets_taken es)
 
@@ -55,7 +55,7 @@ abbrev pub told_after : Option Asked → Bool → Bool → Bool → Bool
 told_after (Some (Change named stc.Reset)) true tells before = false
 told_after asked acked tells before = if tells then true else before
 
-abbrev pub told_since : List Decision → Bool
+abbrev pub told_since : List DecidedRequest → Bool
 told_since [] = false
 told_since (e ∷ es) = told_after (asked_in e.request) (is_acknowledged e.answer) (tells_initialized e.answer) (told_since es)
 

@@ -1,6 +1,6 @@
 //! An end of the protocol: a machine that events come to, and that has messages to send after each.
 
-ghost use Rattle.std.specs.Prelude.{◌≡◌, ◌<◌, ◌≤◌, ◌^◌, ◌++◌, ◌∷◌, [], length, slice_get, option_map, IfSome, IfNone};
+ghost use Rattle.std.specs.Prelude.{◌≡◌, ◌<◌, ◌≤◌, ◌^◌, ◌++◌, ◌∷◌, [], length, slice_get, option_map, IfSome};
 ghost use Rattle.dcp_ends.specs.Events.{Gram, Tick};
 
 use dcp_types::Address;

@@ -11,7 +11,7 @@ use Rattle.dcp_net.specs.declared.nets.Taken.{Taken}
 use Rattle.dcp_net.specs.declared.nets.Taken.TheVariants as taken
 
 -- the datagrams that were not taken yet, and the successful calls since the network was opened
-pub record Script : Type 0 where
+pub record NetScript : Type 0 where
   pub left : List ScriptGram
   pub calls : List LogEntry
 
@@ -36,11 +36,11 @@ abbrev pub is_for : Address → ScriptGram → Bool
 is_for at gram = same_address gram.at at
 
 -- what the next take at this address gives: nothing after a datagram, else the first that is left for it
-abbrev pub script_due : Address → Script → Option ScriptGram
+abbrev pub script_due : Address → NetScript → Option ScriptGram
 script_due at script = if rests_after at false script.calls then None else first_that (is_for at) script.left
 
 -- what one take does
-abbrev pub FollowsScript : Address → Script → Script → Taken → List ℕ → Type 0
+abbrev pub FollowsScript : Address → NetScript → NetScript → Taken → List ℕ → Type 0
 FollowsScript at old new taken.Nothing room = (script_due at old ≡ None) × (new.left ≡ old.left)
 FollowsScript at old new (taken.Gram from len) room =
     (gram : ScriptGram) × (script_due at old ≡ Some gram) × (from ≡ gram.from) × (take len room ≡ gram.bytes) × (new.left ≡ without_first (is_for at) old.left)

@@ -1,10 +1,9 @@
 //! A network that gives what a script says.
 
-ghost use Rattle.std.specs.Prelude.{◌≡◌, ◌≤◌, [], ◌∷◌, ◌++◌, length, take, map, IsTrue, IfOk, OnErr, Some, None, true, false, if◌then◌else◌};
-ghost use Rattle.dcp_ends.specs.Logs.{same_address};
-ghost use Rattle.dcp_net.specs.Firsts.{FindsFirst, first_that};
-ghost use Rattle.dcp_net.specs.Nets.{told_more, sent_entries, took_entries, IsWithinRoom, HasCause};
-ghost use Rattle.dcp_net.specs.Scripts.{AllFit, FollowsScript, is_for, rests_after, took_at, script_due};
+ghost use Rattle.std.specs.Prelude.{◌≡◌, ◌≤◌, [], ◌∷◌, ◌++◌, length, take, IsTrue, Some, None, true, false, if◌then◌else◌};
+ghost use Rattle.dcp_net.specs.Firsts.{FindsFirst};
+ghost use Rattle.dcp_net.specs.Nets.{told_more, took_entries, IsWithinRoom, HasCause};
+ghost use Rattle.dcp_net.specs.Scripts.{AllFit, FollowsScript, is_for, rests_after, took_at};
 
 use crate::grams::ScriptGram;
 use crate::nets::{Done, Net, Taken};
@@ -25,9 +24,9 @@ pub struct ScriptNet {
 }
 
 impl Model for ScriptNet {
-    ghost use Rattle.dcp_net.specs.Scripts.{Script, AllFit};
+    ghost use Rattle.dcp_net.specs.Scripts.{NetScript, AllFit};
 
-    ghost Value = { Script };
+    ghost Value = { NetScript };
 
     ghost view = { λ s. record { left = s.left.items; calls = s.calls.items } };
 

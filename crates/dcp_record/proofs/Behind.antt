@@ -7,7 +7,7 @@ use Rattle.dcp_record.specs.declared.faults.TraceWhy.TheVariants.{Header, Tag, S
 use Rattle.dcp_record.specs.declared.faults.TraceRefused.{TraceRefused}
 use Rattle.dcp_record.specs.declared.faults.TraceRefused.TheVariants.{Fault, OutOfMemory}
 use Rattle.dcp_record.specs.Traces.{IsTrace, header_bytes, trace_bytes, all_entry_bytes}
-use Rattle.dcp_record.specs.Refusals.{Refusal, RefusedEntry, IsRefused, entry_place}
+use Rattle.dcp_record.specs.Refusals.{TraceRefusal, RefusedEntry, IsRefusedTrace, entry_place}
 use Rattle.dcp_record.specs.Cuts.{IsHead, AreEntries, BadEntry, EntriesRefused}
 
 place_is : (b head all rest tail : List ℕ) (at place : ℕ) → b ≡ head ++ rest → rest ≡ all ++ tail → at ≡ (length b - length rest) + length all + place → at ≡ length (head ++ all) + place
@@ -31,13 +31,13 @@ module _ (b : List ℕ) (hosted : ℕ) (scenario rest : List ℕ) (head : IsHead
         here = place_is b front (all_entry_bytes h.entries) rest h.rest at (entry_place h.rest why) head.parts h.parts h.here;
       }
 
-  pub fault_behind : (at : ℕ) (why : TraceWhy) → BadEntry (length b - length rest) rest at why → Refusal b at why
+  pub fault_behind : (at : ℕ) (why : TraceWhy) → BadEntry (length b - length rest) rest at why → TraceRefusal b at why
   fault_behind at Header h = absurd h.refused
   fault_behind at Tag h = bad_behind at Tag h
   fault_behind at Length h = bad_behind at Length h
   fault_behind at Short h = bad_behind at Short h
 
-  pub refused_behind : (refused : TraceRefused) → EntriesRefused (length b - length rest) rest refused → IsRefused b refused
+  pub refused_behind : (refused : TraceRefused) → EntriesRefused (length b - length rest) rest refused → IsRefusedTrace b refused
   refused_behind (Fault fault) h = fault_behind fault.at fault.why h
   refused_behind OutOfMemory h = tt
 

@@ -9,9 +9,9 @@ use Rattle.dcp_ends.specs.declared.entries.LogEntry.{LogEntry}
 use Rattle.dcp_ends.specs.declared.entries.LogEntry.TheVariants.{Sent, Got, Idle, Turn}
 use Rattle.dcp_record.specs.declared.faults.TraceWhy.{TraceWhy}
 use Rattle.dcp_record.specs.declared.faults.TraceWhy.TheVariants.{Header, Tag, Short, Length}
-use Rattle.dcp_record.specs.Traces.{form, address_bytes, header_bytes, IsPlace, log_entry_bytes, all_entry_bytes, IsTrace, IsRecordable}
-use Rattle.dcp_record.specs.Refusals.{HeaderRefused, EntryRefused, entry_place, Refusal}
-use Rattle.dcp_record.specs.Cuts.{IsHead, IsExchange, ExchangeRefused, IsFirst, AreEntries, BadEntry}
+use Rattle.dcp_record.specs.Traces.{form, address_bytes, header_bytes, IsTraceAddress, log_entry_bytes, all_entry_bytes, IsTrace, IsRecordable}
+use Rattle.dcp_record.specs.Refusals.{HeaderRefused, EntryRefused, entry_place, TraceRefusal}
+use Rattle.dcp_record.specs.Cuts.{IsHead, IsExchange, ExchangeRefused, IsFirstEntry, AreEntries, BadEntry}
 use Rattle.dcp_record.specs.Laws.{IsBytes}
 use Rattle.dcp_record.proofs.Numbers.{front_16, front_32, front_place, bytes_behind, after_two}
 use Rattle.dcp_record.proofs.Fronts.{cut_in_form, cut_in_hosted, cut_in_length, cut_in_scenario, cut_in_first, cut_in_second, cut_in_size, cut_in_payload, cut_in_idle, cut_in_turn, out_is, sent_refused, got_refused, after_hosted}
@@ -100,7 +100,7 @@ ExchangeOr least most b =
     ((first : Address) × (second : Address) × (payload : List ℕ) × (rest : List ℕ) × IsExchange least most b first second payload rest) ⊎ ((why : TraceWhy) × ExchangeRefused least most b why)
 
 module _ (least most : ℕ) (low : least ≤ 1) (high : 1024 ≤ most) (b : List ℕ) (h : IsBytes b) where
-  exchange_by_payload : (first second : Address) (size : ℕ) (rest : List ℕ) → b ≡ address_bytes first ++ address_bytes second ++ to_le_bytes w16 size ++ rest → IsPlace first → IsPlace second
+  exchange_by_payload : (first second : Address) (size : ℕ) (rest : List ℕ) → b ≡ address_bytes first ++ address_bytes second ++ to_le_bytes w16 size ++ rest → IsTraceAddress first → IsTraceAddress second
       → least ≤ size → size ≤ most → ExchangeOr least most b
   exchange_by_payload first second size rest e ff sf ll lm =
       elim (cases_lt (length rest) size) [
@@ -124,7 +124,7 @@ module _ (least most : ℕ) (low : least ≤ 1) (high : 1024 ≤ most) (b : List
             )
       ]
 
-  exchange_by_size : (first second : Address) (size : ℕ) (rest : List ℕ) → b ≡ address_bytes first ++ address_bytes second ++ to_le_bytes w16 size ++ rest → IsPlace first → IsPlace second
+  exchange_by_size : (first second : Address) (size : ℕ) (rest : List ℕ) → b ≡ address_bytes first ++ address_bytes second ++ to_le_bytes w16 size ++ rest → IsTraceAddress first → IsTraceAddress second
       → size < 2 ^ 16 → ExchangeOr least most b
   exchange_by_size first second size rest e ff sf fits =
       elim (cases_lt size least) [
@@ -135,14 +135,14 @@ module _ (least most : ℕ) (low : least ≤ 1) (high : 1024 ≤ most) (b : List
         ]
       ]
 
-  exchange_by_second : (first second : Address) (rest : List ℕ) → b ≡ address_bytes first ++ address_bytes second ++ rest → IsPlace first → IsPlace second → IsBytes rest → ExchangeOr least most b
+  exchange_by_second : (first second : Address) (rest : List ℕ) → b ≡ address_bytes first ++ address_bytes second ++ rest → IsTraceAddress first → IsTraceAddress second → IsBytes rest → ExchangeOr least most b
   exchange_by_second first second rest e ff sf hr =
       elim (cases_lt (length rest) 2) [
         | inl lt ↦ inr (Short, cut_in_size least most low high b first second rest e ff sf hr lt)
         | inr le ↦ let n = front_16 rest hr le in exchange_by_size first second n.number n.rest (e ∙ ap (λ (l : List ℕ). address_bytes first ++ address_bytes second ++ l) n.parts) ff sf n.fits
       ]
 
-  exchange_by_first : (first : Address) (rest : List ℕ) → b ≡ address_bytes first ++ rest → IsPlace first → IsBytes rest → ExchangeOr least most b
+  exchange_by_first : (first : Address) (rest : List ℕ) → b ≡ address_bytes first ++ rest → IsTraceAddress first → IsBytes rest → ExchangeOr least most b
   exchange_by_first first rest e ff hr =
       elim (cases_lt (length rest) 6) [
         | inl lt ↦ inr (Short, cut_in_second least most low high b first rest e ff hr lt)
@@ -158,7 +158,7 @@ module _ (least most : ℕ) (low : least ≤ 1) (high : 1024 ≤ most) (b : List
 
 -- an entry and what is behind it, or why there is none
 abbrev FirstOr : List ℕ → Type 0
-FirstOr b = ((entry : LogEntry) × (rest : List ℕ) × IsFirst b entry rest) ⊎ ((why : TraceWhy) × EntryRefused b why)
+FirstOr b = ((entry : LogEntry) × (rest : List ℕ) × IsFirstEntry b entry rest) ⊎ ((why : TraceWhy) × EntryRefused b why)
 
 sent_or : (x : List ℕ) → ExchangeOr 1 1024 x → FirstOr (1 ∷ x)
 sent_or x (inl k) = inl (Sent k.0 k.1 k.2, k.3, record { recordable = record { places = (k.4.first_fits, k.4.second_fits); in_range = (k.4.low, k.4.high) }; parts = ap (λ (l : List ℕ). 1 ∷ l) k.4.parts })
@@ -203,7 +203,7 @@ entry_some (Turn a) rest = omega arith
 refused_first : (start : ℕ) (b : List ℕ) (why : TraceWhy) → EntryRefused b why → EntriesOr start b
 refused_first start b why k = inr (start + entry_place b why, why, record { entries = []; rest = b; recordable = All-nil IsRecordable; parts = refl; refused = k; here = omega arith })
 
-entry_before : (start : ℕ) (b : List ℕ) (entry : LogEntry) (rest : List ℕ) → IsFirst b entry rest → EntriesOr start rest → EntriesOr start b
+entry_before : (start : ℕ) (b : List ℕ) (entry : LogEntry) (rest : List ℕ) → IsFirstEntry b entry rest → EntriesOr start rest → EntriesOr start b
 entry_before start b entry rest f (inl k) = inl (entry ∷ k.0, record { recordable = All-cons IsRecordable entry k.0 f.recordable k.1.recordable; parts = f.parts ∙ ap (λ (l : List ℕ). log_entry_bytes entry ++ l) k.1.parts })
 entry_before start b entry rest f (inr k) =
     let bad = k.2 in
@@ -233,7 +233,7 @@ entries_or (suc most) start (c ∷ b) le h =
     ]
 
 abbrev TraceOr : List ℕ → Type 0
-TraceOr b = ((hosted : ℕ) × (scenario : List ℕ) × (entries : List LogEntry) × IsTrace b hosted scenario entries) ⊎ ((at : ℕ) × (why : TraceWhy) × Refusal b at why)
+TraceOr b = ((hosted : ℕ) × (scenario : List ℕ) × (entries : List LogEntry) × IsTrace b hosted scenario entries) ⊎ ((at : ℕ) × (why : TraceWhy) × TraceRefusal b at why)
 
 trace_by_entries : (b : List ℕ) (hosted : ℕ) (scenario rest : List ℕ) → IsHead b hosted scenario rest → EntriesOr (length b - length rest) rest → TraceOr b
 trace_by_entries b hosted scenario rest head (inl k) = inl (hosted, scenario, k.0, whole_behind b hosted scenario rest head k.0 k.1)

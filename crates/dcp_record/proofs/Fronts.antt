@@ -5,10 +5,10 @@ use Rattle.std.proofs.lemmas.List.{take-append-drop, length-append, length-repli
 use Rattle.dcp_types.specs.declared.addresses.Address.{Address}
 use Rattle.dcp_ends.specs.declared.entries.LogEntry.{LogEntry}
 use Rattle.dcp_ends.specs.declared.entries.LogEntry.TheVariants.{Sent, Got, Idle, Turn}
-use Rattle.dcp_record.specs.Traces.{form, address_bytes, payload_bytes, log_entry_bytes, all_entry_bytes, IsPlace}
+use Rattle.dcp_record.specs.Traces.{form, address_bytes, payload_bytes, log_entry_bytes, all_entry_bytes, IsTraceAddress}
 use Rattle.dcp_record.specs.declared.faults.TraceWhy.{TraceWhy}
 use Rattle.dcp_record.specs.declared.faults.TraceWhy.TheVariants.{Header, Tag, Short, Length}
-use Rattle.dcp_record.specs.Refusals.{HeaderCut, IsCut, HasBadLength, EntryRefused}
+use Rattle.dcp_record.specs.Refusals.{HeaderCut, IsTruncated, HasBadLength, EntryRefused}
 use Rattle.dcp_record.specs.Cuts.{ExchangeCut, ExchangeOut, ExchangeRefused}
 use Rattle.dcp_record.specs.Laws.{IsBytes}
 use Rattle.dcp_record.proofs.Joined.{all_entry_bytes-append}
@@ -96,7 +96,7 @@ cut_in_scenario b hosted size rest e known fits lt =
 pub record PlaceCut (x : List ℕ) : Type 0 where
   pub place : Address
   pub missing : List ℕ
-  pub fits : IsPlace place
+  pub fits : IsTraceAddress place
   pub lacks : 0 < length missing
   pub whole : x ++ missing ≡ address_bytes place
 
@@ -116,7 +116,7 @@ cut_in_place x h lt =
 nowhere : Address
 nowhere = record { ip = 0; port = 0 }
 
-nowhere-fits : IsPlace nowhere
+nowhere-fits : IsTraceAddress nowhere
 unfolding nowhere
 nowhere-fits = record { ip_fits = omega arith; port_fits = omega arith }
 
@@ -138,7 +138,7 @@ module _ (least most : ℕ) (low : least ≤ 1) (high : 1024 ≤ most) where
         whole = sym (append_assoc x p.missing more) ∙ ap (λ (l : List ℕ). l ++ more) p.whole;
       }
 
-  pub cut_in_second : (x : List ℕ) (first : Address) (rest : List ℕ) → x ≡ address_bytes first ++ rest → IsPlace first → IsBytes rest → length rest < 6 → ExchangeCut least most x
+  pub cut_in_second : (x : List ℕ) (first : Address) (rest : List ℕ) → x ≡ address_bytes first ++ rest → IsTraceAddress first → IsBytes rest → length rest < 6 → ExchangeCut least most x
   cut_in_second x first rest e fits h lt =
       let p = cut_in_place rest h lt in
       let more = payload_bytes (zeros 1) in
@@ -186,7 +186,7 @@ module _ (least most : ℕ) (low : least ≤ 1) (high : 1024 ≤ most) where
   length_cut (c ∷ []) h lt = one_byte c (h 0)
   length_cut (c ∷ d ∷ x) h lt = absurd (omega arith)
 
-  pub cut_in_size : (x : List ℕ) (first second : Address) (rest : List ℕ) → x ≡ address_bytes first ++ address_bytes second ++ rest → IsPlace first → IsPlace second → IsBytes rest → length rest < 2 → ExchangeCut least most x
+  pub cut_in_size : (x : List ℕ) (first second : Address) (rest : List ℕ) → x ≡ address_bytes first ++ address_bytes second ++ rest → IsTraceAddress first → IsTraceAddress second → IsBytes rest → length rest < 2 → ExchangeCut least most x
   cut_in_size x first second rest e ff sf h lt =
       let p = length_cut rest h lt in
       record {
@@ -202,7 +202,7 @@ module _ (least most : ℕ) (low : least ≤ 1) (high : 1024 ≤ most) where
         whole = ap (λ (l : List ℕ). l ++ p.missing) e ∙ ap (λ (l : List ℕ). address_bytes first ++ address_bytes second ++ l) p.whole;
       }
 
-  pub cut_in_payload : (x : List ℕ) (first second : Address) (size : ℕ) (rest : List ℕ) → x ≡ address_bytes first ++ address_bytes second ++ to_le_bytes w16 size ++ rest → IsPlace first → IsPlace second → least ≤ size → size ≤ most → length rest < size → ExchangeCut least most x
+  pub cut_in_payload : (x : List ℕ) (first second : Address) (size : ℕ) (rest : List ℕ) → x ≡ address_bytes first ++ address_bytes second ++ to_le_bytes w16 size ++ rest → IsTraceAddress first → IsTraceAddress second → least ≤ size → size ≤ most → length rest < size → ExchangeCut least most x
   cut_in_payload x first second size rest e ff sf ll lm lt =
       let more = zeros (size - length rest) in
       let text = rest ++ more in
@@ -225,7 +225,7 @@ pub out_is : (least most : ℕ) (b : List ℕ) (first second : Address) (size : 
 out_is least most b first second size more e fits out = record { first = first; second = second; size = size; more = more; fits = fits; parts = e; out = out }
 
 -- entries that end too early
-pub cut_in_sent : (x : List ℕ) → ExchangeCut 1 1024 x → IsCut (1 ∷ x)
+pub cut_in_sent : (x : List ℕ) → ExchangeCut 1 1024 x → IsTruncated (1 ∷ x)
 cut_in_sent x k = record {
   entry = Sent k.first k.second k.payload;
   missing = k.missing;
@@ -235,7 +235,7 @@ cut_in_sent x k = record {
   whole = ap (λ (l : List ℕ). 1 ∷ l) k.whole;
 }
 
-pub cut_in_got : (x : List ℕ) → ExchangeCut 0 1025 x → IsCut (2 ∷ x)
+pub cut_in_got : (x : List ℕ) → ExchangeCut 0 1025 x → IsTruncated (2 ∷ x)
 cut_in_got x k = record {
   entry = Got k.first k.second k.payload;
   missing = k.missing;
@@ -245,7 +245,7 @@ cut_in_got x k = record {
   whole = ap (λ (l : List ℕ). 2 ∷ l) k.whole;
 }
 
-pub cut_in_idle : (x : List ℕ) → IsBytes x → length x < 6 → IsCut (3 ∷ x)
+pub cut_in_idle : (x : List ℕ) → IsBytes x → length x < 6 → IsTruncated (3 ∷ x)
 cut_in_idle x h lt = let p = cut_in_place x h lt in record {
   entry = Idle p.place;
   missing = p.missing;
@@ -255,7 +255,7 @@ cut_in_idle x h lt = let p = cut_in_place x h lt in record {
   whole = ap (λ (l : List ℕ). 3 ∷ l) p.whole;
 }
 
-pub cut_in_turn : (x : List ℕ) → IsBytes x → length x < 6 → IsCut (4 ∷ x)
+pub cut_in_turn : (x : List ℕ) → IsBytes x → length x < 6 → IsTruncated (4 ∷ x)
 cut_in_turn x h lt = let p = cut_in_place x h lt in record {
   entry = Turn p.place;
   missing = p.missing;

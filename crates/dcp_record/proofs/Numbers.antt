@@ -5,7 +5,7 @@ use Rattle.std.proofs.lemmas.List.{take-append-drop, length-take-le, length-drop
 use Rattle.std.proofs.lemmas.Nat.{le_bytes_2, le_bytes_4}
 use Rattle.std.proofs.lemmas.Bool.{cases_lt}
 use Rattle.dcp_types.specs.declared.addresses.Address.{Address}
-use Rattle.dcp_record.specs.Traces.{address_bytes, IsPlace}
+use Rattle.dcp_record.specs.Traces.{address_bytes, IsTraceAddress}
 use Rattle.dcp_record.specs.Laws.{IsBytes}
 
 pub bytes-append : (x y : List ℕ) → IsBytes x → IsBytes y → (i : ℕ) → get_or (x ++ y) i 0 < 256
@@ -68,7 +68,7 @@ pub record Front32 (x : List ℕ) : Type 0 where
 pub record FrontPlace (x : List ℕ) : Type 0 where
   pub place : Address
   pub rest : List ℕ
-  pub fits : IsPlace place
+  pub fits : IsTraceAddress place
   pub bytes : IsBytes rest
   pub parts : x ≡ address_bytes place ++ rest
   pub size : length x ≡ 6 + length rest

@@ -13,8 +13,8 @@ use Rattle.dcp_record.specs.declared.faults.TraceWhy.{TraceWhy}
 use Rattle.dcp_record.specs.declared.faults.TraceWhy.TheVariants.{Header, Tag, Short, Length}
 use Rattle.dcp_record.specs.declared.faults.TraceRefused.{TraceRefused}
 use Rattle.dcp_record.specs.declared.faults.TraceRefused.TheVariants.{Fault, OutOfMemory}
-use Rattle.dcp_record.specs.Traces.{form, address_bytes, payload_bytes, log_entry_bytes, all_entry_bytes, header_bytes, trace_bytes, IsPlace, IsRecordable, IsTrace}
-use Rattle.dcp_record.specs.Refusals.{FormDiffers, HostedBeyond, HeaderCut, HeaderRefused, HasNoTag, HasBadLength, IsCut, EntryRefused, entry_place, RefusedEntry, Refusal, IsRefused}
+use Rattle.dcp_record.specs.Traces.{form, address_bytes, payload_bytes, log_entry_bytes, all_entry_bytes, header_bytes, trace_bytes, IsTraceAddress, IsRecordable, IsTrace}
+use Rattle.dcp_record.specs.Refusals.{FormDiffers, HostedBeyond, HeaderCut, HeaderRefused, HasNoTag, HasBadLength, IsTruncated, EntryRefused, entry_place, RefusedEntry, TraceRefusal, IsRefusedTrace}
 
 same_parts : (a c x y : List ℕ) → length a ≡ length c → a ++ x ≡ c ++ y → (a ≡ c) × (x ≡ y)
 same_parts a c x y l e = (
@@ -32,7 +32,7 @@ same_u32 m n x y lm ln e =
     let p = same_parts (to_le_bytes w32 m) (to_le_bytes w32 n) x y refl e in
     (sym (from_le_bytes-to_le_bytes_4 m lm) ∙ ap (from_le_bytes w32) p.0 ∙ from_le_bytes-to_le_bytes_4 n ln, p.1)
 
-same_place : (a c : Address) (x y : List ℕ) → IsPlace a → IsPlace c → address_bytes a ++ x ≡ address_bytes c ++ y → (a ≡ c) × (x ≡ y)
+same_place : (a c : Address) (x y : List ℕ) → IsTraceAddress a → IsTraceAddress c → address_bytes a ++ x ≡ address_bytes c ++ y → (a ≡ c) × (x ≡ y)
 same_place a c x y ha hc e =
     let p = same_u32 a.ip c.ip (to_le_bytes w16 a.port ++ x) (to_le_bytes w16 c.port ++ y) ha.ip_fits hc.ip_fits e in
     let q = same_u16 a.port c.port x y ha.port_fits hc.port_fits p.1 in
@@ -47,7 +47,7 @@ same_payload p q x y lp lq e =
 abbrev exchange : Address → Address → List ℕ → List ℕ → List ℕ
 exchange a b p x = address_bytes a ++ address_bytes b ++ payload_bytes p ++ x
 
-same_exchange : (a b c d : Address) (p q x y : List ℕ) → IsPlace a → IsPlace b → IsPlace c → IsPlace d → length p ≤ 1025 → length q ≤ 1025 → exchange a b p x ≡ exchange c d q y
+same_exchange : (a b c d : Address) (p q x y : List ℕ) → IsTraceAddress a → IsTraceAddress b → IsTraceAddress c → IsTraceAddress d → length p ≤ 1025 → length q ≤ 1025 → exchange a b p x ≡ exchange c d q y
     → (a ≡ c) × (b ≡ d) × (p ≡ q) × (x ≡ y)
 same_exchange a b c d p q x y ha hb hc hd lp lq e =
     let f = same_place a c (address_bytes b ++ (payload_bytes p ++ x)) (address_bytes d ++ (payload_bytes q ++ y)) ha hc e in
@@ -121,7 +121,7 @@ length_not rest missing more e (inl k) r h = sent_length_not rest missing more e
 length_not rest missing more e (inr k) r h = got_length_not rest missing more e k r h
 
 -- a cut entry has no whole one at its front
-cut_has_none : (rest : List ℕ) → IsCut rest → NoEntry rest
+cut_has_none : (rest : List ℕ) → IsTruncated rest → NoEntry rest
 cut_has_none rest k e more r h =
     let whole : log_entry_bytes e ++ (more ++ k.missing) ≡ log_entry_bytes k.entry ++ [] =
     sym (append_assoc (log_entry_bytes e) more k.missing) ∙ ap (λ (l : List ℕ). l ++ k.missing) (sym h) ∙ k.whole ∙ sym (append-nil (log_entry_bytes k.entry)) in
@@ -146,10 +146,10 @@ tag_or_length : (rest : List ℕ) → HasNoTag rest → EntryRefused rest Length
 tag_or_length rest k (inl l) = omega (arith, k.unknown, same_first _ _ _ _ (sym k.parts ∙ l.parts))
 tag_or_length rest k (inr l) = omega (arith, k.unknown, same_first _ _ _ _ (sym k.parts ∙ l.parts))
 
-tag_or_cut : (rest : List ℕ) → HasNoTag rest → IsCut rest → ⊥
+tag_or_cut : (rest : List ℕ) → HasNoTag rest → IsTruncated rest → ⊥
 tag_or_cut rest k l = tag_not rest l.missing [] l.entry k (l.whole ∙ sym (append-nil (log_entry_bytes l.entry)))
 
-length_or_cut : (rest : List ℕ) → EntryRefused rest Length → IsCut rest → ⊥
+length_or_cut : (rest : List ℕ) → EntryRefused rest Length → IsTruncated rest → ⊥
 length_or_cut rest k l = length_not rest l.missing [] l.entry k l.recordable (l.whole ∙ sym (append-nil (log_entry_bytes l.entry)))
 
 one_cause : (rest : List ℕ) (v w : TraceWhy) → EntryRefused rest v → EntryRefused rest w → v ≡ w
@@ -277,7 +277,7 @@ one_entry b m n v w k l =
     let cause : v ≡ w = one_cause l.rest v w (subst (λ (x : List ℕ). EntryRefused x v) s.3 k.refused) l.refused in
     (k.here ∙ (λ i. length (front i) + entry_place (s.3 i) (cause i)) ∙ sym l.here, cause)
 
-pub one_refusal : (b : List ℕ) (m n : ℕ) (v w : TraceWhy) → Refusal b m v → Refusal b n w → (m ≡ n) × (v ≡ w)
+pub one_refusal : (b : List ℕ) (m n : ℕ) (v w : TraceWhy) → TraceRefusal b m v → TraceRefusal b n w → (m ≡ n) × (v ≡ w)
 one_refusal b m n Header Header k l = (one_header b m n k l, refl)
 one_refusal b m n Header Tag k l = absurd (stopped_not b m k (refused_stops b n Tag l))
 one_refusal b m n Header Length k l = absurd (stopped_not b m k (refused_stops b n Length l))
@@ -303,7 +303,7 @@ module _ (b : List ℕ) (hosted : ℕ) (scenario : List ℕ) (entries : List Log
       let none : k.rest ≡ [] = sym s.3 in
       omega (arith, ap length none, refused_has_some k.rest why k.refused)
 
-  pub never_both : (at : ℕ) (why : TraceWhy) → Refusal b at why → ⊥
+  pub never_both : (at : ℕ) (why : TraceWhy) → TraceRefusal b at why → ⊥
   never_both at Header k = stopped_not b at k (trace_stops b hosted scenario entries t)
   never_both at Tag k = not_behind at Tag k
   never_both at Length k = not_behind at Length k
@@ -313,6 +313,6 @@ pub one_trace : (b : List ℕ) (m n : ℕ) (s t : List ℕ) (es fs : List LogEnt
 unfolding trace_stops
 one_trace b m n s t es fs h k = let p = same_stop b (trace_stops b m s es h) (trace_stops b n t fs k) in (p.0, p.1, p.2)
 
-pub only_memory : (b : List ℕ) (hosted : ℕ) (scenario : List ℕ) (entries : List LogEntry) → IsTrace b hosted scenario entries → (refused : TraceRefused) → IsRefused b refused → refused ≡ OutOfMemory
+pub only_memory : (b : List ℕ) (hosted : ℕ) (scenario : List ℕ) (entries : List LogEntry) → IsTrace b hosted scenario entries → (refused : TraceRefused) → IsRefusedTrace b refused → refused ≡ OutOfMemory
 only_memory b hosted scenario entries t (Fault fault) k = absurd (never_both b hosted scenario entries t fault.at fault.why k)
 only_memory b hosted scenario entries t OutOfMemory k = refl

@@ -10,7 +10,7 @@ use Rattle.dcp_record.specs.declared.faults.TraceRefused.{TraceRefused}
 use Rattle.dcp_record.specs.declared.faults.TraceRefused.TheVariants.{Fault, OutOfMemory}
 use Rattle.dcp_record.specs.declared.entries_in.CutRefused.{CutRefused}
 use Rattle.dcp_record.specs.declared.entries_in.CutRefused.TheVariants as cuts
-use Rattle.dcp_record.specs.Traces.{address_bytes, header_bytes, payload_bytes, all_entry_bytes, log_entry_bytes, IsPlace, IsRecordable}
+use Rattle.dcp_record.specs.Traces.{address_bytes, header_bytes, payload_bytes, all_entry_bytes, log_entry_bytes, IsTraceAddress, IsRecordable}
 use Rattle.dcp_record.specs.Refusals.{EntryRefused, entry_place}
 
 -- a header with its scenario, and what is left behind it
@@ -21,8 +21,8 @@ pub record IsHead (b : List ℕ) (hosted : ℕ) (scenario rest : List ℕ) : Typ
 
 -- two addresses and a payload, and what is left behind them
 pub record IsExchange (least most : ℕ) (b : List ℕ) (first second : Address) (payload rest : List ℕ) : Type 0 where
-  pub first_fits : IsPlace first
-  pub second_fits : IsPlace second
+  pub first_fits : IsTraceAddress first
+  pub second_fits : IsTraceAddress second
   pub low : least ≤ length payload
   pub high : length payload ≤ most
   pub parts : b ≡ address_bytes first ++ address_bytes second ++ payload_bytes payload ++ rest
@@ -33,8 +33,8 @@ pub record ExchangeCut (least most : ℕ) (b : List ℕ) : Type 0 where
   pub second : Address
   pub payload : List ℕ
   pub missing : List ℕ
-  pub first_fits : IsPlace first
-  pub second_fits : IsPlace second
+  pub first_fits : IsTraceAddress first
+  pub second_fits : IsTraceAddress second
   pub low : least ≤ length payload
   pub high : length payload ≤ most
   pub lacks : 0 < length missing
@@ -57,7 +57,7 @@ ExchangeRefused least most b Length = ExchangeOut least most b
 ExchangeRefused least most b Short = ExchangeCut least most b
 
 -- an entry, and what is left behind it
-pub record IsFirst (b : List ℕ) (entry : LogEntry) (rest : List ℕ) : Type 0 where
+pub record IsFirstEntry (b : List ℕ) (entry : LogEntry) (rest : List ℕ) : Type 0 where
   pub recordable : IsRecordable entry
   pub parts : b ≡ log_entry_bytes entry ++ rest
 

@@ -3,7 +3,7 @@ use Rattle.std.specs.Prelude.{◌≡◌, ℕ, ◌<◌, ◌⊎◌, List, slice_in
 use Rattle.dcp_ends.specs.declared.entries.LogEntry.{LogEntry}
 use Rattle.dcp_record.specs.declared.faults.TraceWhy.{TraceWhy}
 use Rattle.dcp_record.specs.Traces.{IsTrace}
-use Rattle.dcp_record.specs.Refusals.{Refusal}
+use Rattle.dcp_record.specs.Refusals.{TraceRefusal}
 
 abbrev pub IsBytes : List ℕ → Type 0
 IsBytes b = (i : ℕ) → slice_index b i < 256
@@ -12,11 +12,11 @@ IsBytes b = (i : ℕ) → slice_index b i < 256
 abbrev pub ReadOrRefused : Type 0
 ReadOrRefused = (b : List ℕ) → IsBytes b
     → ((hosted : ℕ) × (scenario : List ℕ) × (entries : List LogEntry) × IsTrace b hosted scenario entries)
-    ⊎ ((at : ℕ) × (why : TraceWhy) × Refusal b at why)
+    ⊎ ((at : ℕ) × (why : TraceWhy) × TraceRefusal b at why)
 
-abbrev pub NeverBoth : Type 0
-NeverBoth = (b : List ℕ) (hosted : ℕ) (scenario : List ℕ) (entries : List LogEntry) (at : ℕ) (why : TraceWhy)
-    → IsTrace b hosted scenario entries → Refusal b at why → ⊥
+abbrev pub NeverBothOfTrace : Type 0
+NeverBothOfTrace = (b : List ℕ) (hosted : ℕ) (scenario : List ℕ) (entries : List LogEntry) (at : ℕ) (why : TraceWhy)
+    → IsTrace b hosted scenario entries → TraceRefusal b at why → ⊥
 
 -- no two traces have the same bytes
 abbrev pub TracesDiffer : Type 0
@@ -24,5 +24,5 @@ TracesDiffer = (b : List ℕ) (m n : ℕ) (s t : List ℕ) (es fs : List LogEntr
     → IsTrace b m s es → IsTrace b n t fs → (m ≡ n) × (s ≡ t) × (es ≡ fs)
 
 -- bytes have one refusal at most
-abbrev pub OneRefusal : Type 0
-OneRefusal = (b : List ℕ) (m n : ℕ) (v w : TraceWhy) → Refusal b m v → Refusal b n w → (m ≡ n) × (v ≡ w)
+abbrev pub OneTraceRefusal : Type 0
+OneTraceRefusal = (b : List ℕ) (m n : ℕ) (v w : TraceWhy) → TraceRefusal b m v → TraceRefusal b n w → (m ≡ n) × (v ≡ w)

@@ -58,7 +58,7 @@ pub record HasBadLength (tag least most : ℕ) (rest : List ℕ) : Type 0 where
   pub out : (size < least) ⊎ (most < size)
 
 -- some of an entry that fits its bytes, and not all of it
-pub record IsCut (rest : List ℕ) : Type 0 where
+pub record IsTruncated (rest : List ℕ) : Type 0 where
   pub entry : LogEntry
   pub missing : List ℕ
   pub recordable : IsRecordable entry
@@ -71,7 +71,7 @@ abbrev pub EntryRefused : List ℕ → TraceWhy → Type 0
 EntryRefused rest Header = ⊥
 EntryRefused rest Tag = HasNoTag rest
 EntryRefused rest Length = HasBadLength 1 1 1024 rest ⊎ HasBadLength 2 0 1025 rest
-EntryRefused rest Short = IsCut rest
+EntryRefused rest Short = IsTruncated rest
 
 -- Where in these bytes: at the tag, at the length behind the tag and two addresses, or at the end.
 abbrev pub entry_place : List ℕ → TraceWhy → ℕ
@@ -93,13 +93,13 @@ pub record RefusedEntry (b : List ℕ) (at : ℕ) (why : TraceWhy) : Type 0 wher
   pub here : at ≡ length before + entry_place rest why
 
 -- these bytes are refused at this place and for this cause
-abbrev pub Refusal : List ℕ → ℕ → TraceWhy → Type 0
-Refusal b at Header = HeaderRefused b at
-Refusal b at Tag = RefusedEntry b at Tag
-Refusal b at Length = RefusedEntry b at Length
-Refusal b at Short = RefusedEntry b at Short
+abbrev pub TraceRefusal : List ℕ → ℕ → TraceWhy → Type 0
+TraceRefusal b at Header = HeaderRefused b at
+TraceRefusal b at Tag = RefusedEntry b at Tag
+TraceRefusal b at Length = RefusedEntry b at Length
+TraceRefusal b at Short = RefusedEntry b at Short
 
 -- want of memory has no cause in the bytes
-abbrev pub IsRefused : List ℕ → TraceRefused → Type 0
-IsRefused b (Fault fault) = Refusal b fault.at fault.why
-IsRefused b OutOfMemory = Unit {0}
+abbrev pub IsRefusedTrace : List ℕ → TraceRefused → Type 0
+IsRefusedTrace b (Fault fault) = TraceRefusal b fault.at fault.why
+IsRefusedTrace b OutOfMemory = Unit {0}

@@ -39,15 +39,15 @@ abbrev pub trace_bytes : ℕ → List ℕ → List LogEntry → List ℕ
 trace_bytes hosted scenario entries = header_bytes hosted (length scenario) ++ scenario ++ all_entry_bytes entries
 
 -- the numbers of an address fit their bytes
-pub record IsPlace (a : Address) : Type 0 where
+pub record IsTraceAddress (a : Address) : Type 0 where
   pub ip_fits : a.ip < 2 ^ 32
   pub port_fits : a.port < 2 ^ 16
 
 abbrev pub HasPlaces : LogEntry → Type 0
-HasPlaces (Sent from to bytes) = IsPlace from × IsPlace to
-HasPlaces (Got at from bytes) = IsPlace at × IsPlace from
-HasPlaces (Idle at) = IsPlace at
-HasPlaces (Turn at) = IsPlace at
+HasPlaces (Sent from to bytes) = IsTraceAddress from × IsTraceAddress to
+HasPlaces (Got at from bytes) = IsTraceAddress at × IsTraceAddress from
+HasPlaces (Idle at) = IsTraceAddress at
+HasPlaces (Turn at) = IsTraceAddress at
 
 -- all that an entry says fits its bytes
 pub record IsRecordable (entry : LogEntry) : Type 0 where

@@ -2,7 +2,7 @@
 
 ghost use Rattle.std.specs.Prelude.{◌≡◌, ◌+◌, ◌<◌, ◌≤◌, ◌^◌, ◌∷◌, length, IfOk, IfErr};
 ghost use Rattle.dcp_record.specs.Refusals.{entry_place};
-ghost use Rattle.dcp_record.specs.Cuts.{IsExchange, ExchangeRefused, IsFirst, FirstRefused, AreEntries, EntriesRefused};
+ghost use Rattle.dcp_record.specs.Cuts.{IsExchange, ExchangeRefused, IsFirstEntry, FirstRefused, AreEntries, EntriesRefused};
 ghost use Rattle.dcp_record.specs.declared.entries_in.CutRefused.TheVariants.{Why, OutOfMemory};
 
 use crate::faults::{TraceFault, TraceRefused, TraceWhy};
@@ -78,7 +78,7 @@ fn cut_exchange(bytes: &[u8], least: usize, most: usize) -> Result<(Exchange<'_>
 
 /// What follows the tag of a datagram that was sent.
 fn cut_sent(alloc: Global, bytes: &[u8]) -> Result<(LogEntry, &[u8]), CutRefused>
-    ensures ok { IfOk result (λ cut. IsFirst (1 ∷ bytes.now) cut.0 cut.1.now) }
+    ensures ok { IfOk result (λ cut. IsFirstEntry (1 ∷ bytes.now) cut.0 cut.1.now) }
     ensures err { IfErr result (λ refused. FirstRefused (1 ∷ bytes.now) refused) }
 {
     let (exchange, rest) = cut_exchange(bytes, 1, 1_024)?;
@@ -92,7 +92,7 @@ fn cut_sent(alloc: Global, bytes: &[u8]) -> Result<(LogEntry, &[u8]), CutRefused
 
 /// What follows the tag of a datagram that was got.
 fn cut_got(alloc: Global, bytes: &[u8]) -> Result<(LogEntry, &[u8]), CutRefused>
-    ensures ok { IfOk result (λ cut. IsFirst (2 ∷ bytes.now) cut.0 cut.1.now) }
+    ensures ok { IfOk result (λ cut. IsFirstEntry (2 ∷ bytes.now) cut.0 cut.1.now) }
     ensures err { IfErr result (λ refused. FirstRefused (2 ∷ bytes.now) refused) }
 {
     let (exchange, rest) = cut_exchange(bytes, 0, 1_025)?;
@@ -106,7 +106,7 @@ fn cut_got(alloc: Global, bytes: &[u8]) -> Result<(LogEntry, &[u8]), CutRefused>
 
 /// What follows the tag of a look that found nothing.
 fn cut_idle(bytes: &[u8]) -> Result<(LogEntry, &[u8]), CutRefused>
-    ensures ok { IfOk result (λ cut. IsFirst (3 ∷ bytes.now) cut.0 cut.1.now) }
+    ensures ok { IfOk result (λ cut. IsFirstEntry (3 ∷ bytes.now) cut.0 cut.1.now) }
     ensures err { IfErr result (λ refused. FirstRefused (3 ∷ bytes.now) refused) }
 {
     let Some((at, rest)) = cut_address(bytes) else {
@@ -117,7 +117,7 @@ fn cut_idle(bytes: &[u8]) -> Result<(LogEntry, &[u8]), CutRefused>
 
 /// What follows the tag of a turn.
 fn cut_turn(bytes: &[u8]) -> Result<(LogEntry, &[u8]), CutRefused>
-    ensures ok { IfOk result (λ cut. IsFirst (4 ∷ bytes.now) cut.0 cut.1.now) }
+    ensures ok { IfOk result (λ cut. IsFirstEntry (4 ∷ bytes.now) cut.0 cut.1.now) }
     ensures err { IfErr result (λ refused. FirstRefused (4 ∷ bytes.now) refused) }
 {
     let Some((at, rest)) = cut_address(bytes) else {
@@ -128,7 +128,7 @@ fn cut_turn(bytes: &[u8]) -> Result<(LogEntry, &[u8]), CutRefused>
 
 /// The entry with this tag, whose other bytes are at the front of these; and what is left.
 fn cut_entry(alloc: Global, tag: u8, bytes: &[u8]) -> Result<(LogEntry, &[u8]), CutRefused>
-    ensures ok { IfOk result (λ cut. IsFirst (tag ∷ bytes.now) cut.0 cut.1.now) }
+    ensures ok { IfOk result (λ cut. IsFirstEntry (tag ∷ bytes.now) cut.0 cut.1.now) }
     ensures err { IfErr result (λ refused. FirstRefused (tag ∷ bytes.now) refused) }
 {
     match tag {

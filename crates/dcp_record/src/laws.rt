@@ -3,7 +3,7 @@
 ghost use Rattle.std.specs.Prelude.{◌≡◌, ◌<◌, ◌^◌, length, MatchResult};
 ghost use Rattle.std.specs.List.{All};
 ghost use Rattle.dcp_record.specs.Traces.{IsRecordable, trace_bytes};
-ghost use Rattle.dcp_record.specs.Laws.{ReadOrRefused, NeverBoth, TracesDiffer, OneRefusal};
+ghost use Rattle.dcp_record.specs.Laws.{ReadOrRefused, NeverBothOfTrace, TracesDiffer, OneTraceRefusal};
 ghost use Rattle.dcp_record.specs.declared.faults.TraceRefused.TheVariants.{OutOfMemory};
 
 use crate::faults::TraceRefused;
@@ -14,9 +14,9 @@ use std::alloc::Global;
 /// Bytes are the one trace that has them, or are refused for one cause at one place.
 pub fn traces_read_or_are_refused()
     ensures either { ReadOrRefused }
-    ensures never_both { NeverBoth }
+    ensures never_both { NeverBothOfTrace }
     ensures one_trace { TracesDiffer }
-    ensures one_refusal { OneRefusal }
+    ensures one_refusal { OneTraceRefusal }
 {}
 
 /// Reads what `write_record` wrote of these, all of it, to an empty sink: they come back as they were,

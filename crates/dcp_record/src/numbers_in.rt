@@ -2,7 +2,7 @@
 
 ghost use Rattle.std.specs.Prelude.{◌≡◌, ◌<◌, ◌^◌, ◌++◌, length, IfSome, IfNone};
 ghost use Rattle.std.specs.Int.{to_le_bytes, w16, w32};
-ghost use Rattle.dcp_record.specs.Traces.{address_bytes, IsPlace};
+ghost use Rattle.dcp_record.specs.Traces.{address_bytes, IsTraceAddress};
 
 use dcp_types::Address;
 
@@ -33,7 +33,7 @@ pub fn cut_u32(bytes: &[u8]) -> Option<(u32, &[u8])>
 /// An address of six bytes, and what is left; none where there are fewer.
 pub fn cut_address(bytes: &[u8]) -> Option<(Address, &[u8])>
     ensures some { IfSome result (λ cut. bytes.now ≡ address_bytes cut.0 ++ cut.1.now) }
-    ensures fits { IfSome result (λ cut. IsPlace cut.0) }
+    ensures fits { IfSome result (λ cut. IsTraceAddress cut.0) }
     ensures none { IfNone result (length bytes.now < 6) }
 {
     let (ip, after_ip) = cut_u32(bytes)?;

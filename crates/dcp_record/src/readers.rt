@@ -4,7 +4,7 @@ ghost use Rattle.std.specs.Prelude.{◌≡◌, ◌++◌, ℕ, List, IfOk, IfErr,
 ghost use Rattle.dcp_ends.specs.declared.entries.LogEntry.{LogEntry};
 ghost use Rattle.dcp_record.specs.declared.faults.TraceRefused.TheVariants.{OutOfMemory};
 ghost use Rattle.dcp_record.specs.Traces.{form, IsTrace};
-ghost use Rattle.dcp_record.specs.Refusals.{HeaderRefused, IsRefused};
+ghost use Rattle.dcp_record.specs.Refusals.{HeaderRefused, IsRefusedTrace};
 ghost use Rattle.dcp_record.specs.Cuts.{IsHead};
 
 use crate::entries_in::cut_entries;
@@ -48,7 +48,7 @@ pub fn read_record(alloc: Global, bytes: &[u8]) -> Result<Trace<'_>, TraceRefuse
         → MatchResult result (λ trace. (trace.hosted ≡ hosted) × (trace.scenario.now ≡ scenario) × (trace.entries ≡ entries)) (λ refused. refused ≡ OutOfMemory) }
 
     // Else the bytes are refused.
-    ensures err { IfErr result (λ refused. IsRefused bytes.now refused) }
+    ensures err { IfErr result (λ refused. IsRefusedTrace bytes.now refused) }
 {
     let (head, rest) = match cut_head(bytes) {
         Ok(cut) => cut,

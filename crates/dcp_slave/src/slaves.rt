@@ -2,7 +2,7 @@
 
 ghost use Rattle.std.specs.Prelude.{◌≡◌, ◌≤◌, [], IfOk};
 ghost use Rattle.slave_desc.specs.Descriptions.{IsDesc};
-ghost use Rattle.slave_spec.specs.Slaves.{rules_from};
+ghost use Rattle.slave_spec.specs.Slaves.{slave_rules_from};
 
 use dcp_ends::End;
 use dcp_types::OutOfMemory;
@@ -21,7 +21,7 @@ pub fn new_slave(alloc: Global, desc: SlaveDesc, micro: u32) -> Result<SlaveEnd,
     requires desc { IsDesc desc }
     requires micro { (1 ≤ micro) × (micro ≤ 1000) }
     ensures stands { IfOk result (λ s. ⟦<SlaveCore<Device<Wiring>> as End>⟧.stands s []) }
-    ensures rules { IfOk result (λ s. ⟦<SlaveCore<Device<Wiring>> as End>⟧.rules s ≡ rules_from (record { desc = desc; micro = micro })) }
+    ensures rules { IfOk result (λ s. ⟦<SlaveCore<Device<Wiring>> as End>⟧.rules s ≡ slave_rules_from (record { desc = desc; micro = micro })) }
     ensures made { IfOk result (λ s. ⟦<SlaveCore<Device<Wiring>> as End>⟧.made s ≡ record { desc = desc; micro = micro }) }
     ensures quiet { IfOk result (λ s. ⟦<SlaveCore<Device<Wiring>> as End>⟧.outs s ≡ []) }
 {

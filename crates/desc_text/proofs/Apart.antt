@@ -17,9 +17,9 @@ use Rattle.desc_text.specs.Items.{key_of, item_of}
 use Rattle.fixed_models.specs.Kinds.{takes}
 use Rattle.text_lines.specs.Causes.{came, or_else, refused_if}
 use Rattle.desc_text.specs.Judging.{came_before, begins, why_key, why_port, why_item, why_read, why_keyed, why_words, why_line, why_end, desc_why_at, why_entry}
-use Rattle.desc_text.specs.Said.{name_in, uuid_in, address_in, model_in, busy_in, heartbeat_in, resolution_in, input_in, output_in, item_keyed, item_of_words, item_in, items_in}
+use Rattle.desc_text.specs.Said.{name_in, uuid_in, address_said, model_in, busy_in, heartbeat_in, resolution_in, input_in, output_in, item_keyed, item_of_words, item_in, items_in}
 use Rattle.text_lines.specs.Readings.{FirstBad}
-use Rattle.desc_text.specs.Reads.{is_read, ReadsAsDesc, Describes, IsOr, opens}
+use Rattle.desc_text.specs.Reads.{is_desc_read, ReadsAsDesc, Describes, IsOr, opens_block}
 use Rattle.slave_desc.specs.Descriptions.{AreApart}
 use Rattle.text_lines.proofs.PlainWords.{and_both}
 use Rattle.text_lines.proofs.Runs.{one_first}
@@ -90,7 +90,7 @@ no_port before after q w apart few e =
 not_again : (before : List Item) (i : Item) (after : List Item) (d : SlaveDesc) → Describes (before ++ i ∷ after) d → came_before before (key_in i) ≡ true → ⊥
 not_again before (items.Slave n) after d says h = twice name_in before (items.Slave n) after (just_one _ d.name says.name) refl h
 not_again before (items.Uuid n) after d says h = twice uuid_in before (items.Uuid n) after (just_one _ d.uuid says.uuid) refl h
-not_again before (items.Address a) after d says h = twice address_in before (items.Address a) after (just_one _ d.address says.address) refl h
+not_again before (items.Address a) after d says h = twice address_said before (items.Address a) after (just_one _ d.address says.address) refl h
 not_again before (items.Model k ps) after d says h = twice model_in before (items.Model k ps) after (just_one _ (d.kind, d.parameters) says.model) refl h
 not_again before (items.Busy n) after d says h = twice busy_in before (items.Busy n) after (at_most_one 0 _ d.busy says.busy) refl h
 not_again before (items.Heartbeat n) after d says h = twice heartbeat_in before (items.Heartbeat n) after (at_most_one 0 _ d.heartbeat says.heartbeat) refl h
@@ -103,7 +103,7 @@ came_cons None xs e h = false≢true e
 came_cons (Some x) xs e h = false≢true h
 
 -- the name stands before all others
-is_named : (before : List Item) (i : Item) (after : List Item) → opens (before ++ i ∷ after) ≡ true → not (begins (key_in i)) ≡ true → not (came (filter_map name_in before)) ≡ true → ⊥
+is_named : (before : List Item) (i : Item) (after : List Item) → opens_block (before ++ i ∷ after) ≡ true → not (begins (key_in i)) ≡ true → not (came (filter_map name_in before)) ≡ true → ⊥
 is_named (x ∷ before) i after first other unnamed = came_cons (name_in x) (filter_map name_in before) first unnamed
 is_named [] (items.Slave n) after first other unnamed = false≢true other
 is_named [] _ after first other unnamed = false≢true first
@@ -163,7 +163,7 @@ module _ (before after : List Item) (d : SlaveDesc) (w : TextWhy) where
   not_line_by true true ws read says e = cc
   not_line_by true false ws read says e = not_words ws read says e
 
-  pub not_line : (line : List ℕ) → is_read line ≡ true → Describes (before ++ cons_option (item_in line) after) d → why_line before line ≡ Some w → ⊥
+  pub not_line : (line : List ℕ) → is_desc_read line ≡ true → Describes (before ++ cons_option (item_in line) after) d → why_line before line ≡ Some w → ⊥
   not_line line read says e = not_line_by (is_utf8 line) (is_skipped (words line)) (words line) read says e
 
 came_some : {X : Type 0} (xs : List X) → 1 ≤ length xs → came xs ≡ true

@@ -9,11 +9,11 @@ use Rattle.std.proofs.lemmas.List.Folds.{list_any_at}
 use Rattle.std.proofs.lemmas.List.Quantifiers.{all_pairs_push}
 use Rattle.text_lines.specs.Causes.{came, or_else, refused_if}
 use Rattle.desc_text.specs.Judging.{came_before, begins, why_key, why_port, why_item}
-use Rattle.desc_text.specs.Said.{name_in, uuid_in, address_in, model_in, busy_in, heartbeat_in, resolution_in, input_in, output_in}
+use Rattle.desc_text.specs.Said.{name_in, uuid_in, address_said, model_in, busy_in, heartbeat_in, resolution_in, input_in, output_in}
 use Rattle.fixed_models.specs.Kinds.{takes}
-use Rattle.desc_text.specs.Reads.{opens}
+use Rattle.desc_text.specs.Reads.{opens_block}
 use Rattle.slave_desc.specs.Descriptions.{AreApart}
-use Rattle.desc_text.specs.Machine.{newer, longer, has, put, why_held, nothing}
+use Rattle.desc_text.specs.Machine.{newer, longer, has, put_item, why_held, nothing}
 use Rattle.text_lines.specs.declared.reasons.TextWhy.{TextWhy}
 use Rattle.text_lines.specs.declared.reasons.TextWhy.TheVariants as why
 use Rattle.slave_desc.specs.declared.ports.Port.{Port}
@@ -25,10 +25,10 @@ use Rattle.desc_text.specs.declared.partials.Partial.{Partial}
 
 -- p holds what these items say
 pub record Holds (all : List Item) (p : Partial) : Type 0 where
-  pub first : opens all ≡ true
+  pub first : opens_block all ≡ true
   pub name : filter_map name_in all ≡ option_to_list p.name
   pub uuid : filter_map uuid_in all ≡ option_to_list p.uuid
-  pub address : filter_map address_in all ≡ option_to_list p.address
+  pub address : filter_map address_said all ≡ option_to_list p.address
   pub model : filter_map model_in all ≡ option_to_list p.model
   pub taken : IfSome p.model (λ m. takes m.0 m.1 ≡ true)
   pub busy : filter_map busy_in all ≡ option_to_list p.busy
@@ -98,7 +98,7 @@ module _ (p : Partial) where
   fresh_uuid (items.Uuid n) h e = h
   fresh_uuid _ h e = absurd (false≢true e)
 
-  fresh_address : (i : Item) → has p (key_in i) ≡ false → is_some (address_in i) ≡ true → is_some p.address ≡ false
+  fresh_address : (i : Item) → has p (key_in i) ≡ false → is_some (address_said i) ≡ true → is_some p.address ≡ false
   fresh_address (items.Address a) h e = h
   fresh_address _ h e = absurd (false≢true e)
 
@@ -154,7 +154,7 @@ not_not false e = absurd (false≢true (sym e))
 
 module _ (all : List Item) (p : Partial) (h : Holds all p) where
   -- a name opens the block
-  still_opens : (i : Item) (before : List Item) → filter_map name_in before ≡ option_to_list p.name → opens before ≡ true → (begins (key_in i) ≡ true) ⊎ (is_some p.name ≡ true) → opens (before ++ i ∷ []) ≡ true
+  still_opens : (i : Item) (before : List Item) → filter_map name_in before ≡ option_to_list p.name → opens_block before ≡ true → (begins (key_in i) ≡ true) ⊎ (is_some p.name ≡ true) → opens_block (before ++ i ∷ []) ≡ true
   still_opens i (x ∷ before) same before_opens begun = before_opens
   still_opens (items.Slave n) [] same before_opens begun = refl
   still_opens _ [] same before_opens (inl begun) = absurd (false≢true begun)
@@ -177,12 +177,12 @@ module _ (all : List Item) (p : Partial) (h : Holds all p) where
   still_outputs _ ok = (h.few_outputs, h.outputs_apart)
 
   -- an item that may come
-  pub holds_more : (i : Item) → has p (key_in i) ≡ false → (begins (key_in i) ≡ true) ⊎ (is_some p.name ≡ true) → why_held p i ≡ None → Holds (all ++ i ∷ []) (put p i)
+  pub holds_more : (i : Item) → has p (key_in i) ≡ false → (begins (key_in i) ≡ true) ⊎ (is_some p.name ≡ true) → why_held p i ≡ None → Holds (all ++ i ∷ []) (put_item p i)
   holds_more i new begun ok = record {
     first = still_opens i all h.name h.first begun;
     name = grown name_in all i p.name h.name (fresh_name p i new);
     uuid = grown uuid_in all i p.uuid h.uuid (fresh_uuid p i new);
-    address = grown address_in all i p.address h.address (fresh_address p i new);
+    address = grown address_said all i p.address h.address (fresh_address p i new);
     model = grown model_in all i p.model h.model (fresh_model p i new);
     taken = still_taken i ok;
     busy = grown busy_in all i p.busy h.busy (fresh_busy p i new);

@@ -14,12 +14,12 @@ use Rattle.std.proofs.lemmas.List.Elements.{filter_map-append, All-push}
 use Rattle.std.proofs.lemmas.Option.{slice_get_past}
 use Rattle.text_lines.specs.Texts.{words, is_skipped}
 use Rattle.text_lines.specs.Causes.{◌>>=◌, or_why, came, or_else, refused_if, unless}
-use Rattle.desc_text.specs.Items.{key_of, item_of, port, resolution, model, parameters}
+use Rattle.desc_text.specs.Items.{key_of, item_of, port, resolution, model, parameters_said}
 use Rattle.text_lines.specs.Names.{name}
 use Rattle.text_lines.specs.Addresses.{address}
 use Rattle.text_lines.specs.Identities.{identity}
 use Rattle.text_lines.specs.Counts.{one_word}
-use Rattle.desc_text.specs.Words.{kind_of}
+use Rattle.desc_text.specs.Words.{kind_named}
 use Rattle.text_lines.specs.Runs.{run_of}
 use Rattle.text_lines.proofs.Results.{bind_ok, some_ok, ok_same}
 use Rattle.text_lines.proofs.Runs.{Judges, run_ok, run_err}
@@ -28,9 +28,9 @@ use Rattle.desc_text.specs.Judging.{came_before, begins, why_key, why_read, why_
 use Rattle.desc_text.specs.Said.{name_in, item_keyed, item_of_words, item_in, items_in}
 use Rattle.text_lines.specs.Readings.{FirstBad}
 use Rattle.fixed_models.specs.Kinds.{takes, has_ports}
-use Rattle.desc_text.specs.Reads.{is_read, ReadsAsDesc, Describes, IsOr}
+use Rattle.desc_text.specs.Reads.{is_desc_read, ReadsAsDesc, Describes, IsOr}
 use Rattle.slave_desc.specs.Descriptions.{AreApart}
-use Rattle.desc_text.specs.Machine.{has, put, why_held, take_keyed, take_words, take_line, finished, nothing}
+use Rattle.desc_text.specs.Machine.{has, put_item, why_held, take_keyed, take_words, take_line, finished, nothing}
 use Rattle.desc_text.proofs.Held.{Holds, holds_nothing, key_in, holds_more, may_come, same_has, same_named, same_why, not_refused, not_not}
 use Rattle.text_lines.specs.declared.reasons.TextWhy.{TextWhy}
 use Rattle.text_lines.specs.declared.reasons.TextWhy.TheVariants as why
@@ -60,7 +60,7 @@ same_key key j i k e = ap key_in (ok_is j i e) ∙ k
 
 model_key : (args : List (List ℕ)) (i : Item) → model args ≡ Ok i → key_in i ≡ keys.Model
 model_key [] i e = cc
-model_key (w ∷ ws) i e = tagged keys.Model (or_why (kind_of w) why.UnknownModel) _ (λ k. tagged keys.Model (parameters ws) _ (λ ps j. same_key keys.Model (items.Model k ps) j refl)) i e
+model_key (w ∷ ws) i e = tagged keys.Model (or_why (kind_named w) why.UnknownModel) _ (λ k. tagged keys.Model (parameters_said ws) _ (λ ps j. same_key keys.Model (items.Model k ps) j refl)) i e
 
 -- a line of a key has an item of this key
 pub item_key : (key : Key) (args : List (List ℕ)) (i : Item) → item_of key args ≡ Ok i → key_in i ≡ key
@@ -120,7 +120,7 @@ module _ (all : List Item) (p : Partial) (h : Holds all p) where
   keyed_ok : (k : Option Key) (args : List (List ℕ)) (q : Partial) → take_keyed p k args ≡ Ok q → (why_keyed all k args ≡ None) × (is_some (item_keyed k args) ≡ true) × Holds (all ++ cons_option (item_keyed k args) []) q
   keyed_ok None args q e = cc
   keyed_ok (Some key) args q e =
-      let t = taken (why_key (has p key) (is_some p.name) key) (item_of key args) (why_held p) (put p) q e in
+      let t = taken (why_key (has p key) (is_some p.name) key) (item_of key args) (why_held p) (put_item p) q e in
       let may = may_come (has p key) (is_some p.name) key t.may in
       let key_is = item_key key args t.item t.read in
       let more = holds_more all p h t.item (ap (has p) key_is ∙ may.0) (subst (λ (k : Key). (begins k ≡ true) ⊎ (is_some p.name ≡ true)) (sym key_is) may.1) t.right in (
@@ -131,7 +131,7 @@ module _ (all : List Item) (p : Partial) (h : Holds all p) where
 
   keyed_err : (k : Option Key) (args : List (List ℕ)) (w : TextWhy) → take_keyed p k args ≡ Err w → why_keyed all k args ≡ Some w
   keyed_err None args w e = cc
-  keyed_err (Some key) args w e = same_keyed key args ∙ refused (why_key (has p key) (is_some p.name) key) (item_of key args) (why_held p) (put p) w e
+  keyed_err (Some key) args w e = same_keyed key args ∙ refused (why_key (has p key) (is_some p.name) key) (item_of key args) (why_held p) (put_item p) w e
 
   words_ok : (ws : List (List ℕ)) (q : Partial) → is_skipped ws ≡ false → take_words p ws ≡ Ok q → (why_words all ws ≡ None) × (is_some (item_of_words ws) ≡ true) × Holds (all ++ cons_option (item_of_words ws) []) q
   words_ok [] q skip e = absurd (false≢true (sym skip))
@@ -153,7 +153,7 @@ module _ (all : List Item) (p : Partial) (h : Holds all p) where
   line_err_by true false ws w e = words_err ws w e
 
   -- a line
-  pub line_ok : (line : List ℕ) (q : Partial) → take_line p line ≡ Ok q → (why_line all line ≡ None) × (is_read line ≡ true) × Holds (all ++ cons_option (item_in line) []) q
+  pub line_ok : (line : List ℕ) (q : Partial) → take_line p line ≡ Ok q → (why_line all line ≡ None) × (is_desc_read line ≡ true) × Holds (all ++ cons_option (item_in line) []) q
   line_ok line q e = line_ok_by (is_utf8 line) (is_skipped (words line)) (words line) q refl e
 
   pub line_err : (line : List ℕ) (w : TextWhy) → take_line p line ≡ Err w → why_line all line ≡ Some w
@@ -246,12 +246,12 @@ at_end done =
 
 -- what holds of the lines that are done
 abbrev pub HoldsLines : List (List ℕ) → Partial → Type 0
-HoldsLines done p = Holds (items_in done) p × All (λ line. is_read line ≡ true) done
+HoldsLines done p = Holds (items_in done) p × All (λ line. is_desc_read line ≡ true) done
 
 owes_taken : (done rest : List (List ℕ)) (line : List ℕ) (p q : Partial) → HoldsLines done p → take_line p line ≡ Ok q → (desc_why_at (done ++ line ∷ rest) (length done + 1) ≡ None) × HoldsLines (done ++ line ∷ []) q
 owes_taken done rest line p q h e =
     let took = line_ok (items_in done) p h.0 line q e in
-    (at_next done line rest ∙ took.0, (subst (λ (l : List Item). Holds l q) (sym (items_push done line)) took.2, All-push (λ line. is_read line ≡ true) done line h.1 took.1))
+    (at_next done line rest ∙ took.0, (subst (λ (l : List Item). Holds l q) (sym (items_push done line)) took.2, All-push (λ line. is_desc_read line ≡ true) done line h.1 took.1))
 
 -- the reader owes the judging
 judges : Judges take_line finished desc_why_at HoldsLines

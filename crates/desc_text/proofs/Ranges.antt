@@ -21,9 +21,9 @@ use Rattle.text_lines.proofs.IdentityRange.{identity_small}
 use Rattle.text_lines.specs.declared.reasons.TextWhy.{TextWhy}
 use Rattle.text_lines.specs.declared.reasons.TextWhy.TheVariants as why
 use Rattle.fixed_models.specs.declared.kinds.Kind.{Kind}
-use Rattle.desc_text.specs.Words.{data_type_of, kind_of}
-use Rattle.desc_text.specs.Items.{key_of, item_of, port, resolution, parameters, model}
-use Rattle.desc_text.specs.Said.{name_in, uuid_in, address_in, model_in, busy_in, heartbeat_in, resolution_in, input_in, output_in, item_keyed, item_of_words, items_in}
+use Rattle.desc_text.specs.Words.{data_type_of, kind_named}
+use Rattle.desc_text.specs.Items.{key_of, item_of, port, resolution, parameters_said, model}
+use Rattle.desc_text.specs.Said.{name_in, uuid_in, address_said, model_in, busy_in, heartbeat_in, resolution_in, input_in, output_in, item_keyed, item_of_words, items_in}
 use Rattle.desc_text.specs.Reads.{ReadsAsDesc, Describes, IsOr}
 use Rattle.slave_desc.specs.Descriptions.{IsDesc}
 use Rattle.slave_desc.specs.declared.ports.Port.{Port}
@@ -95,18 +95,18 @@ int64_fits w z e = by (has_minus w) e
         let n = bind_ok (number_from 0 (2 ^ 63 - 1) w) (λ n. Ok (pos n)) z e in
         moved (λ (z : ℤ). FitsSigned w64 z) (pos n.0) z n.2 (plus_fits n.0 (number_fits 0 (2 ^ 63 - 1) w n.0 n.1).1)
 
-parameters_fit : (ws : List (List ℕ)) (ps : List ℤ) → parameters ws ≡ Ok ps → AllByRecursion (λ z. FitsSigned w64 z) ps
+parameters_fit : (ws : List (List ℕ)) (ps : List ℤ) → parameters_said ws ≡ Ok ps → AllByRecursion (λ z. FitsSigned w64 z) ps
 parameters_fit [] ps e = moved (AllByRecursion (λ z. FitsSigned w64 z)) [] ps e tt
 parameters_fit (w ∷ ws) ps e =
     let z = bind_ok (int64 w) _ ps e in
-    let r = bind_ok (parameters ws) _ ps z.2 in
+    let r = bind_ok (parameters_said ws) _ ps z.2 in
     moved (AllByRecursion (λ z. FitsSigned w64 z)) (z.0 ∷ r.0) ps r.2 (int64_fits w z.0 z.1, parameters_fit ws r.0 r.1)
 
 model_fits : (args : List (List ℕ)) (i : Item) → model args ≡ Ok i → Fits i
 model_fits [] i e = cc
 model_fits (w ∷ ws) i e =
-    let k = bind_ok (or_why (kind_of w) why.UnknownModel) _ i e in
-    let ps = bind_ok (parameters ws) _ i k.2 in
+    let k = bind_ok (or_why (kind_named w) why.UnknownModel) _ i e in
+    let ps = bind_ok (parameters_said ws) _ i k.2 in
     moved Fits (items.Model k.0 ps.0) i ps.2 (parameters_fit ws ps.0 ps.1)
 
 -- ---- items
@@ -191,7 +191,7 @@ in_uuid : (i : Item) (x : ℕ) → Fits i → uuid_in i ≡ Some x → x < 2 ^ 1
 in_uuid (items.Uuid n) x h e = let same : n ≡ x = cc in subst (λ (n : ℕ). n < 2 ^ 128) same h
 in_uuid _ x h e = cc
 
-in_address : (i : Item) (x : Address) → Fits i → address_in i ≡ Some x → FitsAddress x
+in_address : (i : Item) (x : Address) → Fits i → address_said i ≡ Some x → FitsAddress x
 in_address (items.Address a) x h e = let same : a ≡ x = cc in subst FitsAddress same h
 in_address _ x h e = cc
 
@@ -228,7 +228,7 @@ in_output _ x h e = cc
 -- items that fit describe a description in range
 described : (all : List Item) (d : SlaveDesc) → AllFit all → Describes all d → IsDesc d
 described all d fit says =
-    let address = one_said address_in FitsAddress in_address all fit d.address says.address in
+    let address = one_said address_said FitsAddress in_address all fit d.address says.address in
     let model = one_said model_in FitsModel in_model all fit (d.kind, d.parameters) says.model in
     let resolution = or_said resolution_in FitsPair in_resolution all fit (1, 1000) (d.numerator, d.denominator) ((omega arith, omega arith), (omega arith, omega arith)) says.resolution in
     record {

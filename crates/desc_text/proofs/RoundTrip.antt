@@ -11,10 +11,10 @@ use Rattle.std.proofs.lemmas.List.Sums.{AllPass-from_list_all}
 use Rattle.text_lines.specs.Texts.{is_skipped}
 use Rattle.dcp_types.specs.Words.{type_word}
 use Rattle.fixed_models.specs.Kinds.{kind_word}
-use Rattle.desc_text.specs.Words.{data_type_of, kind_of}
-use Rattle.desc_text.specs.Items.{port, parameters}
-use Rattle.desc_text.specs.Said.{name_in, uuid_in, address_in, model_in, busy_in, heartbeat_in, resolution_in, input_in, output_in, item_of_words, item_in, items_in}
-use Rattle.desc_text.specs.Reads.{is_read, ReadsAsDesc, Describes, IsOr}
+use Rattle.desc_text.specs.Words.{data_type_of, kind_named}
+use Rattle.desc_text.specs.Items.{port, parameters_said}
+use Rattle.desc_text.specs.Said.{name_in, uuid_in, address_said, model_in, busy_in, heartbeat_in, resolution_in, input_in, output_in, item_of_words, item_in, items_in}
+use Rattle.desc_text.specs.Reads.{is_desc_read, ReadsAsDesc, Describes, IsOr}
 use Rattle.desc_text.specs.Canonical.{port_words, head_words, words_of, canonical}
 use Rattle.slave_desc.specs.Descriptions.{IsDesc}
 use Rattle.text_lines.proofs.PlainWords.{is_plain, both, words_joined, line_bytes, line_is_utf8, lines_joined}
@@ -36,7 +36,7 @@ record IsLine (ws : List (List ℕ)) (i : Item) : Type 0 where
   counts : is_skipped ws ≡ false
   item : item_of_words ws ≡ Some i
 
-joined_item : (ws : List (List ℕ)) (i : Item) → IsLine ws i → (is_read (join_with_byte 32 ws) ≡ true) × (item_in (join_with_byte 32 ws) ≡ Some i)
+joined_item : (ws : List (List ℕ)) (i : Item) → IsLine ws i → (is_desc_read (join_with_byte 32 ws) ≡ true) × (item_in (join_with_byte 32 ws) ≡ Some i)
 joined_item [] i h = absurd (false≢true (sym h.counts))
 joined_item (w ∷ ws) i h =
     let l = join_with_byte 32 (w ∷ ws) in
@@ -53,7 +53,7 @@ AreLines [] (i ∷ is) = ⊥
 AreLines (ws ∷ es) [] = ⊥
 AreLines (ws ∷ es) (i ∷ is) = IsLine ws i × AreLines es is
 
-lines_are : (es : List (List (List ℕ))) (is : List Item) → AreLines es is → (list_all (list_all is_plain) es ≡ true) × (list_all is_read (map (join_with_byte 32) es) ≡ true) × (filter_map item_in (map (join_with_byte 32) es) ≡ is)
+lines_are : (es : List (List (List ℕ))) (is : List Item) → AreLines es is → (list_all (list_all is_plain) es ≡ true) × (list_all is_desc_read (map (join_with_byte 32) es) ≡ true) × (filter_map item_in (map (join_with_byte 32) es) ≡ is)
 unfolding AreLines
 lines_are [] [] h = (refl, refl, refl)
 lines_are [] (i ∷ is) h = absurd h
@@ -91,7 +91,7 @@ plain_type types.I16 = refl
 plain_type types.I32 = refl
 plain_type types.I64 = refl
 
-kind_back : (k : Kind) → (kind_of (kind_word k) ≡ Some k) × (is_plain (kind_word k) ≡ true)
+kind_back : (k : Kind) → (kind_named (kind_word k) ≡ Some k) × (is_plain (kind_word k) ≡ true)
 kind_back kinds.Const = (refl, refl)
 kind_back kinds.Ramp = (refl, refl)
 kind_back kinds.Counter = (refl, refl)
@@ -110,7 +110,7 @@ kind_back kinds.Switch = (refl, refl)
 port_back : (p : Port) → p.vr < 2 ^ 64 → port (decimal p.vr ∷ type_word p.kind ∷ []) ≡ Ok p
 port_back p small = rw (number_from_decimal 0 (2 ^ 64 - 1) p.vr small (omega arith) (omega arith), type_back p.kind) refl
 
-parameters_back : (ps : List ℤ) → AllByRecursion (λ z. FitsSigned w64 z) ps → parameters (map signed_decimal ps) ≡ Ok ps
+parameters_back : (ps : List ℤ) → AllByRecursion (λ z. FitsSigned w64 z) ps → parameters_said (map signed_decimal ps) ≡ Ok ps
 parameters_back [] h = refl
 parameters_back (p ∷ ps) h = rw (int64_decimal p h.0, parameters_back ps h.1) refl
 
@@ -210,7 +210,7 @@ describes d h = record {
   first = refl;
   name = said_once name_in d (λ _. refl) (λ _. refl);
   uuid = said_once uuid_in d (λ _. refl) (λ _. refl);
-  address = said_once address_in d (λ _. refl) (λ _. refl);
+  address = said_once address_said d (λ _. refl) (λ _. refl);
   model = said_once model_in d (λ _. refl) (λ _. refl);
   taken = h.taken;
   busy = subst (λ (l : List ℕ). IsOr 0 l d.busy) (sym (said_once busy_in d (λ _. refl) (λ _. refl))) refl;
@@ -239,6 +239,6 @@ canonical_reads d h =
     let cut = lines_joined (words_of d) t.0 in
     let items_are : items_in (lines (canonical d)) ≡ all_items d = ap items_in cut ∙ t.2 in
     record {
-      each = subst (λ (ls : List (List ℕ)). All (λ line. is_read line ≡ true) ls) (sym cut) (AllPass-from_list_all is_read (map (join_with_byte 32) (words_of d)) t.1);
+      each = subst (λ (ls : List (List ℕ)). All (λ line. is_desc_read line ≡ true) ls) (sym cut) (AllPass-from_list_all is_desc_read (map (join_with_byte 32) (words_of d)) t.1);
       says = subst (λ (l : List Item). Describes l d) (sym items_are) (describes d h);
     }

@@ -7,7 +7,7 @@ use Rattle.text_lines.specs.Names.{name}
 use Rattle.text_lines.specs.Addresses.{address}
 use Rattle.text_lines.specs.Identities.{identity}
 use Rattle.text_lines.specs.Counts.{one_word, two_words}
-use Rattle.desc_text.specs.Words.{data_type_of, kind_of}
+use Rattle.desc_text.specs.Words.{data_type_of, kind_named}
 use Rattle.text_lines.specs.declared.reasons.TextWhy.{TextWhy}
 use Rattle.text_lines.specs.declared.reasons.TextWhy.TheVariants as why
 use Rattle.slave_desc.specs.declared.ports.Port.{Port}
@@ -44,19 +44,19 @@ resolution args = do
   denominator ← number_from 1 (2 ^ 32 - 1) w.1
   Ok (numerator, denominator)
 
-abbrev pub parameters : List (List ℕ) → Result (List ℤ) TextWhy
-parameters [] = Ok []
-parameters (w ∷ ws) = do
+abbrev pub parameters_said : List (List ℕ) → Result (List ℤ) TextWhy
+parameters_said [] = Ok []
+parameters_said (w ∷ ws) = do
   first ← int64 w
-  others ← parameters ws
+  others ← parameters_said ws
   Ok (first ∷ others)
 
 abbrev pub model : List (List ℕ) → Result Item TextWhy
 model [] = Err why.Words
 model (w ∷ ws) = do
-  kind ← or_why (kind_of w) why.UnknownModel
-  parameters ← parameters ws
-  Ok (items.Model kind parameters)
+  kind ← or_why (kind_named w) why.UnknownModel
+  parameters_said ← parameters_said ws
+  Ok (items.Model kind parameters_said)
 
 -- what the line says
 abbrev pub item_of : Key → List (List ℕ) → Result Item TextWhy

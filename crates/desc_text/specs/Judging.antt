@@ -5,7 +5,7 @@ use Rattle.std.specs.Str.{is_utf8}
 use Rattle.text_lines.specs.Texts.{words, is_skipped}
 use Rattle.text_lines.specs.Causes.{came, or_else, refused_if}
 use Rattle.desc_text.specs.Items.{key_of, item_of}
-use Rattle.desc_text.specs.Said.{name_in, uuid_in, address_in, model_in, busy_in, heartbeat_in, resolution_in, input_in, output_in, items_in}
+use Rattle.desc_text.specs.Said.{name_in, uuid_in, address_said, model_in, busy_in, heartbeat_in, resolution_in, input_in, output_in, items_in}
 use Rattle.fixed_models.specs.Kinds.{takes, has_ports}
 use Rattle.text_lines.specs.declared.reasons.TextWhy.{TextWhy}
 use Rattle.text_lines.specs.declared.reasons.TextWhy.TheVariants as why
@@ -20,7 +20,7 @@ use Rattle.desc_text.specs.declared.items.Item.TheVariants as items
 abbrev pub came_before : List Item → Key → Bool
 came_before before keys.Slave = came (filter_map name_in before)
 came_before before keys.Uuid = came (filter_map uuid_in before)
-came_before before keys.Address = came (filter_map address_in before)
+came_before before keys.Address = came (filter_map address_said before)
 came_before before keys.Model = came (filter_map model_in before)
 came_before before keys.Busy = came (filter_map busy_in before)
 came_before before keys.Heartbeat = came (filter_map heartbeat_in before)
@@ -77,7 +77,7 @@ why_ports (m ∷ ms) inputs outputs = refused_if (not (has_ports m.0 inputs outp
 
 abbrev pub why_end : List Item → Option TextWhy
 why_end all =
-    if came (filter_map name_in all) && came (filter_map uuid_in all) && came (filter_map address_in all) && came (filter_map output_in all)
+    if came (filter_map name_in all) && came (filter_map uuid_in all) && came (filter_map address_said all) && came (filter_map output_in all)
     then why_ports (filter_map model_in all) (length (filter_map input_in all)) (length (filter_map output_in all))
     else Some why.Missing
 

@@ -5,7 +5,7 @@ use Rattle.std.specs.Str.{is_utf8}
 use Rattle.text_lines.specs.Texts.{words, is_skipped}
 use Rattle.desc_text.specs.Items.{key_of, item_of}
 use Rattle.text_lines.specs.Causes.{◌>>=◌, or_why, refused_if, unless}
-use Rattle.desc_text.specs.Said.{name_in, uuid_in, address_in, model_in, busy_in, heartbeat_in, resolution_in, input_in, output_in}
+use Rattle.desc_text.specs.Said.{name_in, uuid_in, address_said, model_in, busy_in, heartbeat_in, resolution_in, input_in, output_in}
 use Rattle.desc_text.specs.Judging.{why_key, why_port}
 use Rattle.fixed_models.specs.Kinds.{takes, has_ports}
 use Rattle.text_lines.specs.declared.reasons.TextWhy.{TextWhy}
@@ -37,11 +37,11 @@ has p keys.Resolution = is_some p.resolution
 has p keys.Input = false
 has p keys.Output = false
 
-abbrev pub put : Partial → Item → Partial
-put p i = record {
+abbrev pub put_item : Partial → Item → Partial
+put_item p i = record {
   name = newer p.name (name_in i);
   uuid = newer p.uuid (uuid_in i);
-  address = newer p.address (address_in i);
+  address = newer p.address (address_said i);
   model = newer p.model (model_in i);
   busy = newer p.busy (busy_in i);
   heartbeat = newer p.heartbeat (heartbeat_in i);
@@ -60,7 +60,7 @@ why_held p _ = None
 abbrev pub take_keyed : Partial → Option Key → List (List ℕ) → Result Partial TextWhy
 take_keyed p None args = Err why.UnknownKey
 take_keyed p (Some key) args =
-    unless (why_key (has p key) (is_some p.name) key) (item_of key args >>= λ i. unless (why_held p i) (Ok (put p i)))
+    unless (why_key (has p key) (is_some p.name) key) (item_of key args >>= λ i. unless (why_held p i) (Ok (put_item p i)))
 
 abbrev pub take_words : Partial → List (List ℕ) → Result Partial TextWhy
 take_words p [] = Ok p

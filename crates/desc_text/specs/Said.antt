@@ -20,9 +20,9 @@ abbrev pub uuid_in : Item → Option ℕ
 uuid_in (items.Uuid n) = Some n
 uuid_in _ = None
 
-abbrev pub address_in : Item → Option Address
-address_in (items.Address a) = Some a
-address_in _ = None
+abbrev pub address_said : Item → Option Address
+address_said (items.Address a) = Some a
+address_said _ = None
 
 abbrev pub model_in : Item → Option (Kind × List ℤ)
 model_in (items.Model k ps) = Some (k, ps)

@@ -20,8 +20,8 @@ data_type_of w =
     else None)))))))
 
 -- the kinds of models
-abbrev pub kind_of : List ℕ → Option Kind
-kind_of w =
+abbrev pub kind_named : List ℕ → Option Kind
+kind_named w =
     if bytes_eq w (codes "const") then Some kinds.Const
     else (if bytes_eq w (codes "ramp") then Some kinds.Ramp
     else (if bytes_eq w (codes "counter") then Some kinds.Counter

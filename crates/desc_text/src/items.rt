@@ -2,7 +2,7 @@
 
 ghost use Rattle.std.specs.Prelude.{◌≡◌, map};
 ghost use Rattle.text_lines.specs.Outcomes.{Gives};
-ghost use Rattle.desc_text.specs.Items.{port, resolution, parameters, model, item_of};
+ghost use Rattle.desc_text.specs.Items.{port, resolution, parameters_said, model, item_of};
 
 use crate::keys::Key;
 use crate::words::{data_type_of, kind_of};
@@ -47,7 +47,7 @@ fn resolution(args: &[&[u8]]) -> Result<(u32, u32), TextWhy>
 }
 
 fn parameters(alloc: Global, args: &[&[u8]]) -> Result<Parameters, LineRefused>
-    ensures { Gives (λ n. n) result (parameters (map (λ w. w.now) args.now)) }
+    ensures { Gives (λ n. n) result (parameters_said (map (λ w. w.now) args.now)) }
 {
     let mut numbers = Vec::new(alloc);
     for word in args {

@@ -1,6 +1,6 @@
 //! A block that is filled line by line.
 
-ghost use Rattle.std.specs.Prelude.{◌≡◌, ◌==◌, List, [], map, IfErr, OnOk, is_some, None, Some};
+ghost use Rattle.std.specs.Prelude.{◌≡◌, ◌==◌, [], map, IfErr, OnOk, is_some, None, Some};
 ghost use Rattle.std.specs.List.{list_any};
 ghost use Rattle.desc_text.specs.Judging.{begins, why_key, why_port};
 
@@ -69,8 +69,8 @@ fn check_port(before: &[Port], port: Port) -> Option<TextWhy>
 }
 
 impl Partial {
-    ghost use Rattle.desc_text.specs.Machine.{has, put, why_held, take_keyed, take_words, take_line, finished, nothing};
-    ghost use Rattle.text_lines.specs.Outcomes.{Gives, Steps};
+    ghost use Rattle.desc_text.specs.Machine.{has, put_item, why_held, take_keyed, take_words, take_line, finished, nothing};
+    ghost use Rattle.text_lines.specs.Outcomes.{Steps};
 
     /// No line.
     pub fn new(alloc: Global) -> Partial
@@ -126,7 +126,7 @@ impl Partial {
 
     /// Puts what a line says. After want of memory the block is as it was.
     pub fn put(&mut self, item: Item) -> Result<(), OutOfMemory>
-        ensures put { OnOk result (self.new ≡ put self.old item) }
+        ensures put { OnOk result (self.new ≡ put_item self.old item) }
         ensures kept { IfErr result (λ _. self.new ≡ self.old) }
     {
         match item {

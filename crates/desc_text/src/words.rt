@@ -1,7 +1,7 @@
 //! Types and kinds as words.
 
 ghost use Rattle.std.specs.Prelude.{◌≡◌};
-ghost use Rattle.desc_text.specs.Words.{data_type_of, kind_of};
+ghost use Rattle.desc_text.specs.Words.{data_type_of, kind_named};
 
 use dcp_types::DataType;
 use fixed_models::Kind;
@@ -39,7 +39,7 @@ pub fn data_type_of(word: &[u8]) -> Option<DataType>
 
 /// The kind that a word is.
 pub fn kind_of(word: &[u8]) -> Option<Kind>
-    ensures { result ≡ kind_of word.now }
+    ensures { result ≡ kind_named word.now }
 {
     if word == b"const".as_slice() {
         return Some(Kind::Const);

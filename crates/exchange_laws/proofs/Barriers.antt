@@ -12,8 +12,8 @@ use Rattle.master_spec.specs.Marks.{Mark, count, is_begun}
 use Rattle.master_spec.specs.Requests.{Asking, Decision, asks, is_main, is_acked_by, is_acked, acked, phase_at, phase_reached}
 use Rattle.asking_laws.specs.Legal.{AreLegal, GoesByRule}
 use Rattle.asking_laws.proofs.Legal.{going}
-use Rattle.index_laws.specs.Runs.{events, course_at, owed, IsRun}
-use Rattle.index_laws.specs.Index.{Placed, marks_of, told, ReadBack}
+use Rattle.index_laws.specs.Runs.{events_of_master, course_at, owed, IsRun}
+use Rattle.index_laws.specs.Index.{Placed, marks_of, askings_told, ReadBack}
 use Rattle.index_laws.specs.Follows.{mine, talk_with}
 use Rattle.index_laws.specs.Late.{AreLate}
 use Rattle.index_laws.specs.Laws.{AreHeard}
@@ -78,26 +78,26 @@ pub record Reaches (setup : Setup) (log : List LogEntry) (slave : Slave) : Type 
   pub legal : AreLegal setup.limits (jobs_of setup slave) (marks_of xs)
   pub phase_is : count is_begun (marks_of xs) ≡ (course_at setup log).phase
   pub since : ℕ
-  pub late : AreLate since (asks setup.address slave log) (told xs)
+  pub late : AreLate since (asks setup.address slave log) (askings_told xs)
 
 module _ (setup : Setup) (h : AreHeard setup) (log : List LogEntry) (run : IsRun setup log) where
   reaches : (i : ℕ) (slave : Slave) → slice_get setup.slaves i ≡ Some slave → Reaches setup log slave
   reaches i slave e = by (course_at setup log).report refl
     where
       at_rule : (marks : List Mark) → slice_get (course_at setup log).talks i ≡ Some (talk_with slave marks) → GoesByRule setup.limits (jobs_of setup slave) (course_at setup log).phase marks
-      at_rule marks here = with_at (λ u m. GoesByRule setup.limits (jobs_of setup u) (course_at setup log).phase m) (course_at setup log).talks i (talk_with slave marks) (going setup h.runs (events setup log)).goes here
+      at_rule marks here = with_at (λ u m. GoesByRule setup.limits (jobs_of setup u) (course_at setup log).phase m) (course_at setup log).talks i (talk_with slave marks) (going setup h.runs (events_of_master setup log)).goes here
 
       by : (o : Option Report) → (course_at setup log).report ≡ o → Reaches setup log slave
       by None r =
           let f = followed setup (ReadBack slave.id) i slave (listens setup h i slave e) h.runs log run r in
           let g = at_rule f.marks f.here in
-          let P : List Asking → Type 0 = λ z. AreLate 0 z (told f.xs) in
+          let P : List Asking → Type 0 = λ z. AreLate 0 z (askings_told f.xs) in
           record {
             xs = f.xs;
             legal = legal_below setup.limits (jobs_of setup slave) (ReadBack slave.id) slave.id (mine slave.address (owed setup log)) f.marks (marks_of f.xs) (f.tracks).owes g.legal;
             phase_is = sym (owes_count (ReadBack slave.id) slave.id (mine slave.address (owed setup log)) f.marks (marks_of f.xs) (f.tracks).owes) ∙ g.phase_is;
             since = 0;
-            late = subst P (sym (f.tracks).is) (late_refl 0 (told f.xs));
+            late = subst P (sym (f.tracks).is) (late_refl 0 (askings_told f.xs));
           }
       by (Some report) r =
           let s = (reported setup (ReadBack slave.id) i slave (listens setup h i slave e) h.runs log run report r).0 in
@@ -121,8 +121,8 @@ acked_before setup log slave k (suc p) h =
     let f = k.phase_is in
     let cnt : count is_begun (marks_of k.xs) ≡ q + 1 = omega (arith, f, h) in
     let a = base setup.limits js k.xs k.legal q cnt in
-    let b = ap acked (split setup.limits js k.xs k.legal) ∙ acked_append (now k.xs) (told (past k.xs)) in
-    let c = late_more k.since (asks setup.address slave log) (told k.xs) k.late in
+    let b = ap acked (split setup.limits js k.xs k.legal) ∙ acked_append (now k.xs) (askings_told (past k.xs)) in
+    let c = late_more k.since (asks setup.address slave log) (askings_told k.xs) k.late in
     let d = offset_rises js (suc p - 1) q (omega (arith, h)) in
     omega (arith, a, b, c, d)
 
@@ -132,8 +132,8 @@ barriers setup h log run i j s t e f =
     let l = reaches setup h log run j t f in
     let js = jobs_of setup t in
     let p = phase_reached js (asks setup.address t log) in
-    let a = reached_at_most js (count is_begun (marks_of l.xs)) (told l.xs) (at_most setup.limits js l.xs l.legal) in
-    let b : p ≡ phase_reached js (told l.xs) = reached_code js l.since (asks setup.address t log) (told l.xs) l.late in
+    let a = reached_at_most js (count is_begun (marks_of l.xs)) (askings_told l.xs) (at_most setup.limits js l.xs l.legal) in
+    let b : p ≡ phase_reached js (askings_told l.xs) = reached_code js l.since (asks setup.address t log) (askings_told l.xs) l.late in
     let c = l.phase_is in
     let d = acked_before setup log s k p (omega (arith, a, b, c)) in
     let g = offset_take (jobs_of setup s) (p - 1) in

@@ -15,8 +15,8 @@ use Rattle.master_spec.specs.Course.{phases}
 use Rattle.master_spec.specs.Requests.{Asking, Decision, asks, is_main, is_acked, is_acked_by, acked}
 use Rattle.asking_laws.specs.Legal.{GoesByRule}
 use Rattle.asking_laws.proofs.Legal.{IsFreeToGo, all_passed, going}
-use Rattle.index_laws.specs.Runs.{events, course_at, IsRun}
-use Rattle.index_laws.specs.Index.{marks_of, told, ReadBack}
+use Rattle.index_laws.specs.Runs.{events_of_master, course_at, IsRun}
+use Rattle.index_laws.specs.Index.{marks_of, askings_told, ReadBack}
 use Rattle.index_laws.specs.Follows.{talk_with}
 use Rattle.index_laws.specs.Late.{AreLate}
 use Rattle.index_laws.specs.Laws.{AreHeard}
@@ -60,10 +60,10 @@ module _ (setup : Setup) (h : AreHeard setup) (log : List LogEntry) (run : IsRun
       let js = jobs_of setup slave in
       let c = course_at setup log in
       let s = (reported setup (ReadBack slave.id) i slave (listens setup h i slave e) h.runs log run (reports.Finished steps) r).0 in
-      let g = with_at (λ u m. GoesByRule setup.limits (jobs_of setup u) c.phase m) c.talks i (talk_with slave (marks_of s.xs)) (going setup h.runs (events setup log)).goes s.here in
-      let w = all_report setup (events setup log) (reports.Finished steps) r in
+      let g = with_at (λ u m. GoesByRule setup.limits (jobs_of setup u) c.phase m) c.talks i (talk_with slave (marks_of s.xs)) (going setup h.runs (events_of_master setup log)).goes s.here in
+      let w = all_report setup (events_of_master setup log) (reports.Finished steps) r in
       let f = all_at IsFreeToGo c.talks i (talk_with slave (marks_of s.xs)) (all_passed setup h.runs c.phase c.talks w.0 w.1) s.here in
-      let z = (finishes setup (events setup log) steps r).1 in
+      let z = (finishes setup (events_of_master setup log) steps r).1 in
       let n : length js ≡ phases setup = phases_counted setup.steps setup.runs slave.script h.runs in
       let q = length js - 1 in
       let p = g.phase_is in
@@ -73,11 +73,11 @@ module _ (setup : Setup) (h : AreHeard setup) (log : List LogEntry) (run : IsRun
       let here = job_phase setup.limits js (marks_of s.xs) g.legal k.job k.job_is q cnt in
       let full = passed_done setup.limits js k.job s.xs g.legal (stage setup.limits js s.xs g.legal g.rests k.cause_is k.job k.job_is) k.passed f.0 in
       let before = base setup.limits js s.xs g.legal q cnt in
-      let parts = ap acked (split setup.limits js s.xs g.legal) ∙ acked_append (now s.xs) (told (past s.xs)) in
+      let parts = ap acked (split setup.limits js s.xs g.legal) ∙ acked_append (now s.xs) (askings_told (past s.xs)) in
       let next = offset_next js q k.job here in
       let last : q + 1 ≡ length js = omega (arith, n) in
-      let all : acked (told s.xs) ≡ offset js (q + 1) = omega (arith, full, before, parts, next) in
-      late_acked s.until (asks setup.address slave log) (told s.xs) s.late ((ordered setup.limits js s.xs g.legal).decided f.0) ∙ all ∙ ap (offset js) last ∙ whole_offset js
+      let all : acked (askings_told s.xs) ≡ offset js (q + 1) = omega (arith, full, before, parts, next) in
+      late_acked s.until (asks setup.address slave log) (askings_told s.xs) s.late ((ordered setup.limits js s.xs g.legal).decided f.0) ∙ all ∙ ap (offset js) last ∙ whole_offset js
     where
       passed_of : (marks : List Mark) (job : Job) → job_of marks ≡ Some job → (job_of marks ≡ None) ⊎ (verdict_of marks ≡ verdicts.Passed) → HasPassed marks
       passed_of marks job e (inl f) = let z : None ≡ Some job = sym f ∙ e in absurd cc
@@ -85,4 +85,4 @@ module _ (setup : Setup) (h : AreHeard setup) (log : List LogEntry) (run : IsRun
 
 pub finished_is_acknowledged : FinishedIsAcknowledged
 finished_is_acknowledged setup h log run steps r =
-    record { steps_are = (finishes setup (events setup log) steps r).0; acknowledged = λ i slave e. acknowledged setup h log run steps r i slave e }
+    record { steps_are = (finishes setup (events_of_master setup log) steps r).0; acknowledged = λ i slave e. acknowledged setup h log run steps r i slave e }

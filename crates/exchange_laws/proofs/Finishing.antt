@@ -10,7 +10,7 @@ use Rattle.master_spec.specs.declared.reports.Report.{Report}
 use Rattle.master_spec.specs.declared.reports.Report.TheVariants as reports
 use Rattle.master_spec.specs.declared.setups.Setup.{Setup}
 use Rattle.master_spec.specs.Marks.{verdict_of}
-use Rattle.master_spec.specs.Course.{Talk, Course, course, begin, is_settled, is_quiet, failed_by, failed, phases, with_next, with_report, with_turns, decided, decided_if, turned, still, after_gram, after_turn, step}
+use Rattle.master_spec.specs.Course.{CourseTalk, Course, course, begin, is_settled, is_quiet, failed_by, failed, phases, with_next, with_report, with_turns, decided, decided_if, course_turned, still, after_gram, course_after_turn, step}
 use Rattle.index_laws.proofs.Runs.{step_gram, step_tick, step_still}
 
 abbrev pub Finishes : Setup → Course → Type 0
@@ -23,7 +23,7 @@ never setup c e n h = absurd (clash (sym e ∙ h))
     clash z = cc
 
 -- a failure is no finish
-no_finish : (phase : ℕ) (talks : List Talk) (n : ℕ) → failed phase talks ≡ Some (reports.Finished n) → ⊥
+no_finish : (phase : ℕ) (talks : List CourseTalk) (n : ℕ) → failed phase talks ≡ Some (reports.Finished n) → ⊥
 no_finish phase [] n h = cc
 no_finish phase (u ∷ us) n h = by (verdict_of u.marks) h (λ z. no_finish phase us n z)
   where
@@ -43,17 +43,17 @@ decided_finishes setup c r None e = by (c.phase == phases setup) refl
     by true z = λ n h. (same n h, eqb-true c.phase (phases setup) z)
     by false z = never setup (with_next setup c) r
 
-turned_finishes : (setup : Setup) (c : Course) → c.report ≡ None → Finishes setup (turned setup c)
+turned_finishes : (setup : Setup) (c : Course) → c.report ≡ None → Finishes setup (course_turned setup c)
 turned_finishes setup c r = by (list_all is_quiet c.talks)
   where
     by : (b : Bool) → Finishes setup (decided_if setup b c)
     by true = decided_finishes setup c r (failed c.phase c.talks) refl
     by false = never setup c r
 
-tick_finishes : (setup : Setup) (c : Course) → c.report ≡ None → Finishes setup (after_turn setup c)
+tick_finishes : (setup : Setup) (c : Course) → c.report ≡ None → Finishes setup (course_after_turn setup c)
 tick_finishes setup c r = by (c.phase == 0)
   where
-    by : (b : Bool) → Finishes setup (if b then with_next setup (still c) else turned setup (with_turns setup (list_all is_settled c.talks) c))
+    by : (b : Bool) → Finishes setup (if b then with_next setup (still c) else course_turned setup (with_turns setup (list_all is_settled c.talks) c))
     by true = never setup (with_next setup (still c)) r
     by false = turned_finishes setup (with_turns setup (list_all is_settled c.talks) c) r
 

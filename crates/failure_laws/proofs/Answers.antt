@@ -16,14 +16,14 @@ use Rattle.master_spec.specs.declared.tasks.Task.{Task}
 use Rattle.master_spec.specs.declared.tasks.Task.TheVariants as tasks
 use Rattle.master_spec.specs.declared.setups.Slave.{Slave}
 use Rattle.master_spec.specs.declared.setups.Setup.{Setup}
-use Rattle.master_spec.specs.Tasks.{is_by_list, asks_step, target_of, passing_of, step_of}
+use Rattle.master_spec.specs.Tasks.{is_by_list, asks_step, target_of, passing_of, task_step}
 use Rattle.master_spec.specs.Jobs.{Job, asked_by}
 use Rattle.master_spec.specs.Marks.{Answered, acks_change, is_asked, before, turns_since, is_missing, refuses_inputs, newest_number, refusals, is_reached, job_of, cause_of}
-use Rattle.master_spec.specs.News.{type_of, state_of}
+use Rattle.master_spec.specs.News.{type_in_answer, state_in_answer}
 use Rattle.master_spec.specs.Conversation.{is_state, is_error}
 use Rattle.master_spec.specs.Requests.{Asking, turns_before, turns_between, is_main, is_step, is_state_question, is_error_question, acked}
 use Rattle.master_spec.specs.Exchanged.{IsDecided}
-use Rattle.master_spec.specs.Shown.{fits_change, fits_error, fits_state, fits_answer, IsMissing, MissesInputs, IsStuck, IsFaulted, IsRefused, IsUnexpected, ShownBy}
+use Rattle.master_spec.specs.Shown.{fits_change, fits_error, fits_state, fits_answer, IsMissing, MissesInputs, IsStuck, IsFaulted, IsRefusedAsking, IsUnexpected, ShownBy}
 use Rattle.asking_laws.specs.Legal.{AreLegal}
 use Rattle.index_laws.specs.Index.{Placed, at, marks_of, code_of}
 use Rattle.index_laws.specs.Late.{IsLate}
@@ -50,7 +50,7 @@ clash z = cc
 step_late : (n : ℕ) (c b : Asking) (r : Request) → IsOf r b → IsLate n c b → is_step c ≡ asks_step r
 step_late n c b r o l = ap (λ (m : ℕ). m == 7) (l.code ∙ o.0) ∙ code_is_step r
 
-refused : (n : ℕ) (c b : Asking) (r : Request) (code : ℕ) → IsOf r b → IsDecidedBy (Some (Nack code)) b → IsLate n c b → (is_missing code && asks_step r) ≡ false → IsRefused c code
+refused : (n : ℕ) (c b : Asking) (r : Request) (code : ℕ) → IsOf r b → IsDecidedBy (Some (Nack code)) b → IsLate n c b → (is_missing code && asks_step r) ≡ false → IsRefusedAsking c code
 refused n c b r code o d l h =
     record { place = d.0; told = l.kept (record { place = d.0; answer = Nack code }) d.1; other = ap (λ (t : Bool). t && is_missing code) (step_late n c b r o l) ∙ and_turned (asks_step r) (is_missing code) ∙ h }
 
@@ -63,7 +63,7 @@ module _ (setup : Setup) (log : List LogEntry) (slave : Slave) (js : List Job) (
       → MissesAnswer setup.limits job r a (marks_of Ys) q i → MissesInputs setup log job.task c (k.ms ++ old) i
   misses l one none here k c late old qs q i b =
       record {
-        step = sj.is ∙ ap (λ (x : ℕ). tasks.Step x) (sym (ap step_of sj.is) ∙ b.step_is);
+        step = sj.is ∙ ap (λ (x : ℕ). tasks.Step x) (sym (ap task_step sj.is) ∙ b.step_is);
         asks_step = step_late m c k.newest r k.of late ∙ parts.1;
         tries = ap length filtered ∙ sizes;
         each = λ j x e. each j x (ap (λ (z : List Asking). slice_get z j) (sym filtered) ∙ e);
@@ -206,7 +206,7 @@ module _ (setup : Setup) (log : List LogEntry) (slave : Slave) (js : List Job) (
       g = let P : Request → Type 0 = λ x. IsAfter x k.qs in subst P e k.after
 
   -- ---- an answer that does not fit
-  unexpected : (b c : Asking) (earlier : List Asking) (y t : ℕ) → IsDecidedBy (Some a) b → IsLate m c b → type_of a ≡ y → state_of a ≡ t → fits_answer job.task c earlier a ≡ false → IsUnexpected job.task c earlier y t
+  unexpected : (b c : Asking) (earlier : List Asking) (y t : ℕ) → IsDecidedBy (Some a) b → IsLate m c b → type_in_answer a ≡ y → state_in_answer a ≡ t → fits_answer job.task c earlier a ≡ false → IsUnexpected job.task c earlier y t
   unexpected b c earlier y t d late e f u =
       record { place = d.0; answer = a; told = late.kept (record { place = d.0; answer = a }) d.1; type_is = e; state_is = f; unfit = u }
 

@@ -12,10 +12,10 @@ use Rattle.master_spec.specs.declared.requests.Answer.TheVariants.{Ack, Nack, St
 use Rattle.master_spec.specs.declared.reactions.Reaction.TheVariants.{Wait, Ask, Repeat, GiveUp}
 use Rattle.master_spec.specs.declared.reactions.Awaited.{Awaited}
 use Rattle.master_spec.specs.declared.reactions.Awaited.TheVariants.{TheAnswer, TheState, TheInputs, TheOutputs, TheOthers}
-use Rattle.master_spec.specs.Tasks.{is_by_end, is_at_once, asks_step, target_of, passing_of, step_of}
+use Rattle.master_spec.specs.Tasks.{is_by_end, is_at_once, asks_step, target_of, passing_of, task_step}
 use Rattle.master_spec.specs.Jobs.{Job, asked_by}
-use Rattle.master_spec.specs.News.{type_of, state_of}
-use Rattle.master_spec.specs.Marks.{Mark, Begun, Asked, Again, Answered, Hinted, Brought, Turned, Ended, newest_number, open_request, latest, job_of, has_ended, turns_since, is_sending, is_answer, sendings, is_hinted, is_missing, refusals, configured, is_reached}
+use Rattle.master_spec.specs.News.{type_in_answer, state_in_answer}
+use Rattle.master_spec.specs.Marks.{Mark, Begun, Asked, Again, Answered, Hinted, Brought, Turned, Ended, newest_number, open_request, latest, job_of, conversation_ended, turns_since, is_sending, is_answer, sendings, is_hinted, is_missing, refusals, settings_answered, is_reached}
 use Rattle.master_spec.specs.Conversation.{is_state, is_error, is_late, first_of, configuration_at, on_nack, on_acknowledged, on_state, on_answer, awaited, on_turn, on_hint, on_mark, reaction_in, reaction, unexpected}
 use Rattle.index_laws.proofs.Events.{answer_open}
 use Rattle.failure_laws.specs.Because.{fits_mark, Because, BecauseOfTurn, BecauseOf}
@@ -27,8 +27,8 @@ by_nack : (limits : Limits) (job : Job) (request : Request) (code : ℕ) (older 
 by_nack limits job request code older marks cause h = by (is_missing code && asks_step request) (nat_le limits.step_tries (refusals marks)) refl refl h
   where
     by : (a b : Bool) → (is_missing code && asks_step request) ≡ a → nat_le limits.step_tries (refusals marks) ≡ b
-        → (if a then (if b then GiveUp (causes.InputsMissing (newest_number marks) (step_of job.task)) else Wait) else GiveUp (causes.Refused (newest_number marks) code)) ≡ GiveUp cause → Because limits job request (Nack code) older marks cause
-    by true true p q z = it_is (λ c. Because limits job request (Nack code) older marks c) (causes.InputsMissing (newest_number marks) (step_of job.task)) cause (record { code = code; nack = refl; step = p; tries = q; step_is = refl; number = refl }) z
+        → (if a then (if b then GiveUp (causes.InputsMissing (newest_number marks) (task_step job.task)) else Wait) else GiveUp (causes.Refused (newest_number marks) code)) ≡ GiveUp cause → Because limits job request (Nack code) older marks cause
+    by true true p q z = it_is (λ c. Because limits job request (Nack code) older marks c) (causes.InputsMissing (newest_number marks) (task_step job.task)) cause (record { code = code; nack = refl; step = p; tries = q; step_is = refl; number = refl }) z
     by true false p q z = absurd cc
     by false b p q z = it_is (λ c. Because limits job request (Nack code) older marks c) (causes.Refused (newest_number marks) code) cause (refl, (refl, p)) z
 
@@ -74,11 +74,11 @@ by_list (Some body) cause h = cc
 
 by_unexpected : (limits : Limits) (job : Job) (request : Request) (answer : Answer) (older marks : List Mark) (cause : Cause) → fits_mark job.task (is_reached job.task older) request answer ≡ false
     → unexpected answer marks ≡ GiveUp cause → Because limits job request answer older marks cause
-by_unexpected limits job request answer older marks cause f h = it_is (λ k. Because limits job request answer older marks k) (causes.Unexpected (newest_number marks) (type_of answer) (state_of answer)) cause (refl, (refl, (refl, f))) h
+by_unexpected limits job request answer older marks cause f h = it_is (λ k. Because limits job request answer older marks k) (causes.Unexpected (newest_number marks) (type_in_answer answer) (state_in_answer answer)) cause (refl, (refl, (refl, f))) h
 
 by_answer : (limits : Limits) (job : Job) (request : Request) (answer : Answer) (older marks : List Mark) (cause : Cause) → on_answer limits job request answer older marks ≡ GiveUp cause → Because limits job request answer older marks cause
 by_answer limits job request (Nack code) older marks cause h = by_nack limits job request code older marks cause h
-by_answer limits job (Configure body) Ack older marks cause h = absurd (by_list (slice_get job.list (configured marks)) cause h)
+by_answer limits job (Configure body) Ack older marks cause h = absurd (by_list (slice_get job.list (settings_answered marks)) cause h)
 by_answer limits job (Change s body) Ack older marks cause h = absurd (by_acknowledged job marks cause h)
 by_answer limits job AskState (StateAck s) older marks cause h = by_state limits job s older marks cause h
 by_answer limits job AskError (ErrorAck code) older marks cause h = it_is (λ k. Because limits job AskError (ErrorAck code) older marks k) (causes.Faulted (newest_number marks) code) cause (refl, (refl, refl)) h
@@ -114,8 +114,8 @@ by_turn limits job (TheInputs request) settled marks cause q o h = by (nat_le li
     by false z = absurd cc
 by_turn limits job TheOutputs settled marks cause q o h = by (nat_le limits.data_turns (turns_since is_answer marks)) refl h
   where
-    by : (b : Bool) → nat_le limits.data_turns (turns_since is_answer marks) ≡ b → (if b then GiveUp (causes.DataMissing (step_of job.task)) else Wait) ≡ GiveUp cause → BecauseOfTurn limits job marks cause
-    by true p z = it_is (λ k. BecauseOfTurn limits job marks k) (causes.DataMissing (step_of job.task)) cause (refl, (p, q)) z
+    by : (b : Bool) → nat_le limits.data_turns (turns_since is_answer marks) ≡ b → (if b then GiveUp (causes.DataMissing (task_step job.task)) else Wait) ≡ GiveUp cause → BecauseOfTurn limits job marks cause
+    by true p z = it_is (λ k. BecauseOfTurn limits job marks k) (causes.DataMissing (task_step job.task)) cause (refl, (p, q)) z
     by false p z = absurd cc
 by_turn limits job TheOthers settled marks cause q o h = by (is_by_end job.task || settled) (nat_le limits.watch_turns (turns_since is_answer marks)) h
   where
@@ -148,7 +148,7 @@ by_mark limits job (Ended c) older cause h = cc
 by_job : (limits : Limits) (o : Option Job) (m : Mark) (older : List Mark) (cause : Cause) → job_of (m ∷ older) ≡ o → reaction_in limits o m older (m ∷ older) ≡ GiveUp cause
     → (job : Job) × ((job_of (m ∷ older) ≡ Some job) × BecauseOf limits job m older (m ∷ older) cause)
 by_job limits None m older cause e h = absurd cc
-by_job limits (Some job) m older cause e h = by (has_ended older) h
+by_job limits (Some job) m older cause e h = by (conversation_ended older) h
   where
     by : (b : Bool) → (if b then Wait else on_mark limits job m older (m ∷ older)) ≡ GiveUp cause → (job : Job) × ((job_of (m ∷ older) ≡ Some job) × BecauseOf limits job m older (m ∷ older) cause)
     by true z = absurd cc

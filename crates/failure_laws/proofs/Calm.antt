@@ -16,7 +16,7 @@ use Rattle.master_spec.specs.declared.tasks.Task.{Task}
 use Rattle.master_spec.specs.declared.tasks.Task.TheVariants as tasks
 use Rattle.master_spec.specs.declared.setups.Slave.{Slave}
 use Rattle.master_spec.specs.declared.setups.Setup.{Setup}
-use Rattle.master_spec.specs.Tasks.{target_of, passing_of, row_of}
+use Rattle.master_spec.specs.Tasks.{target_of, passing_of, task_row}
 use Rattle.master_spec.specs.Jobs.{Job}
 use Rattle.master_spec.specs.Marks.{Mark, Begun, Asked, Again, Answered, Hinted, Brought, Turned, Ended, is_sending, turns_since, latest, open_request, job_of, cause_of}
 use Rattle.master_spec.specs.Conversation.{is_state, is_error}
@@ -94,7 +94,7 @@ pub data CalmAnswer (task : Task) (c : Asking) (answer : Answer) : Type 0 where
 
 -- where the task has a row, its outputs came in time
 abbrev pub CameInTime : Setup → List LogEntry → Slave → Task → (earlier : List Asking) → (place : ℕ) → Type 0
-CameInTime setup log slave task earlier place = (row : ℕ) → row_of task ≡ Some row
+CameInTime setup log slave task earlier place = (row : ℕ) → task_row task ≡ Some row
     → (i : ℕ) × ((request : Asking) × ((find is_outputs earlier ≡ Some request) × ((request.first < i) × (Brings setup log slave (row % 65536) i × (turns_between setup.address log place i < setup.limits.data_turns)))))
 
 pub record Calm (setup : Setup) (log : List LogEntry) (slave : Slave) (task : Task) (c : Asking) (earlier : List Asking) : Type 0 where

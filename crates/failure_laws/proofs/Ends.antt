@@ -14,7 +14,7 @@ use Rattle.master_spec.specs.Marks.{Mark, Begun, Asked, Again, Answered, Hinted,
 use Rattle.master_spec.specs.Conversation.{reaction}
 use Rattle.asking_laws.specs.Legal.{Does, AreLegal}
 use Rattle.asking_laws.proofs.Legal.{own_rests}
-use Rattle.index_laws.specs.Index.{Placed, at, marks_of, decided_at, told}
+use Rattle.index_laws.specs.Index.{Placed, at, marks_of, decided_at, askings_told}
 use Rattle.index_laws.specs.Late.{AreLate}
 use Rattle.index_laws.specs.Dates.{next_place, IsDated, AreDated, IsBroughtAt}
 use Rattle.index_laws.proofs.Events.{acts}
@@ -45,7 +45,7 @@ pub record Finds (setup : Setup) (slave : Slave) (log : List LogEntry) (limits :
   pub dates : AreDated setup slave log ys
   pub phase : count is_begun (marks_of xs) ≡ count is_begun (marks_of ys)
   pub next : next_place ys ≤ next_place xs
-  pub late : AreLate (next_place ys) (told xs) (told ys)
+  pub late : AreLate (next_place ys) (askings_told xs) (askings_told ys)
   pub brought : (number i : ℕ) → IsBroughtAt number i xs → IsBroughtAt number i ys ⊎ (next_place ys ≤ i)
 
 some_cause : (a b : Cause) → Some a ≡ Some b → a ≡ b
@@ -82,7 +82,7 @@ find_end setup slave log limits js cause (x ∷ xs) l d e = by x.mark l d.0 e (�
           dates = d.1;
           phase = refl;
           next = omega arith;
-          late = late_refl (next_place xs) (told xs);
+          late = late_refl (next_place xs) (askings_told xs);
           brought = λ number i b. one number i b;
         }
       where
@@ -103,7 +103,7 @@ find_end setup slave log limits js cause (x ∷ xs) l d e = by x.mark l d.0 e (�
           dates = g.dates;
           phase = g.phase;
           next = omega (arith, n, h);
-          late = late_trans (next_place g.ys) (decided_at x.place a (told xs)) (told xs) (told g.ys) (late_decided (next_place g.ys) x.place a (told xs) (omega (arith, n, h))) g.late;
+          late = late_trans (next_place g.ys) (decided_at x.place a (askings_told xs)) (askings_told xs) (askings_told g.ys) (late_decided (next_place g.ys) x.place a (askings_told xs) (omega (arith, n, h))) g.late;
           brought = λ number i b. one number i g b;
         }
       where

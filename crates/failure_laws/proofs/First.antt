@@ -24,17 +24,17 @@ use Rattle.master_spec.specs.Setup.{jobs_of}
 use Rattle.master_spec.specs.Jobs.{Job}
 use Rattle.master_spec.specs.Marks.{Mark, Begun, Asked, Again, Answered, Hinted, Brought, Turned, Ended, count, is_begun, newest_number, latest, open_request, is_reached, job_of, cause_of, verdict_of}
 use Rattle.master_spec.specs.Conversation.{reaction}
-use Rattle.master_spec.specs.Course.{Talk, Course, is_settled_as, is_passed_as, is_quiet, failed_by, failed}
+use Rattle.master_spec.specs.Course.{CourseTalk, Course, is_settled_as, is_passed_as, is_quiet, failed_by, failed}
 use Rattle.master_spec.specs.Requests.{Asking, asks, is_state_question, phase_reached, of_phase}
 use Rattle.master_spec.specs.Exchanged.{Brings}
 use Rattle.master_spec.specs.Shown.{last_phase_of, last_phase, names_target, ShownBy, Shown}
 use Rattle.asking_laws.specs.Closed.{AllTalks}
 use Rattle.asking_laws.specs.Legal.{Does, Rests, AreLegal, GoesByRule}
 use Rattle.asking_laws.proofs.Legal.{going}
-use Rattle.index_laws.specs.Runs.{events, course_at, IsRun}
-use Rattle.index_laws.specs.Index.{Placed, at, marks_of, told, ReadBack}
+use Rattle.index_laws.specs.Runs.{events_of_master, course_at, IsRun}
+use Rattle.index_laws.specs.Index.{Placed, at, marks_of, askings_told, ReadBack}
 use Rattle.index_laws.specs.Follows.{talk_with}
-use Rattle.index_laws.specs.Late.{AreLate, Stands}
+use Rattle.index_laws.specs.Late.{AreLate, StandsByLog}
 use Rattle.index_laws.specs.Dates.{next_place, AreDated, IsBroughtAt}
 use Rattle.index_laws.proofs.Late.{late_trans, all_report}
 use Rattle.index_laws.proofs.Laws.{listens}
@@ -59,23 +59,23 @@ use Rattle.failure_laws.proofs.Passed.{calm_of}
 use Rattle.failure_laws.proofs.Steady.{IsNext, steady}
 
 -- ---- the reported slave is the first that has ended
-pub record Ends (phase : ℕ) (talks : List Talk) (id p : ℕ) (cause : Cause) : Type 0 where
+pub record Ends (phase : ℕ) (talks : List CourseTalk) (id p : ℕ) (cause : Cause) : Type 0 where
   pub i : ℕ
-  pub talk : Talk
+  pub talk : CourseTalk
   pub here : slice_get talks i ≡ Some talk
   pub id_is : talk.slave.id ≡ id
   pub phase_is : phase ≡ p
   pub ended : verdict_of talk.marks ≡ verdicts.Ended cause
-  pub first : (j : ℕ) (v : Talk) (c : Cause) → j < i → slice_get talks j ≡ Some v → verdict_of v.marks ≡ verdicts.Ended c → ⊥
+  pub first : (j : ℕ) (v : CourseTalk) (c : Cause) → j < i → slice_get talks j ≡ Some v → verdict_of v.marks ≡ verdicts.Ended c → ⊥
 
-later_end : (phase : ℕ) (u : Talk) (us : List Talk) (id p : ℕ) (cause : Cause) → ((c : Cause) → verdict_of u.marks ≡ verdicts.Ended c → ⊥) → Ends phase us id p cause → Ends phase (u ∷ us) id p cause
+later_end : (phase : ℕ) (u : CourseTalk) (us : List CourseTalk) (id p : ℕ) (cause : Cause) → ((c : Cause) → verdict_of u.marks ≡ verdicts.Ended c → ⊥) → Ends phase us id p cause → Ends phase (u ∷ us) id p cause
 later_end phase u us id p cause none e = record { i = suc e.i; talk = e.talk; here = e.here; id_is = e.id_is; phase_is = e.phase_is; ended = e.ended; first = before }
   where
-    before : (j : ℕ) (v : Talk) (c : Cause) → j < suc e.i → slice_get (u ∷ us) j ≡ Some v → verdict_of v.marks ≡ verdicts.Ended c → ⊥
-    before zero v c l h z = let y : u ≡ v = cc in none c (ap (λ (x : Talk). verdict_of x.marks) y ∙ z)
+    before : (j : ℕ) (v : CourseTalk) (c : Cause) → j < suc e.i → slice_get (u ∷ us) j ≡ Some v → verdict_of v.marks ≡ verdicts.Ended c → ⊥
+    before zero v c l h z = let y : u ≡ v = cc in none c (ap (λ (x : CourseTalk). verdict_of x.marks) y ∙ z)
     before (suc j) v c l h z = e.first j v c (omega (arith, l)) h z
 
-pub ends : (phase : ℕ) (talks : List Talk) (id p : ℕ) (cause : Cause) → failed phase talks ≡ Some (reports.Failed id p cause) → Ends phase talks id p cause
+pub ends : (phase : ℕ) (talks : List CourseTalk) (id p : ℕ) (cause : Cause) → failed phase talks ≡ Some (reports.Failed id p cause) → Ends phase talks id p cause
 ends phase [] id p cause h = absurd cc
 ends phase (u ∷ us) id p cause h = by (verdict_of u.marks) refl h (λ z. ends phase us id p cause z)
   where
@@ -108,7 +108,7 @@ late_less n m (c ∷ cs) (b ∷ bs) h l =
     by (inr e) = inr (omega (arith, e, h))
 
 pub record Placing (setup : Setup) (log : List LogEntry) (slave : Slave) (j : ℕ) : Type 0 where
-  pub stands : Stands setup j slave log (course_at setup log) (asks setup.address slave log)
+  pub stands : StandsByLog setup j slave log (course_at setup log) (asks setup.address slave log)
   pub legal : AreLegal setup.limits (jobs_of setup slave) (marks_of stands.xs)
   pub rests : Rests setup.limits (marks_of stands.xs)
   pub phase_is : count is_begun (marks_of stands.xs) ≡ (course_at setup log).phase
@@ -117,7 +117,7 @@ module _ (setup : Setup) (h : IsSetup setup) (log : List LogEntry) (run : IsRun 
   placing : (slave : Slave) (j : ℕ) → slice_get setup.slaves j ≡ Some slave → Placing setup log slave j
   placing slave j e =
       let s = (reported setup (ReadBack slave.id) j slave (listens setup h.heard j slave e) (h.heard).runs log run report reports_it).0 in
-      let g = with_at (λ u m. GoesByRule setup.limits (jobs_of setup u) (course_at setup log).phase m) (course_at setup log).talks j (talk_with slave (marks_of s.xs)) (going setup (h.heard).runs (events setup log)).goes s.here in
+      let g = with_at (λ u m. GoesByRule setup.limits (jobs_of setup u) (course_at setup log).phase m) (course_at setup log).talks j (talk_with slave (marks_of s.xs)) (going setup (h.heard).runs (events_of_master setup log)).goes s.here in
       record { stands = s; legal = g.legal; rests = g.rests; phase_is = g.phase_is }
 
   -- no slave was asked a request of a later phase
@@ -125,25 +125,25 @@ module _ (setup : Setup) (h : IsSetup setup) (log : List LogEntry) (run : IsRun 
   at_most_now slave j e =
       let k = placing slave j e in
       let s = k.stands in
-      let a = reached_at_most (jobs_of setup slave) (count is_begun (marks_of s.xs)) (told s.xs) (at_most setup.limits (jobs_of setup slave) s.xs k.legal) in
-      let b = reached_late (jobs_of setup slave) s.until (asks setup.address slave log) (told s.xs) s.late in
+      let a = reached_at_most (jobs_of setup slave) (count is_begun (marks_of s.xs)) (askings_told s.xs) (at_most setup.limits (jobs_of setup slave) s.xs k.legal) in
+      let b = reached_late (jobs_of setup slave) s.until (asks setup.address slave log) (askings_told s.xs) s.late in
       let c = k.phase_is in
       omega (arith, a, b, c)
 
-  marks_same : (u v : Talk) → Some u ≡ Some v → u.marks ≡ v.marks
-  marks_same u v y = let z : u ≡ v = cc in ap (λ (x : Talk). x.marks) z
+  marks_same : (u v : CourseTalk) → Some u ≡ Some v → u.marks ≡ v.marks
+  marks_same u v y = let z : u ≡ v = cc in ap (λ (x : CourseTalk). x.marks) z
 
   -- some slave was asked one of this phase
-  reached_now_by : (slave : Slave) (j : ℕ) (u : Talk) → slice_get setup.slaves j ≡ Some slave → slice_get (course_at setup log).talks j ≡ Some u → has_asked u.marks ≡ true → phase_reached (jobs_of setup slave) (asks setup.address slave log) ≡ (course_at setup log).phase
+  reached_now_by : (slave : Slave) (j : ℕ) (u : CourseTalk) → slice_get setup.slaves j ≡ Some slave → slice_get (course_at setup log).talks j ≡ Some u → has_asked u.marks ≡ true → phase_reached (jobs_of setup slave) (asks setup.address slave log) ≡ (course_at setup log).phase
   reached_now_by slave j u e f a =
       let k = placing slave j e in
       let s = k.stands in
       let m : u.marks ≡ marks_of s.xs = marks_same u (talk_with slave (marks_of s.xs)) (sym f ∙ s.here) in
       let g : has_main (now s.xs) ≡ true = sym (has_asked_now s.xs) ∙ ap (λ (z : List Mark). has_asked z) (sym m) ∙ a in
       let x = exactly_now setup.limits (jobs_of setup slave) s.xs k.legal in
-      reached_late (jobs_of setup slave) s.until (asks setup.address slave log) (told s.xs) s.late
+      reached_late (jobs_of setup slave) s.until (asks setup.address slave log) (askings_told s.xs) s.late
       ∙ ap (phase_reached (jobs_of setup slave)) (split setup.limits (jobs_of setup slave) s.xs k.legal)
-      ∙ reached_exactly (jobs_of setup slave) (count is_begun (marks_of s.xs)) (now s.xs) (told (past s.xs)) x g ∙ k.phase_is
+      ∙ reached_exactly (jobs_of setup slave) (count is_begun (marks_of s.xs)) (now s.xs) (askings_told (past s.xs)) x g ∙ k.phase_is
 
   all_most : (slaves : List Slave) (p : ℕ) → ((j : ℕ) (s : Slave) → slice_get slaves j ≡ Some s → phase_reached (jobs_of setup s) (asks setup.address s log) ≤ p) → last_phase_of setup log slaves ≤ p
   all_most [] p f = omega arith
@@ -162,15 +162,15 @@ module _ (setup : Setup) (h : IsSetup setup) (log : List LogEntry) (run : IsRun 
       omega (arith, a, b)
 
   -- the phase is the last of which a request was sent
-  phase_last : (i : ℕ) (u : Talk) (cause : Cause) → slice_get (course_at setup log).talks i ≡ Some u → cause_of u.marks ≡ Some cause → 1 ≤ (course_at setup log).phase → (course_at setup log).phase ≡ last_phase setup log
-  phase_last i u cause here ended begun = by (present setup (h.heard).runs (events setup log))
+  phase_last : (i : ℕ) (u : CourseTalk) (cause : Cause) → slice_get (course_at setup log).talks i ≡ Some u → cause_of u.marks ≡ Some cause → 1 ≤ (course_at setup log).phase → (course_at setup log).phase ≡ last_phase setup log
+  phase_last i u cause here ended begun = by (present setup (h.heard).runs (events_of_master setup log))
     where
       c : Course
       c = course_at setup log
 
-      whole : (j : ℕ) (v : Talk) → slice_get c.talks j ≡ Some v → has_asked v.marks ≡ true → c.phase ≡ last_phase setup log
+      whole : (j : ℕ) (v : CourseTalk) → slice_get c.talks j ≡ Some v → has_asked v.marks ≡ true → c.phase ≡ last_phase setup log
       whole j v e a =
-          let is : slice_get setup.slaves j ≡ Some v.slave = slaves_at c.talks setup.slaves (talks_of setup (events setup log)) j v e in
+          let is : slice_get setup.slaves j ≡ Some v.slave = slaves_at c.talks setup.slaves (talks_of setup (events_of_master setup log)) j v e in
           let x = some_least setup.slaves c.phase j v.slave is (reached_now_by v.slave j v is e a) in
           let y = all_most setup.slaves c.phase (λ k s f. at_most_now s k f) in
           omega (arith, x, y)
@@ -213,7 +213,7 @@ module _ (setup : Setup) (h : IsSetup setup) (log : List LogEntry) (run : IsRun 
 
   shown_at : (slave : Slave) (j : ℕ) (e : slice_get setup.slaves j ≡ Some slave) (cause : Cause) (n p : ℕ) (m : Mark) (ws : List Placed) (job : Job)
       → AreLegal setup.limits (jobs_of setup slave) (m ∷ marks_of ws) → AreDated setup slave log (at n m ∷ ws) → reaction setup.limits m (marks_of ws) ≡ GiveUp cause → job_of (m ∷ marks_of ws) ≡ Some job → cause_of (m ∷ marks_of ws) ≡ None → count is_begun (m ∷ marks_of ws) ≡ p + 1
-      → AreLate (next_place (at n m ∷ ws)) (asks setup.address slave log) (told (at n m ∷ ws)) → ((number i : ℕ) → Brings setup log slave number i → IsBroughtAt number i (at n m ∷ ws) ⊎ (next_place (at n m ∷ ws) ≤ i))
+      → AreLate (next_place (at n m ∷ ws)) (asks setup.address slave log) (askings_told (at n m ∷ ws)) → ((number i : ℕ) → Brings setup log slave number i → IsBroughtAt number i (at n m ∷ ws) ⊎ (next_place (at n m ∷ ws) ≤ i))
       → BecauseOf setup.limits job m (marks_of ws) (m ∷ marks_of ws) cause → ShownAt slave p job cause
   shown_at slave j e cause n p m ws job l d g here none cnt late came b = by m l d here none late came b (most m l cnt) (exact m l cnt) (split setup.limits js (at n m ∷ ws) l)
     where
@@ -223,23 +223,23 @@ module _ (setup : Setup) (h : IsSetup setup) (log : List LogEntry) (run : IsRun 
       cs : List Asking
       cs = asks setup.address slave log
 
-      most : (m : Mark) → AreLegal setup.limits js (m ∷ marks_of ws) → count is_begun (m ∷ marks_of ws) ≡ p + 1 → AtMost js p (told (past (at n m ∷ ws)))
+      most : (m : Mark) → AreLegal setup.limits js (m ∷ marks_of ws) → count is_begun (m ∷ marks_of ws) ≡ p + 1 → AtMost js p (askings_told (past (at n m ∷ ws)))
       most m l c = past_at_most setup.limits js (at n m ∷ ws) l p c
 
-      exact : (m : Mark) → AreLegal setup.limits js (m ∷ marks_of ws) → count is_begun (m ∷ marks_of ws) ≡ p + 1 → Exactly js (p + 1) (now (at n m ∷ ws)) (told (past (at n m ∷ ws)))
-      exact m l c = let P : ℕ → Type 0 = λ q. Exactly js q (now (at n m ∷ ws)) (told (past (at n m ∷ ws))) in subst P c (exactly_now setup.limits js (at n m ∷ ws) l)
+      exact : (m : Mark) → AreLegal setup.limits js (m ∷ marks_of ws) → count is_begun (m ∷ marks_of ws) ≡ p + 1 → Exactly js (p + 1) (now (at n m ∷ ws)) (askings_told (past (at n m ∷ ws)))
+      exact m l c = let P : ℕ → Type 0 = λ q. Exactly js q (now (at n m ∷ ws)) (askings_told (past (at n m ∷ ws))) in subst P c (exactly_now setup.limits js (at n m ∷ ws) l)
 
       Late : Mark → Type 0
-      Late m = AreLate (next_place (at n m ∷ ws)) cs (told (at n m ∷ ws))
+      Late m = AreLate (next_place (at n m ∷ ws)) cs (askings_told (at n m ∷ ws))
 
       Splits : Mark → Type 0
-      Splits m = told (at n m ∷ ws) ≡ now (at n m ∷ ws) ++ told (past (at n m ∷ ws))
+      Splits m = askings_told (at n m ∷ ws) ≡ now (at n m ∷ ws) ++ askings_told (past (at n m ∷ ws))
 
-      last_of : (m : Mark) (c : Asking) (rest : List Asking) → now (at n m ∷ ws) ≡ c ∷ rest → Exactly js (p + 1) (now (at n m ∷ ws)) (told (past (at n m ∷ ws))) → AtMost js p (told (past (at n m ∷ ws))) → Late m → Splits m → Lasts js p (next_place (at n m ∷ ws)) cs c rest
-      last_of m c rest f x a t s = let P : List Asking → Type 0 = λ z. AreLate (next_place (at n m ∷ ws)) cs z in lasts js p (next_place (at n m ∷ ws)) cs (now (at n m ∷ ws)) (told (past (at n m ∷ ws))) c rest f x a (subst P s t)
+      last_of : (m : Mark) (c : Asking) (rest : List Asking) → now (at n m ∷ ws) ≡ c ∷ rest → Exactly js (p + 1) (now (at n m ∷ ws)) (askings_told (past (at n m ∷ ws))) → AtMost js p (askings_told (past (at n m ∷ ws))) → Late m → Splits m → Lasts js p (next_place (at n m ∷ ws)) cs c rest
+      last_of m c rest f x a t s = let P : List Asking → Type 0 = λ z. AreLate (next_place (at n m ∷ ws)) cs z in lasts js p (next_place (at n m ∷ ws)) cs (now (at n m ∷ ws)) (askings_told (past (at n m ∷ ws))) c rest f x a (subst P s t)
 
       number_is : (m : Mark) (c : Asking) (rest : List Asking) (f : Lasts js p (next_place (at n m ∷ ws)) cs c rest) → now (at n m ∷ ws) ≡ c ∷ rest → Splits m → (f.newest).number ≡ newest_number (m ∷ marks_of ws)
-      number_is m c rest f z s = (f.late).number ∙ number_at (at n m ∷ ws) c (rest ++ told (past (at n m ∷ ws))) (s ∙ ap (λ (y : List Asking). y ++ told (past (at n m ∷ ws))) z)
+      number_is m c rest f z s = (f.late).number ∙ number_at (at n m ∷ ws) c (rest ++ askings_told (past (at n m ∷ ws))) (s ∙ ap (λ (y : List Asking). y ++ askings_told (past (at n m ∷ ws))) z)
 
       Came : Mark → Type 0
       Came m = (number i : ℕ) → Brings setup log slave number i → IsBroughtAt number i (at n m ∷ ws) ⊎ (next_place (at n m ∷ ws) ≤ i)
@@ -253,7 +253,7 @@ module _ (setup : Setup) (h : IsSetup setup) (log : List LogEntry) (run : IsRun 
           two (inr z) = inr z
 
       by : (m : Mark) → AreLegal setup.limits js (m ∷ marks_of ws) → AreDated setup slave log (at n m ∷ ws) → job_of (m ∷ marks_of ws) ≡ Some job → cause_of (m ∷ marks_of ws) ≡ None → Late m → Came m
-          → BecauseOf setup.limits job m (marks_of ws) (m ∷ marks_of ws) cause → AtMost js p (told (past (at n m ∷ ws))) → Exactly js (p + 1) (now (at n m ∷ ws)) (told (past (at n m ∷ ws))) → Splits m → ShownAt slave p job cause
+          → BecauseOf setup.limits job m (marks_of ws) (m ∷ marks_of ws) cause → AtMost js p (askings_told (past (at n m ∷ ws))) → Exactly js (p + 1) (now (at n m ∷ ws)) (askings_told (past (at n m ∷ ws))) → Splits m → ShownAt slave p job cause
       by (Answered r a) l d here none late came b most exact s = kinds (open_stage job (marks_of ws) (now ws) r (open_latest (latest (marks_of ws)) r (l.0).1) (stage setup.limits js ws l.1 (l.0).0 none job here))
         where
           kinds : Main job r None (now ws) ⊎ Question job r None (now ws) → ShownAt slave p job cause
@@ -307,7 +307,7 @@ module _ (setup : Setup) (h : IsSetup setup) (log : List LogEntry) (run : IsRun 
       by (Ended x) l d here none late came b most exact s = absurd b
 
   -- ---- the reported slave
-  shows : (slave : Slave) (j : ℕ) → slice_get setup.slaves j ≡ Some slave → (u : Talk) → slice_get (course_at setup log).talks j ≡ Some u → (cause : Cause) → cause_of u.marks ≡ Some cause → Shown setup log slave (course_at setup log).phase cause
+  shows : (slave : Slave) (j : ℕ) → slice_get setup.slaves j ≡ Some slave → (u : CourseTalk) → slice_get (course_at setup log).talks j ≡ Some u → (cause : Cause) → cause_of u.marks ≡ Some cause → Shown setup log slave (course_at setup log).phase cause
   shows slave j e u f cause ended = by g.ys refl
     where
       js : List Job
@@ -316,7 +316,7 @@ module _ (setup : Setup) (h : IsSetup setup) (log : List LogEntry) (run : IsRun 
       k : Placing setup log slave j
       k = placing slave j e
 
-      s : Stands setup j slave log (course_at setup log) (asks setup.address slave log)
+      s : StandsByLog setup j slave log (course_at setup log) (asks setup.address slave log)
       s = k.stands
 
       ended_xs : cause_of (marks_of s.xs) ≡ Some cause
@@ -325,11 +325,11 @@ module _ (setup : Setup) (h : IsSetup setup) (log : List LogEntry) (run : IsRun 
       g : Finds setup slave log setup.limits js cause s.xs
       g = find_end setup slave log setup.limits js cause s.xs k.legal (s.dated).dates ended_xs
 
-      late : AreLate (next_place g.ys) (asks setup.address slave log) (told g.ys)
+      late : AreLate (next_place g.ys) (asks setup.address slave log) (askings_told g.ys)
       late =
           let a = g.next in
           let b = (s.dated).low in
-          late_trans (next_place g.ys) (asks setup.address slave log) (told s.xs) (told g.ys) (late_less s.until (next_place g.ys) (asks setup.address slave log) (told s.xs) (omega (arith, a, b)) s.late) g.late
+          late_trans (next_place g.ys) (asks setup.address slave log) (askings_told s.xs) (askings_told g.ys) (late_less s.until (next_place g.ys) (asks setup.address slave log) (askings_told s.xs) (omega (arith, a, b)) s.late) g.late
 
       came : (number i : ℕ) → Brings setup log slave number i → IsBroughtAt number i g.ys ⊎ (next_place g.ys ≤ i)
       came number i b = two (cases_lt i s.until)
@@ -350,7 +350,7 @@ module _ (setup : Setup) (h : IsSetup setup) (log : List LogEntry) (run : IsRun 
           let P : List Placed → Type 0 = λ y. Does setup.limits (marks_of y) (GiveUp cause) in
           let Q : List Placed → Type 0 = λ y. AreLegal setup.limits js (marks_of y) in
           let R : List Placed → Type 0 = λ y. AreDated setup slave log y in
-          let T : List Placed → Type 0 = λ y. AreLate (next_place y) (asks setup.address slave log) (told y) in
+          let T : List Placed → Type 0 = λ y. AreLate (next_place y) (asks setup.address slave log) (askings_told y) in
           let U : List Placed → Type 0 = λ y. (number i : ℕ) → Brings setup log slave number i → IsBroughtAt number i y ⊎ (next_place y ≤ i) in
           let d = subst P z g.gives in
           let b = because setup.limits x.mark (marks_of ws) cause d in
@@ -383,7 +383,7 @@ module _ (setup : Setup) (h : IsSetup setup) (log : List LogEntry) (run : IsRun 
   closed_of marks n (inl z) = z
   closed_of marks n (inr z) = absurd (n z.0 z.1)
 
-  shows_none : (t : Slave) (j : ℕ) → slice_get setup.slaves j ≡ Some t → list_all is_quiet (course_at setup log).talks ≡ true → ((v : Talk) (c : Cause) → slice_get (course_at setup log).talks j ≡ Some v → verdict_of v.marks ≡ verdicts.Ended c → ⊥)
+  shows_none : (t : Slave) (j : ℕ) → slice_get setup.slaves j ≡ Some t → list_all is_quiet (course_at setup log).talks ≡ true → ((v : CourseTalk) (c : Cause) → slice_get (course_at setup log).talks j ≡ Some v → verdict_of v.marks ≡ verdicts.Ended c → ⊥)
       → (phase : ℕ) → phase ≡ (course_at setup log).phase → (other : Cause) → Shown setup log t phase other → ⊥
   shows_none t j e quiet not_ended phase same other w =
       calm_shows setup log t task request earlier other
@@ -404,7 +404,7 @@ module _ (setup : Setup) (h : IsSetup setup) (log : List LogEntry) (run : IsRun 
       k : Placing setup log t j
       k = placing t j e
 
-      s : Stands setup j t log (course_at setup log) (asks setup.address t log)
+      s : StandsByLog setup j t log (course_at setup log) (asks setup.address t log)
       s = k.stands
 
       q : is_quiet (talk_with t (marks_of s.xs)) ≡ true
@@ -440,10 +440,10 @@ module _ (setup : Setup) (h : IsSetup setup) (log : List LogEntry) (run : IsRun 
           job_task : Some (record { task = task; list = ((w.last).job).0 }) ≡ Some job → task ≡ job.task
           job_task z = let y : record { task = task; list = ((w.last).job).0 } ≡ job = cc in ap (λ (x : Job). x.task) y
 
-      exact : Exactly js (c.0 + 1) (now s.xs) (told (past s.xs))
-      exact = let P : ℕ → Type 0 = λ i. Exactly js i (now s.xs) (told (past s.xs)) in subst P c.1 (exactly_now setup.limits js s.xs k.legal)
+      exact : Exactly js (c.0 + 1) (now s.xs) (askings_told (past s.xs))
+      exact = let P : ℕ → Type 0 = λ i. Exactly js i (now s.xs) (askings_told (past s.xs)) in subst P c.1 (exactly_now setup.limits js s.xs k.legal)
 
-      most : AtMost js c.0 (told (past s.xs))
+      most : AtMost js c.0 (askings_told (past s.xs))
       most = past_at_most setup.limits js s.xs k.legal c.0 c.1
 
       next : (i : ℕ) (a b : Job) → slice_get js i ≡ Some a → slice_get js (i + 1) ≡ Some b → IsNext a b
@@ -457,10 +457,10 @@ pub failed_is_first : FailedIsFirstOf
 failed_is_first setup h log run id phase cause r =
     let report = reports.Failed id phase cause in
     let c = course_at setup log in
-    let whole = all_report setup (events setup log) report r in
+    let whole = all_report setup (events_of_master setup log) report r in
     let e = ends c.phase c.talks id phase cause whole.1 in
     let slave = (e.talk).slave in
-    let is : slice_get setup.slaves e.i ≡ Some slave = slaves_at c.talks setup.slaves (talks_of setup (events setup log)) e.i e.talk e.here in
+    let is : slice_get setup.slaves e.i ≡ Some slave = slaves_at c.talks setup.slaves (talks_of setup (events_of_master setup log)) e.i e.talk e.here in
     let ended : cause_of (e.talk).marks ≡ Some cause = ended_cause (cause_of (e.talk).marks) (job_of (e.talk).marks) (e.talk).marks cause e.ended in
     let P : ℕ → Type 0 = λ q. Shown setup log slave q cause in (
       slave,

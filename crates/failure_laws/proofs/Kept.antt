@@ -17,9 +17,9 @@ use Rattle.master_spec.specs.declared.reactions.Awaited.{Awaited}
 use Rattle.master_spec.specs.declared.reactions.Awaited.TheVariants.{TheOutputs, TheState}
 use Rattle.master_spec.specs.declared.setups.Slave.{Slave}
 use Rattle.master_spec.specs.declared.setups.Setup.{Setup}
-use Rattle.master_spec.specs.Tasks.{is_by_list, is_by_end, target_of, row_of, step_of}
+use Rattle.master_spec.specs.Tasks.{is_by_list, is_by_end, target_of, task_row, task_step}
 use Rattle.master_spec.specs.Jobs.{Job, asked_by}
-use Rattle.master_spec.specs.Marks.{asked, Mark, Begun, Asked, Again, Answered, Hinted, Brought, Turned, Ended, acks_change, brings, or_else, is_answer, turns_since, this_phase, latest, configured, kept, is_reached, has_outputs, is_passed, job_of, cause_of}
+use Rattle.master_spec.specs.Marks.{asked, Mark, Begun, Asked, Again, Answered, Hinted, Brought, Turned, Ended, acks_change, mark_brings, or_else, is_answer, turns_since, this_phase, latest, settings_answered, kept, is_reached, has_row_outputs, is_passed, job_of, cause_of}
 use Rattle.master_spec.specs.Conversation.{is_state, awaited_after_state, awaited_by, awaited, on_turn}
 use Rattle.master_spec.specs.Requests.{Asking, turns_before}
 use Rattle.master_spec.specs.Exchanged.{Brings}
@@ -40,10 +40,10 @@ or_none : (o p : Option (List ℕ)) → is_some (or_else o p) ≡ false → is_s
 or_none None p e = refl
 or_none (Some x) p e = absurd cc
 
-lacked : (o : Option ℕ) (m : Mark) (marks : List Mark) → IsQuiet m → has_outputs o (m ∷ marks) ≡ false → has_outputs o marks ≡ false
+lacked : (o : Option ℕ) (m : Mark) (marks : List Mark) → IsQuiet m → has_row_outputs o (m ∷ marks) ≡ false → has_row_outputs o marks ≡ false
 lacked None m marks q h = absurd cc
 lacked (Some row) Hinted marks q h = or_none (kept row marks) None h
-lacked (Some row) (Brought n p) marks q h = or_none (kept row marks) (brings (row % 65536) (Brought n p)) h
+lacked (Some row) (Brought n p) marks q h = or_none (kept row marks) (mark_brings (row % 65536) (Brought n p)) h
 lacked (Some row) (Turned t) marks q h = or_none (kept row marks) None h
 lacked (Some row) (Begun j) marks q h = absurd q
 lacked (Some row) (Asked r) marks q h = absurd q
@@ -51,7 +51,7 @@ lacked (Some row) Again marks q h = absurd q
 lacked (Some row) (Answered r a) marks q h = absurd q
 lacked (Some row) (Ended cause) marks q h = absurd q
 
-unpassed : (job : Job) (m : Mark) (marks : List Mark) → IsQuiet m → (configured (m ∷ marks) ≡ configured marks) → (list_any acks_change (this_phase (m ∷ marks)) ≡ list_any acks_change (this_phase marks)) → is_passed job (m ∷ marks) ≡ false → is_passed job marks ≡ false
+unpassed : (job : Job) (m : Mark) (marks : List Mark) → IsQuiet m → (settings_answered (m ∷ marks) ≡ settings_answered marks) → (list_any acks_change (this_phase (m ∷ marks)) ≡ list_any acks_change (this_phase marks)) → is_passed job (m ∷ marks) ≡ false → is_passed job marks ≡ false
 unpassed job m marks q c d h = by (is_by_list job.task) (is_by_end job.task) h
   where
     parts : (x y x' y' : Bool) → x ≡ x' → (y ≡ false → y' ≡ false) → (x && y) ≡ false → (x' && y') ≡ false
@@ -60,17 +60,17 @@ unpassed job m marks q c d h = by (is_by_list job.task) (is_by_end job.task) h
     parts false y true y' e f h = absurd cc
     parts false y false y' e f h = refl
 
-    by : (a b : Bool) → (if a then nat_le (length job.list) (configured (m ∷ marks)) else if b then list_any acks_change (this_phase (m ∷ marks)) else (is_reached job.task (m ∷ marks) && has_outputs (row_of job.task) (m ∷ marks))) ≡ false
-        → (if a then nat_le (length job.list) (configured marks) else if b then list_any acks_change (this_phase marks) else (is_reached job.task marks && has_outputs (row_of job.task) marks)) ≡ false
+    by : (a b : Bool) → (if a then nat_le (length job.list) (settings_answered (m ∷ marks)) else if b then list_any acks_change (this_phase (m ∷ marks)) else (is_reached job.task (m ∷ marks) && has_row_outputs (task_row job.task) (m ∷ marks))) ≡ false
+        → (if a then nat_le (length job.list) (settings_answered marks) else if b then list_any acks_change (this_phase marks) else (is_reached job.task marks && has_row_outputs (task_row job.task) marks)) ≡ false
     by true b h = ap (nat_le (length job.list)) (sym c) ∙ h
     by false true h = sym d ∙ h
-    by false false h = parts (is_reached job.task (m ∷ marks)) (has_outputs (row_of job.task) (m ∷ marks)) (is_reached job.task marks) (has_outputs (row_of job.task) marks) (named_quiet (target_of job.task) m marks q) (lacked (row_of job.task) m marks q) h
+    by false false h = parts (is_reached job.task (m ∷ marks)) (has_row_outputs (task_row job.task) (m ∷ marks)) (is_reached job.task marks) (has_row_outputs (task_row job.task) marks) (named_quiet (target_of job.task) m marks q) (lacked (task_row job.task) m marks q) h
 
 -- ---- outputs are waited for no longer than the limit
 turn_waits : (limits : Limits) (job : Job) (settled : Bool) (marks : List Mark) → on_turn limits job TheOutputs settled marks ≡ Wait → turns_since is_answer marks < limits.data_turns
 turn_waits limits job settled marks h = by (nat_le limits.data_turns (turns_since is_answer marks)) refl h
   where
-    by : (b : Bool) → nat_le limits.data_turns (turns_since is_answer marks) ≡ b → (if b then GiveUp (causes.DataMissing (step_of job.task)) else Wait) ≡ Wait → turns_since is_answer marks < limits.data_turns
+    by : (b : Bool) → nat_le limits.data_turns (turns_since is_answer marks) ≡ b → (if b then GiveUp (causes.DataMissing (task_step job.task)) else Wait) ≡ Wait → turns_since is_answer marks < limits.data_turns
     by true e z = absurd cc
     by false e z = let l = leb-false limits.data_turns (turns_since is_answer marks) e in omega (arith, l)
 
@@ -181,21 +181,21 @@ stage_some job marks bs (trying r code l h k) n = let z = last_some k.newest k.m
 stage_some job marks bs (mains_done r l k w) n = let z = last_some k.newest k.ms in (z.0, ap last_first k.is ∙ z.1)
 stage_some job marks bs (state_told s l k h) n = let z = last_some k.newest (k.qs ++ k.ms) in (z.0, ap last_first k.is ∙ z.1)
 
-not_empty : (job : Job) (row : ℕ) → row_of job.task ≡ Some row → asked_by job ≡ [] → ⊥
+not_empty : (job : Job) (row : ℕ) → task_row job.task ≡ Some row → asked_by job ≡ [] → ⊥
 not_empty job row e a = let o = outputs_request job.task job.list row e in let z : Change o.0 stc.SendOutputs ∷ [] ≡ [] = sym o.1 ∙ a in cc
 
 some_or : (o p : Option (List ℕ)) → is_some o ≡ false → is_some (or_else o p) ≡ true → is_some p ≡ true
 some_or None p e h = h
 some_or (Some x) p e h = absurd cc
 
-brings_number : (n number : ℕ) (p : List ℕ) → is_some (brings n (Brought number p)) ≡ true → number ≡ n
+brings_number : (n number : ℕ) (p : List ℕ) → is_some (mark_brings n (Brought number p)) ≡ true → number ≡ n
 brings_number n number p h = by (number == n) refl h
   where
     by : (b : Bool) → (number == n) ≡ b → is_some (if b then Some p else None) ≡ true → number ≡ n
     by true e h = eqb-true number n e
     by false e h = absurd cc
 
-pub kept_at : (setup : Setup) (slave : Slave) (log : List LogEntry) (js : List Job) (xs : List Placed) → AreLegal setup.limits js (marks_of xs) → AreDated setup slave log xs → cause_of (marks_of xs) ≡ None → (job : Job) → job_of (marks_of xs) ≡ Some job → (row : ℕ) → row_of job.task ≡ Some row
+pub kept_at : (setup : Setup) (slave : Slave) (log : List LogEntry) (js : List Job) (xs : List Placed) → AreLegal setup.limits js (marks_of xs) → AreDated setup slave log xs → cause_of (marks_of xs) ≡ None → (job : Job) → job_of (marks_of xs) ≡ Some job → (row : ℕ) → task_row job.task ≡ Some row
     → is_some (kept row (marks_of xs)) ≡ true → KeptAt setup slave log row xs
 kept_at setup slave log js [] l d c job e row r h = absurd cc
 kept_at setup slave log js (x ∷ xs) l d c job e row r h = by x.mark l d.0 c e h (λ c e h. kept_at setup slave log js xs l.1 d.1 c job e row r h)
@@ -211,7 +211,7 @@ kept_at setup slave log js (x ∷ xs) l d c job e row r h = by x.mark l d.0 c e 
 
     here : (number : ℕ) (p : List ℕ) → AreLegal setup.limits js (Brought number p ∷ marks_of xs) → IsDated setup slave log x.place (Brought number p) xs → cause_of (marks_of xs) ≡ None → job_of (marks_of xs) ≡ Some job → is_some (kept row (marks_of xs)) ≡ false → is_some (kept row (Brought number p ∷ marks_of xs)) ≡ true → KeptAt setup slave log row (at x.place (Brought number p) ∷ xs)
     here number p l w c e k h =
-        let n = brings_number (row % 65536) number p (some_or (kept row (marks_of xs)) (brings (row % 65536) (Brought number p)) k h) in
+        let n = brings_number (row % 65536) number p (some_or (kept row (marks_of xs)) (mark_brings (row % 65536) (Brought number p)) k h) in
         let s = stage setup.limits js xs l.1 l.0 c job e in
         let f = stage_some job (marks_of xs) (now xs) s (not_empty job row r) in
         let below = last_below (next_place xs) f.0 (now xs) (all_below setup slave log xs d.1) f.1 in
@@ -235,7 +235,7 @@ kept_at setup slave log js (x ∷ xs) l d c job e row r h = by x.mark l d.0 c e 
 
 -- they came in time after the answer that named the target
 pub kept_soon : (setup : Setup) (slave : Slave) (log : List LogEntry) (js : List Job) (xs : List Placed) → 1 ≤ setup.limits.data_turns → AreLegal setup.limits js (marks_of xs) → Rests setup.limits (marks_of xs) → AreDated setup slave log xs → cause_of (marks_of xs) ≡ None
-    → (job : Job) → job_of (marks_of xs) ≡ Some job → (row : ℕ) → row_of job.task ≡ Some row → is_by_list job.task ≡ false → is_by_end job.task ≡ false → (s : ℕ) → latest (marks_of xs) ≡ latests.Answered AskState (StateAck s) → is_state (target_of job.task) s ≡ true → (i : ℕ) → newest is_answer xs ≡ Some i
+    → (job : Job) → job_of (marks_of xs) ≡ Some job → (row : ℕ) → task_row job.task ≡ Some row → is_by_list job.task ≡ false → is_by_end job.task ≡ false → (s : ℕ) → latest (marks_of xs) ≡ latests.Answered AskState (StateAck s) → is_state (target_of job.task) s ≡ true → (i : ℕ) → newest is_answer xs ≡ Some i
     → is_some (kept row (marks_of xs)) ≡ true → (k : KeptAt setup slave log row xs) × (turns_before setup.address log k.place < turns_before setup.address log i + setup.limits.data_turns)
 kept_soon setup slave log js [] one l w d c job e row r bl be s o t i n h = absurd cc
 kept_soon setup slave log js (x ∷ xs) one l w d c job e row r bl be s o t i n h =
@@ -252,9 +252,9 @@ kept_soon setup slave log js (x ∷ xs) one l w d c job e row r bl be s o t i n 
 
     unpassed_by : is_some (kept row (marks_of xs)) ≡ false → is_passed job (marks_of xs) ≡ false
     unpassed_by z =
-        ap (λ (b : Bool). if b then nat_le (length job.list) (configured (marks_of xs)) else if is_by_end job.task then list_any acks_change (this_phase (marks_of xs)) else (is_reached job.task (marks_of xs) && has_outputs (row_of job.task) (marks_of xs))) bl
-        ∙ ap (λ (b : Bool). if b then list_any acks_change (this_phase (marks_of xs)) else (is_reached job.task (marks_of xs) && has_outputs (row_of job.task) (marks_of xs))) be
-        ∙ ap (λ (q : Option ℕ). is_reached job.task (marks_of xs) && has_outputs q (marks_of xs)) r ∙ ap (λ (b : Bool). is_reached job.task (marks_of xs) && b) z ∙ and_false (is_reached job.task (marks_of xs))
+        ap (λ (b : Bool). if b then nat_le (length job.list) (settings_answered (marks_of xs)) else if is_by_end job.task then list_any acks_change (this_phase (marks_of xs)) else (is_reached job.task (marks_of xs) && has_row_outputs (task_row job.task) (marks_of xs))) bl
+        ∙ ap (λ (b : Bool). if b then list_any acks_change (this_phase (marks_of xs)) else (is_reached job.task (marks_of xs) && has_row_outputs (task_row job.task) (marks_of xs))) be
+        ∙ ap (λ (q : Option ℕ). is_reached job.task (marks_of xs) && has_row_outputs q (marks_of xs)) r ∙ ap (λ (b : Bool). is_reached job.task (marks_of xs) && b) z ∙ and_false (is_reached job.task (marks_of xs))
       where
         and_false : (b : Bool) → (b && false) ≡ false
         and_false true = refl
@@ -263,7 +263,7 @@ kept_soon setup slave log js (x ∷ xs) one l w d c job e row r bl be s o t i n 
     here : (number : ℕ) (p : List ℕ) → AreLegal setup.limits js (Brought number p ∷ marks_of xs) → IsDated setup slave log x.place (Brought number p) xs → cause_of (marks_of xs) ≡ None → job_of (marks_of xs) ≡ Some job → latest (marks_of xs) ≡ latests.Answered AskState (StateAck s) → newest is_answer xs ≡ Some i
         → is_some (kept row (marks_of xs)) ≡ false → is_some (kept row (Brought number p ∷ marks_of xs)) ≡ true → Soon (at x.place (Brought number p) ∷ xs)
     here number p l w c e o n k h =
-        let q = brings_number (row % 65536) number p (some_or (kept row (marks_of xs)) (brings (row % 65536) (Brought number p)) k h) in
+        let q = brings_number (row % 65536) number p (some_or (kept row (marks_of xs)) (mark_brings (row % 65536) (Brought number p)) k h) in
         let g = stage setup.limits js xs l.1 l.0 c job e in
         let f = stage_some job (marks_of xs) (now xs) g (not_empty job row r) in
         let below = last_below (next_place xs) f.0 (now xs) (all_below setup slave log xs d.1) f.1 in

@@ -14,7 +14,7 @@ use Rattle.master_spec.specs.Jobs.{Job, asked_by}
 use Rattle.master_spec.specs.Marks.{Mark, Begun, Asked, Again, Answered, Hinted, Brought, Turned, Ended, asked, refuses_inputs, newest_number}
 use Rattle.master_spec.specs.Requests.{Asking, Decision, is_main, is_step, is_state_request, is_configuration, is_acked, acked, phase_at, phase_reached, of_phase}
 use Rattle.master_spec.specs.Shown.{IsMissing}
-use Rattle.index_laws.specs.Index.{Placed, marks_of, told_by, told, again_at, decided_at}
+use Rattle.index_laws.specs.Index.{Placed, marks_of, askings_told_by, askings_told, again_at, decided_at}
 use Rattle.index_laws.specs.Late.{IsLate, AreLate}
 use Rattle.index_laws.proofs.Index.{number_next}
 use Rattle.phase_laws.proofs.Mains.{of_main, of_step, acked_more, one_if, acked_yes, IsTried, AreMains, AreQuestions, Asks, by_list, by_one, job_asks}
@@ -68,7 +68,7 @@ reached_late js n (c ∷ cs) (b ∷ bs) l =
     ∙ ap (λ (z : List Asking). if is_main b then phase_at js (acked z) else phase_reached js z) l.1
 
 -- the newest request has the newest number
-pub number_at : (xs : List Placed) (b : Asking) (bs : List Asking) → told xs ≡ b ∷ bs → b.number ≡ newest_number (marks_of xs)
+pub number_at : (xs : List Placed) (b : Asking) (bs : List Asking) → askings_told xs ≡ b ∷ bs → b.number ≡ newest_number (marks_of xs)
 number_at [] b bs e = absurd cc
 number_at (x ∷ xs) b bs e = by x.mark e (λ c cs z. number_at xs c cs z)
   where
@@ -80,10 +80,10 @@ number_at (x ∷ xs) b bs e = by x.mark e (λ c cs z. number_at xs c cs z)
     decided a [] z f = absurd cc
     decided a (c ∷ cs) z f = let y : c.number ≡ b.number = cc in sym y ∙ f c cs refl
 
-    by : (m : Mark) → told_by x.place m (marks_of xs) (told xs) ≡ b ∷ bs → ((c : Asking) (cs : List Asking) → told xs ≡ c ∷ cs → c.number ≡ newest_number (marks_of xs)) → b.number ≡ newest_number (m ∷ marks_of xs)
+    by : (m : Mark) → askings_told_by x.place m (marks_of xs) (askings_told xs) ≡ b ∷ bs → ((c : Asking) (cs : List Asking) → askings_told xs ≡ c ∷ cs → c.number ≡ newest_number (marks_of xs)) → b.number ≡ newest_number (m ∷ marks_of xs)
     by (Asked r) z f = let y : asked (marks_of xs) % 65536 ≡ b.number = cc in sym y ∙ number_next (asked (marks_of xs))
-    by Again z f = again (told xs) z f
-    by (Answered r a) z f = decided a (told xs) z f
+    by Again z f = again (askings_told xs) z f
+    by (Answered r a) z f = decided a (askings_told xs) z f
     by (Begun j) z f = f b bs z
     by Hinted z f = f b bs z
     by (Brought n p) z f = f b bs z

@@ -22,9 +22,9 @@ use Rattle.master_spec.specs.declared.tasks.Task.{Task}
 use Rattle.master_spec.specs.declared.tasks.Task.TheVariants as tasks
 use Rattle.master_spec.specs.declared.setups.Slave.{Slave}
 use Rattle.master_spec.specs.declared.setups.Setup.{Setup}
-use Rattle.master_spec.specs.Tasks.{is_by_list, is_by_end, target_of, row_of, step_of}
+use Rattle.master_spec.specs.Tasks.{is_by_list, is_by_end, target_of, task_row, task_step}
 use Rattle.master_spec.specs.Jobs.{Job, asked_by}
-use Rattle.master_spec.specs.Marks.{open_request, Mark, Begun, Asked, Again, Answered, Hinted, Brought, Turned, Ended, acks_change, brings, or_else, oldest, is_answer, turns_since, this_phase, latest, configured, kept, is_reached, has_outputs, is_passed}
+use Rattle.master_spec.specs.Marks.{open_request, Mark, Begun, Asked, Again, Answered, Hinted, Brought, Turned, Ended, acks_change, mark_brings, or_else, oldest, is_answer, turns_since, this_phase, latest, settings_answered, kept, is_reached, has_row_outputs, is_passed}
 use Rattle.master_spec.specs.Conversation.{is_state, awaited_after_state, awaited_after, awaited_by}
 use Rattle.master_spec.specs.Requests.{Asking, Decision, decided_by, turns_before, turns_between, is_main, is_configuration, is_outputs, is_state_question, is_ack, is_acked_by, is_acked, acked}
 use Rattle.master_spec.specs.Exchanged.{Brings}
@@ -32,7 +32,7 @@ use Rattle.master_spec.specs.Shown.{names_target, MissesOutputs}
 use Rattle.asking_laws.specs.Legal.{Does, IsLegal, AreLegal}
 use Rattle.index_laws.specs.Index.{Placed, at, marks_of, code_of, again_at, decided_at}
 use Rattle.index_laws.specs.Late.{IsLate}
-use Rattle.index_laws.specs.Dates.{clock, next_after, next_place, IsLater, IsDated, AreDated, IsBroughtBy, IsBroughtAt}
+use Rattle.index_laws.specs.Dates.{clock, next_after, next_place, IsLaterMark, IsDated, AreDated, IsBroughtBy, IsBroughtAt}
 use Rattle.index_laws.proofs.Events.{repeats_open}
 use Rattle.phase_laws.proofs.Now.{now_by, now, past_by, past, Linked, linked, open_latest}
 use Rattle.phase_laws.proofs.Mains.{one_if, of_main, AreMains, AreQuestions, Asks, by_list, by_one, job_asks, mains_by_list, length_map}
@@ -108,7 +108,7 @@ brought_below setup slave log number i (x ∷ xs) d (inl b) = here x.mark (b.1).
     here (Ended cause) e = absurd cc
 brought_below setup slave log number i (x ∷ xs) d (inr b) = let h = brought_below setup slave log number i xs d.1 b in next_more x.mark (d.0).later h
   where
-    next_more : (m : Mark) → IsLater x.place m (next_place xs) → i < next_place xs → i < next_after x.place m (next_place xs)
+    next_more : (m : Mark) → IsLaterMark x.place m (next_place xs) → i < next_place xs → i < next_after x.place m (next_place xs)
     next_more (Begun j) l h = omega (arith, l, h)
     next_more (Asked r) l h = omega (arith, l, h)
     next_more Again l h = omega (arith, l, h)
@@ -121,7 +121,7 @@ brought_below setup slave log number i (x ∷ xs) d (inr b) = let h = brought_be
 pub next_rises : (setup : Setup) (slave : Slave) (log : List LogEntry) (x : Placed) (xs : List Placed) → IsDated setup slave log x.place x.mark xs → next_place xs ≤ next_place (x ∷ xs)
 next_rises setup slave log x xs d = by x.mark d.later
   where
-    by : (m : Mark) → IsLater x.place m (next_place xs) → next_place xs ≤ next_after x.place m (next_place xs)
+    by : (m : Mark) → IsLaterMark x.place m (next_place xs) → next_place xs ≤ next_after x.place m (next_place xs)
     by (Begun j) l = l
     by (Asked r) l = omega (arith, l)
     by Again l = omega (arith, l)
@@ -210,8 +210,8 @@ brought_past row i (x ∷ xs) k b = by x.mark k b (λ z y. brought_past row i xs
     off m f (inl b) = absurd (f n (b.1).0 (b.1).1)
     off m f (inr b) = b
 
-    tail : (m : Mark) → is_some (or_else (oldest (brings n) (this_phase (marks_of xs))) (brings n m)) ≡ false → is_some (kept row (marks_of xs)) ≡ false
-    tail m k = (or_none (kept row (marks_of xs)) (brings n m) k).0
+    tail : (m : Mark) → is_some (or_else (oldest (mark_brings n) (this_phase (marks_of xs))) (mark_brings n m)) ≡ false → is_some (kept row (marks_of xs)) ≡ false
+    tail m k = (or_none (kept row (marks_of xs)) (mark_brings n m) k).0
 
     by : (m : Mark) → is_some (kept row (m ∷ marks_of xs)) ≡ false → IsBroughtBy n i x.place m ⊎ IsBroughtAt n i xs → (is_some (kept row (marks_of xs)) ≡ false → IsBroughtAt n i xs → IsBroughtAt n i (past xs)) → IsBroughtAt n i (past_by m xs (past xs))
     by (Begun j) k b f = off (Begun j) (λ number p e. not_brought (Begun j) number p tt e) b
@@ -223,8 +223,8 @@ brought_past row i (x ∷ xs) k b = by x.mark k b (λ z y. brought_past row i xs
     by (Ended cause) k b f = f (tail (Ended cause) k) (off (Ended cause) (λ number p e. not_brought (Ended cause) number p tt e) b)
     by (Brought number p) k (inl b) f =
         let e : number ≡ n = let z = (b.1).1 in cc in
-        let g : brings n (Brought number p) ≡ Some p = ap (λ (t : Bool). if t then Some p else None) (eq-eqb number n e) in
-        absurd (clash (sym (ap (λ (o : Option (List ℕ)). is_some o) g) ∙ (or_none (kept row (marks_of xs)) (brings n (Brought number p)) k).1))
+        let g : mark_brings n (Brought number p) ≡ Some p = ap (λ (t : Bool). if t then Some p else None) (eq-eqb number n e) in
+        absurd (clash (sym (ap (λ (o : Option (List ℕ)). is_some o) g) ∙ (or_none (kept row (marks_of xs)) (mark_brings n (Brought number p)) k).1))
     by (Brought number p) k (inr b) f = f (tail (Brought number p) k) b
 
 -- ---- a conversation that waits for outputs
@@ -305,8 +305,8 @@ question_configured limits js job xs r d l b k =
     let e = configured_now limits js xs l ∙ ap (count_by (counts conf_code is_ack)) k.is ∙ questions_conf (k.newest ∷ k.qs) k.ms (of_main r k.newest k.of ∙ k.asks, k.questions) ∙ same_conf k.ms ∙ sym (mains_by_list job k.ms b k.mains) in
     let w = k.whole in
     let n : length (asked_by job) ≡ length job.list = listed (job_asks job) in
-    ap (λ (t : Bool). if t then nat_le (length job.list) (configured (marks_of xs)) else if is_by_end job.task then list_any acks_change (this_phase (marks_of xs)) else (is_reached job.task (marks_of xs) && has_outputs (row_of job.task) (marks_of xs))) b
-    ∙ le-leb (length job.list) (configured (marks_of xs)) (omega (arith, e, w, n))
+    ap (λ (t : Bool). if t then nat_le (length job.list) (settings_answered (marks_of xs)) else if is_by_end job.task then list_any acks_change (this_phase (marks_of xs)) else (is_reached job.task (marks_of xs) && has_row_outputs (task_row job.task) (marks_of xs))) b
+    ∙ le-leb (length job.list) (settings_answered (marks_of xs)) (omega (arith, e, w, n))
   where
     listed : Asks job → length (asked_by job) ≡ length job.list
     listed (by_list f a) = ap length a ∙ length_map job.list
@@ -335,24 +335,24 @@ end_target tasks.Deregister s e = absurd cc
 -- it has a row, and its outputs are not there
 pub record LacksOutputs (job : Job) (marks : List Mark) : Type 0 where
   pub row : ℕ
-  pub row_is : row_of job.task ≡ Some row
+  pub row_is : task_row job.task ≡ Some row
   pub not_kept : is_some (kept row marks) ≡ false
 
 pub lacks_outputs : (limits : Limits) (js : List Job) (job : Job) (xs : List Placed) (s : ℕ) → AreLegal limits js (marks_of xs) → Question job AskState (Some (StateAck s)) (now xs) → is_state (target_of job.task) s ≡ true → is_passed job (marks_of xs) ≡ false → LacksOutputs job (marks_of xs)
 lacks_outputs limits js job xs s l k t u = by (is_by_list job.task) (is_by_end job.task) (is_reached job.task (marks_of xs)) refl (end_target job.task s t) (target_reached limits js job xs s l k t) u
   where
-    row_lacks : (o : Option ℕ) → row_of job.task ≡ o → has_outputs o (marks_of xs) ≡ false → LacksOutputs job (marks_of xs)
+    row_lacks : (o : Option ℕ) → task_row job.task ≡ o → has_row_outputs o (marks_of xs) ≡ false → LacksOutputs job (marks_of xs)
     row_lacks None e h = absurd cc
     row_lacks (Some row) e h = record { row = row; row_is = e; not_kept = h }
 
-    by : (a b c : Bool) → is_by_list job.task ≡ a → b ≡ false → c ≡ true → (if a then nat_le (length job.list) (configured (marks_of xs)) else if b then list_any acks_change (this_phase (marks_of xs)) else (c && has_outputs (row_of job.task) (marks_of xs))) ≡ false → LacksOutputs job (marks_of xs)
+    by : (a b c : Bool) → is_by_list job.task ≡ a → b ≡ false → c ≡ true → (if a then nat_le (length job.list) (settings_answered (marks_of xs)) else if b then list_any acks_change (this_phase (marks_of xs)) else (c && has_row_outputs (task_row job.task) (marks_of xs))) ≡ false → LacksOutputs job (marks_of xs)
     by true b c e f g h = absurd (clash (sym (question_configured limits js job xs AskState (Some (StateAck s)) l e k) ∙ u))
     by false true c e f g h = absurd cc
     by false false false e f g h = absurd cc
-    by false false true e f g h = row_lacks (row_of job.task) refl h
+    by false false true e f g h = row_lacks (task_row job.task) refl h
 
 -- ---- the request for the outputs
-pub outputs_request : (task : Task) (list : List Cfg) (row : ℕ) → row_of task ≡ Some row → (s : State) × (asked_by (record { task = task; list = list }) ≡ Change s stc.SendOutputs ∷ [])
+pub outputs_request : (task : Task) (list : List Cfg) (row : ℕ) → task_row task ≡ Some row → (s : State) × (asked_by (record { task = task; list = list }) ≡ Change s stc.SendOutputs ∷ [])
 outputs_request (tasks.Register uuid) list row e = absurd cc
 outputs_request tasks.Setup list row e = absurd cc
 outputs_request tasks.Prepare list row e = absurd cc
@@ -385,7 +385,7 @@ pub record FoundOutputs (ms old : List Asking) : Type 0 where
   pub is : ms ≡ request ∷ more
   pub found : find is_outputs (ms ++ old) ≡ Some request
 
-pub found_outputs : (job : Job) (row : ℕ) (ms old : List Asking) → row_of job.task ≡ Some row → AreMains job ms → acked ms ≡ length (asked_by job) → FoundOutputs ms old
+pub found_outputs : (job : Job) (row : ℕ) (ms old : List Asking) → task_row job.task ≡ Some row → AreMains job ms → acked ms ≡ length (asked_by job) → FoundOutputs ms old
 found_outputs job row [] old e m w =
     let o = outputs_request job.task job.list row e in
     let z : length (asked_by job) ≡ 1 = ap length o.1 in
@@ -400,7 +400,7 @@ found_outputs job row (b ∷ ms) old e m w =
 -- ---- the log shows that they did not come
 pub misses_outputs : (setup : Setup) (slave : Slave) (log : List LogEntry) (js : List Job) (job : Job) (n : ℕ) (t : Bool) (ws : List Placed) (c : Asking) (old : List Asking) (k : ℕ)
     → AreLegal setup.limits js (Turned t ∷ marks_of ws) → AreDated setup slave log (at n (Turned t) ∷ ws) → (w : AwaitsOutputs job (latest (marks_of ws)) (Turned t ∷ marks_of ws)) → (q : Question job AskState (Some (StateAck w.state)) (now ws))
-    → IsLate n c q.newest → step_of job.task ≡ k → nat_le setup.limits.data_turns (turns_since is_answer (Turned t ∷ marks_of ws)) ≡ true
+    → IsLate n c q.newest → task_step job.task ≡ k → nat_le setup.limits.data_turns (turns_since is_answer (Turned t ∷ marks_of ws)) ≡ true
     → ((number i : ℕ) → Brings setup log slave number i → IsBroughtAt number i ws ⊎ (n ≤ i))
     → MissesOutputs setup log slave job.task c ((q.qs ++ q.ms) ++ old) k
 misses_outputs setup slave log js job n t ws c old k l d w q late step long came =
@@ -449,7 +449,7 @@ misses_outputs setup slave log js job n t ws c old k l d w q late step long came
     missing : (i : ℕ) → (f.request).first < i → IsBroughtAt (lack.row % 65536) i ws ⊎ (n ≤ i) → setup.limits.data_turns ≤ turns_between setup.address log (q.decided).0 i
     missing i h (inr g) = after_it i g
     missing i h (inl g) =
-        let a = brought_past lack.row i ws (or_none (kept lack.row (marks_of ws)) (brings (lack.row % 65536) (Turned t)) lack.not_kept).0 g in
+        let a = brought_past lack.row i ws (or_none (kept lack.row (marks_of ws)) (mark_brings (lack.row % 65536) (Turned t)) lack.not_kept).0 g in
         let b = brought_below setup slave log (lack.row % 65536) i (past ws) past_dates a in
         let e = from in
         absurd (omega (arith, b, e, h))

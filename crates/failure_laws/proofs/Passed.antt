@@ -16,15 +16,15 @@ use Rattle.master_spec.specs.declared.tasks.Task.{Task}
 use Rattle.master_spec.specs.declared.tasks.Task.TheVariants as tasks
 use Rattle.master_spec.specs.declared.setups.Slave.{Slave}
 use Rattle.master_spec.specs.declared.setups.Setup.{Setup}
-use Rattle.master_spec.specs.Tasks.{is_by_list, is_by_end, target_of, passing_of, row_of, asks_step}
+use Rattle.master_spec.specs.Tasks.{is_by_list, is_by_end, target_of, passing_of, task_row, asks_step}
 use Rattle.master_spec.specs.Jobs.{Job, asked_by}
-use Rattle.master_spec.specs.Marks.{Mark, Begun, Asked, Again, Answered, Hinted, Brought, Turned, Ended, acks_change, count, is_begun, is_answer, this_phase, latest, open_in, open_request, configured, kept, is_reached, has_outputs, is_passed, job_of, cause_of, verdict_of}
+use Rattle.master_spec.specs.Marks.{Mark, Begun, Asked, Again, Answered, Hinted, Brought, Turned, Ended, acks_change, count, is_begun, is_answer, this_phase, latest, open_in, open_request, settings_answered, kept, is_reached, has_row_outputs, is_passed, job_of, cause_of, verdict_of}
 use Rattle.master_spec.specs.Conversation.{is_state}
 use Rattle.master_spec.specs.Requests.{Asking, turns_between, is_main, is_outputs, is_error_question, is_state_question, acked, phase_at, of_phase}
 use Rattle.master_spec.specs.Exchanged.{Brings}
 use Rattle.master_spec.specs.Shown.{last_sending}
-use Rattle.asking_laws.specs.Legal.{Rests, Begins, AreLegal}
-use Rattle.index_laws.specs.Index.{Placed, at, marks_of, told}
+use Rattle.asking_laws.specs.Legal.{Rests, BeginsJob, AreLegal}
+use Rattle.index_laws.specs.Index.{Placed, at, marks_of, askings_told}
 use Rattle.index_laws.specs.Late.{IsLate, AreLate}
 use Rattle.index_laws.specs.Dates.{AreDated}
 use Rattle.phase_laws.proofs.Now.{now, past_by, past, IsOf, split}
@@ -46,7 +46,7 @@ clash : true ≡ false → ⊥
 clash z = cc
 
 -- ---- tasks
-row_one : (task : Task) (row : ℕ) → row_of task ≡ Some row → (is_by_list task ≡ false) × (is_by_end task ≡ false)
+row_one : (task : Task) (row : ℕ) → task_row task ≡ Some row → (is_by_list task ≡ false) × (is_by_end task ≡ false)
 row_one (tasks.Register uuid) row e = absurd cc
 row_one tasks.Setup row e = absurd cc
 row_one tasks.Prepare row e = absurd cc
@@ -76,16 +76,16 @@ passing_one tasks.Reset s e = absurd cc
 passing_one tasks.Adjust s e = absurd cc
 passing_one tasks.Deregister s e = absurd cc
 
-row_passed : (job : Job) (row : ℕ) (marks : List Mark) → row_of job.task ≡ Some row → is_passed job marks ≡ true → is_some (kept row marks) ≡ true
+row_passed : (job : Job) (row : ℕ) (marks : List Mark) → task_row job.task ≡ Some row → is_passed job marks ≡ true → is_some (kept row marks) ≡ true
 row_passed job row marks r h = by (is_by_list job.task) (is_by_end job.task) (row_one job.task row r).0 (row_one job.task row r).1 h
   where
-    by : (a b : Bool) → a ≡ false → b ≡ false → (if a then nat_le (length job.list) (configured marks) else if b then list_any acks_change (this_phase marks) else (is_reached job.task marks && has_outputs (row_of job.task) marks)) ≡ true → is_some (kept row marks) ≡ true
+    by : (a b : Bool) → a ≡ false → b ≡ false → (if a then nat_le (length job.list) (settings_answered marks) else if b then list_any acks_change (this_phase marks) else (is_reached job.task marks && has_row_outputs (task_row job.task) marks)) ≡ true → is_some (kept row marks) ≡ true
     by true b f g h = absurd cc
     by false true f g h = absurd cc
-    by false false f g h = ap (λ (o : Option ℕ). has_outputs o marks) (sym r) ∙ (and_parts (is_reached job.task marks) (has_outputs (row_of job.task) marks) h).1
+    by false false f g h = ap (λ (o : Option ℕ). has_row_outputs o marks) (sym r) ∙ (and_parts (is_reached job.task marks) (has_row_outputs (task_row job.task) marks) h).1
 
 -- a job with outputs has one main request
-single : (job : Job) (row : ℕ) (b : Asking) (ms : List Asking) → row_of job.task ≡ Some row → AreMains job (b ∷ ms) → acked (b ∷ ms) ≡ 1 → ms ≡ []
+single : (job : Job) (row : ℕ) (b : Asking) (ms : List Asking) → task_row job.task ≡ Some row → AreMains job (b ∷ ms) → acked (b ∷ ms) ≡ 1 → ms ≡ []
 single job row b [] r m w = refl
 single job row b (c ∷ ms) r m w = absurd (by (((m.1).1).1).0)
   where
@@ -112,7 +112,7 @@ last_append (x ∷ y ∷ xs) b = last_append (y ∷ xs) b
 pub record Began (limits : Limits) (js : List Job) (job : Job) (xs : List Placed) : Type 0 where
   pub legal : AreLegal limits js (marks_of (past xs))
   pub rests : Rests limits (marks_of (past xs))
-  pub begins : Begins js job (marks_of (past xs))
+  pub begins : BeginsJob js job (marks_of (past xs))
 
 began : (limits : Limits) (js : List Job) (job : Job) (xs : List Placed) → AreLegal limits js (marks_of xs) → job_of (marks_of xs) ≡ Some job → Began limits js job xs
 began limits js job [] l e = absurd cc
@@ -122,11 +122,11 @@ began limits js job (x ∷ xs) l e = by x.mark l e (λ e. began limits js job xs
     over m p k =
         let P : List Placed → Type 0 = λ z. AreLegal limits js (marks_of z) in
         let Q : List Placed → Type 0 = λ z. Rests limits (marks_of z) in
-        let R : List Placed → Type 0 = λ z. Begins js job (marks_of z) in
+        let R : List Placed → Type 0 = λ z. BeginsJob js job (marks_of z) in
         record { legal = subst P (sym p) k.legal; rests = subst Q (sym p) k.rests; begins = subst R (sym p) k.begins }
 
     by : (m : Mark) → AreLegal limits js (m ∷ marks_of xs) → job_of (m ∷ marks_of xs) ≡ Some job → (job_of (marks_of xs) ≡ Some job → Began limits js job xs) → Began limits js job (at x.place m ∷ xs)
-    by (Begun j) k e f = let z : j ≡ job = cc in let P : Job → Type 0 = λ y. Begins js y (marks_of xs) in record { legal = k.1; rests = (k.0).0; begins = subst P z (k.0).1 }
+    by (Begun j) k e f = let z : j ≡ job = cc in let P : Job → Type 0 = λ y. BeginsJob js y (marks_of xs) in record { legal = k.1; rests = (k.0).0; begins = subst P z (k.0).1 }
     by (Asked r) k e f = over (Asked r) refl (f e)
     by Again k e f = over Again refl (f e)
     by (Answered r a) k e f = over (Answered r a) refl (f e)
@@ -169,18 +169,18 @@ same_head a b xs ys e = (cc, cc)
 module _ (setup : Setup) (slave : Slave) (log : List LogEntry) (js : List Job) (job : Job) (n p : ℕ) (xs : List Placed) (cs : List Asking)
     (turn_limit : 1 ≤ setup.limits.turn_limit) (data_turns : 1 ≤ setup.limits.data_turns)
     (legal : AreLegal setup.limits js (marks_of xs)) (dates : AreDated setup slave log xs) (rests : Rests setup.limits (marks_of xs)) (none : cause_of (marks_of xs) ≡ None) (here : job_of (marks_of xs) ≡ Some job)
-    (passed : is_passed job (marks_of xs) ≡ true) (free : open_request (marks_of xs) ≡ None) (exact : Exactly js (p + 1) (now xs) (told (past xs))) (most : AtMost js p (told (past xs))) (late : AreLate n cs (told xs))
+    (passed : is_passed job (marks_of xs) ≡ true) (free : open_request (marks_of xs) ≡ None) (exact : Exactly js (p + 1) (now xs) (askings_told (past xs))) (most : AtMost js p (askings_told (past xs))) (late : AreLate n cs (askings_told xs))
     (counted : count is_begun (marks_of xs) ≡ p + 1) (next : (q : ℕ) (a b : Job) → slice_get js q ≡ Some a → slice_get js (q + 1) ≡ Some b → IsNext a b) where
   abbrev CalmAt : Asking → List Asking → Type 0
   CalmAt c earlier = Calm setup log slave job.task c earlier
 
-  late_split : AreLate n cs (now xs ++ told (past xs))
+  late_split : AreLate n cs (now xs ++ askings_told (past xs))
   late_split = let P : List Asking → Type 0 = λ z. AreLate n cs z in subst P (split setup.limits js xs legal) late
 
   -- by the last acknowledgement
   by_ack : (r : Request) → (k : Main job r (Some Ack) (now xs)) → (c : Asking) (earlier : List Asking) → of_phase js (p + 1) cs ≡ c ∷ earlier → CalmAt c earlier
   by_ack r k c earlier e =
-      let s = lasts js p n cs (now xs) (told (past xs)) k.newest k.ms k.is exact most late_split in
+      let s = lasts js p n cs (now xs) (askings_told (past xs)) k.newest k.ms k.is exact most late_split in
       let z = same_head s.newest c (k.ms ++ s.old) earlier (sym s.of ∙ e) in
       let P : Asking → Type 0 = λ x. CalmAt x earlier in
       let Q : List Asking → Type 0 = λ x. CalmAt s.newest x in
@@ -193,7 +193,7 @@ module _ (setup : Setup) (slave : Slave) (log : List LogEntry) (js : List Job) (
         came = λ row w. absurd (no_row row w);
       }))
     where
-      no_row : (row : ℕ) → row_of job.task ≡ Some row → ⊥
+      no_row : (row : ℕ) → task_row job.task ≡ Some row → ⊥
       no_row row w =
           let o = row_one job.task row w in
           let a = passed_reached job (marks_of xs) o.0 o.1 passed in
@@ -204,7 +204,7 @@ module _ (setup : Setup) (slave : Slave) (log : List LogEntry) (js : List Job) (
   -- by the answer that names the target
   by_target : (s : ℕ) → latest (marks_of xs) ≡ latests.Answered AskState (StateAck s) → (k : Question job AskState (Some (StateAck s)) (now xs)) → is_state (target_of job.task) s ≡ true → (c : Asking) (earlier : List Asking) → of_phase js (p + 1) cs ≡ c ∷ earlier → CalmAt c earlier
   by_target s o k t c earlier e =
-      let f = lasts js p n cs (now xs) (told (past xs)) k.newest (k.qs ++ k.ms) k.is exact most late_split in
+      let f = lasts js p n cs (now xs) (askings_told (past xs)) k.newest (k.qs ++ k.ms) k.is exact most late_split in
       let z = same_head f.newest c ((k.qs ++ k.ms) ++ f.old) earlier (sym f.of ∙ e) in
       let q = question_kinds n f.newest k.newest k.of f.late in
       let P : Asking → Type 0 = λ x. CalmAt x earlier in
@@ -221,7 +221,7 @@ module _ (setup : Setup) (slave : Slave) (log : List LogEntry) (js : List Job) (
       at_place : newest is_answer xs ≡ Some (k.decided).0
       at_place = answer_place setup.limits js xs k.newest (k.qs ++ k.ms) (record { place = (k.decided).0; answer = StateAck s }) legal k.is (k.decided).1
 
-      first_is : (row : ℕ) → row_of job.task ≡ Some row → (old : List Asking) → (g : FoundOutputs k.ms old) → last_first (now xs) ≡ Some (g.request).first
+      first_is : (row : ℕ) → task_row job.task ≡ Some row → (old : List Asking) → (g : FoundOutputs k.ms old) → last_first (now xs) ≡ Some (g.request).first
       first_is row w old g =
           let o = outputs_request job.task job.list row w in
           let P : List Asking → Type 0 = λ z. AreMains job z in
@@ -229,7 +229,7 @@ module _ (setup : Setup) (slave : Slave) (log : List LogEntry) (js : List Job) (
           let m = single job row g.request g.more w (subst P g.is k.mains) one in
           ap last_first (k.is ∙ ap (λ (z : List Asking). k.newest ∷ (k.qs ++ z)) (g.is ∙ ap (λ (z : List Asking). g.request ∷ z) m)) ∙ last_append (k.newest ∷ k.qs) g.request
 
-      in_time : (row : ℕ) → row_of job.task ≡ Some row → (old : List Asking) → (i : ℕ) × ((request : Asking) × ((find is_outputs ((k.qs ++ k.ms) ++ old) ≡ Some request) × ((request.first < i) × (Brings setup log slave (row % 65536) i × (turns_between setup.address log (k.decided).0 i < setup.limits.data_turns)))))
+      in_time : (row : ℕ) → task_row job.task ≡ Some row → (old : List Asking) → (i : ℕ) × ((request : Asking) × ((find is_outputs ((k.qs ++ k.ms) ++ old) ≡ Some request) × ((request.first < i) × (Brings setup log slave (row % 65536) i × (turns_between setup.address log (k.decided).0 i < setup.limits.data_turns)))))
       in_time row w old =
           let b = row_one job.task row w in
           let g = found_outputs job row k.ms old w k.mains k.whole in
@@ -250,8 +250,8 @@ module _ (setup : Setup) (slave : Slave) (log : List LogEntry) (js : List Job) (
       began_at : Began setup.limits js job xs
       began_at = began setup.limits js job xs legal here
 
-      late_past : AreLate n cs (told zs)
-      late_past = let P : List Asking → Type 0 = λ z. AreLate n cs (z ++ told zs) in subst P e late_split
+      late_past : AreLate n cs (askings_told zs)
+      late_past = let P : List Asking → Type 0 = λ z. AreLate n cs (z ++ askings_told zs) in subst P e late_split
 
       list_job : is_by_list job.task ≡ true
       list_job = by (job_asks job)
@@ -268,7 +268,7 @@ module _ (setup : Setup) (slave : Slave) (log : List LogEntry) (js : List Job) (
       none_told j = let P : List Asking → Type 0 = λ z. AreLate n cs z in nothing cs (subst P (none_asked setup.limits js zs began_at.legal j).0 late_past) o
 
       -- its head is a question
-      head : (b : Asking) (rest ds : List Asking) → told zs ≡ b ∷ rest → AreLate n ds (b ∷ rest) → of_phase js (p + 1) ds ≡ c ∷ earlier → (is_main b ≡ false) × IsLate n c b
+      head : (b : Asking) (rest ds : List Asking) → askings_told zs ≡ b ∷ rest → AreLate n ds (b ∷ rest) → of_phase js (p + 1) ds ≡ c ∷ earlier → (is_main b ≡ false) × IsLate n c b
       head b rest [] f l q = absurd l
       head b rest (d ∷ ds) f l q = two (is_main d) refl q
         where
@@ -295,14 +295,14 @@ module _ (setup : Setup) (slave : Slave) (log : List LogEntry) (js : List Job) (
       by_stage h plain same (question_open r q k) = let z : Some r ≡ None = ap open_in (sym q) ∙ (began_at.begins).free in absurd cc
       by_stage h plain same (trying r code q g k) = absurd (tried_not_passed setup.limits js h.job zs r code began_at.legal g k h.passed)
       by_stage h plain same (mains_done r q k w) =
-          let f = split setup.limits js zs began_at.legal ∙ ap (λ (z : List Asking). z ++ told (past zs)) k.is in
+          let f = split setup.limits js zs began_at.legal ∙ ap (λ (z : List Asking). z ++ askings_told (past zs)) k.is in
           let P : List Asking → Type 0 = λ z. AreLate n cs z in
-          let y = head k.newest (k.ms ++ told (past zs)) cs f (subst P f late_past) o in
+          let y = head k.newest (k.ms ++ askings_told (past zs)) cs f (subst P f late_past) o in
           absurd (clash (sym (of_main r k.newest k.of ∙ asked_main h.job (acked k.ms) r k.slot) ∙ y.0))
       by_stage h plain same (state_told s q k w) =
-          let f = split setup.limits js zs began_at.legal ∙ ap (λ (z : List Asking). z ++ told (past zs)) k.is in
+          let f = split setup.limits js zs began_at.legal ∙ ap (λ (z : List Asking). z ++ askings_told (past zs)) k.is in
           let P : List Asking → Type 0 = λ z. AreLate n cs z in
-          let y = head k.newest ((k.qs ++ k.ms) ++ told (past zs)) cs f (subst P f late_past) o in
+          let y = head k.newest ((k.qs ++ k.ms) ++ askings_told (past zs)) cs f (subst P f late_past) o in
           let z = question_kinds n c k.newest k.of y.1 in
           record {
             place = (k.decided).0;

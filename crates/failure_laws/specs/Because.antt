@@ -8,9 +8,9 @@ use Rattle.master_spec.specs.declared.requests.Request.{Request}
 use Rattle.master_spec.specs.declared.requests.Request.TheVariants.{Change, Configure, AskState, AskError}
 use Rattle.master_spec.specs.declared.requests.Answer.{Answer}
 use Rattle.master_spec.specs.declared.requests.Answer.TheVariants.{Ack, Nack, StateAck, ErrorAck, LogAck}
-use Rattle.master_spec.specs.Tasks.{asks_step, target_of, passing_of, step_of}
+use Rattle.master_spec.specs.Tasks.{asks_step, target_of, passing_of, task_step}
 use Rattle.master_spec.specs.Jobs.{Job}
-use Rattle.master_spec.specs.News.{type_of, state_of}
+use Rattle.master_spec.specs.News.{type_in_answer, state_in_answer}
 use Rattle.master_spec.specs.Marks.{Mark, Begun, Asked, Again, Answered, Hinted, Brought, Turned, Ended, newest_number, open_request, is_missing, refusals, is_reached, turns_since, is_sending, is_answer, sendings}
 use Rattle.master_spec.specs.declared.reactions.Awaited.TheVariants.{TheOutputs}
 use Rattle.master_spec.specs.Conversation.{is_error, is_state, is_late, awaited}
@@ -36,7 +36,7 @@ pub record MissesAnswer (limits : Limits) (job : Job) (request : Request) (answe
   pub nack : answer ≡ Nack code
   pub step : (is_missing code && asks_step request) ≡ true
   pub tries : nat_le limits.step_tries (refusals marks) ≡ true
-  pub step_is : step_of job.task ≡ k
+  pub step_is : task_step job.task ≡ k
   pub number : newest_number marks ≡ q
 
 pub record StuckBy (limits : Limits) (job : Job) (request : Request) (answer : Answer) (older marks : List Mark) (q t : ℕ) : Type 0 where
@@ -55,12 +55,12 @@ Because limits job request answer older marks (causes.InputsMissing q k) = Misse
 Because limits job request answer older marks (causes.Stuck q t) = StuckBy limits job request answer older marks q t
 Because limits job request answer older marks (causes.Faulted q c) = (newest_number marks ≡ q) × ((request ≡ AskError) × (answer ≡ ErrorAck c))
 Because limits job request answer older marks (causes.Unexpected q y t) =
-    (newest_number marks ≡ q) × ((type_of answer ≡ y) × ((state_of answer ≡ t) × (fits_mark job.task (is_reached job.task older) request answer ≡ false)))
+    (newest_number marks ≡ q) × ((type_in_answer answer ≡ y) × ((state_in_answer answer ≡ t) × (fits_mark job.task (is_reached job.task older) request answer ≡ false)))
 
 -- by a turn
 abbrev pub BecauseOfTurn : Limits → Job → (marks : List Mark) → Cause → Type 0
 BecauseOfTurn limits job marks (causes.NoAnswer q) = (newest_number marks ≡ q) × ((nat_le limits.turn_limit (turns_since is_sending marks) ≡ true) × ((nat_le limits.tries (sendings marks) ≡ true) × ((r : Request) × (open_request marks ≡ Some r))))
-BecauseOfTurn limits job marks (causes.DataMissing k) = (step_of job.task ≡ k) × ((nat_le limits.data_turns (turns_since is_answer marks) ≡ true) × (awaited job marks ≡ TheOutputs))
+BecauseOfTurn limits job marks (causes.DataMissing k) = (task_step job.task ≡ k) × ((nat_le limits.data_turns (turns_since is_answer marks) ≡ true) × (awaited job marks ≡ TheOutputs))
 BecauseOfTurn limits job marks (causes.Refused q c) = ⊥
 BecauseOfTurn limits job marks (causes.InputsMissing q k) = ⊥
 BecauseOfTurn limits job marks (causes.Stuck q t) = ⊥

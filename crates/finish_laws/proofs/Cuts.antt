@@ -10,7 +10,7 @@ use Rattle.master_spec.specs.Jobs.{Job}
 use Rattle.master_spec.specs.Marks.{Mark, Begun, Asked, Again, Answered, Hinted, Brought, Turned, Ended, count, is_begun, open_request, job_of, verdict_of}
 use Rattle.master_spec.specs.Requests.{Asking, is_acked_by, is_state_request}
 use Rattle.asking_laws.specs.Legal.{Rests, IsLegal, AreLegal}
-use Rattle.index_laws.specs.Index.{Placed, marks_of, told}
+use Rattle.index_laws.specs.Index.{Placed, marks_of, askings_told}
 use Rattle.index_laws.specs.Dates.{bit, phase_before, AreDated}
 use Rattle.phase_laws.proofs.Now.{now, past_by, past, split}
 use Rattle.phase_laws.proofs.Tags.{job_phase, none_asked, HasPassed, verdict_passed}
@@ -46,19 +46,19 @@ module _ (setup : Setup) (slave : Slave) (log : List LogEntry) (js : List Job) w
       let Q : ℕ → Type 0 = λ n. Segment setup log slave h.job n (reverse (now xs)) in
       subst P (sym (drop_at js q h.job here)) (record { seg = reverse (now xs); rest = rest; is = refl; segment = subst Q c (segment setup slave log js xs l d r h.cause_is h.job h.job_is h.passed o); next = k })
 
-  told_turned : (xs : List Placed) (rest : List Asking) → AreLegal setup.limits js (marks_of xs) → reverse (told (past xs)) ++ (reverse (now xs) ++ rest) ≡ reverse (told xs) ++ rest
+  told_turned : (xs : List Placed) (rest : List Asking) → AreLegal setup.limits js (marks_of xs) → reverse (askings_told (past xs)) ++ (reverse (now xs) ++ rest) ≡ reverse (askings_told xs) ++ rest
   told_turned xs rest l =
-      sym (append_assoc (reverse (told (past xs))) (reverse (now xs)) rest) ∙ ap (λ (z : List Asking). z ++ rest) (sym (reverse-append (now xs) (told (past xs))) ∙ ap reverse (sym (split setup.limits js xs l)))
+      sym (append_assoc (reverse (askings_told (past xs))) (reverse (now xs)) rest) ∙ ap (λ (z : List Asking). z ++ rest) (sym (reverse-append (now xs) (askings_told (past xs))) ∙ ap reverse (sym (split setup.limits js xs l)))
 
   pub cut_past : (xs : List Placed) → AreLegal setup.limits js (marks_of xs) → AreDated setup slave log xs → (p : ℕ) → count is_begun (marks_of xs) ≡ suc p → (rest : List Asking)
-      → Cuts setup log slave (drop p js) p rest → Cuts setup log slave js 0 (reverse (told (past xs)) ++ rest)
+      → Cuts setup log slave (drop p js) p rest → Cuts setup log slave js 0 (reverse (askings_told (past xs)) ++ rest)
   cut_past [] l d p c rest k = absurd (omega (arith, c))
   cut_past (x ∷ xs) l d p c rest k = by x.mark l.0 c (λ p c rest k. cut_past xs l.1 d.1 p c rest k)
     where
       IH : Type 0
-      IH = (p : ℕ) → count is_begun (marks_of xs) ≡ suc p → (rest : List Asking) → Cuts setup log slave (drop p js) p rest → Cuts setup log slave js 0 (reverse (told (past xs)) ++ rest)
+      IH = (p : ℕ) → count is_begun (marks_of xs) ≡ suc p → (rest : List Asking) → Cuts setup log slave (drop p js) p rest → Cuts setup log slave js 0 (reverse (askings_told (past xs)) ++ rest)
 
-      from_zero : (p : ℕ) → count is_begun (marks_of xs) ≡ p → job_of (marks_of xs) ≡ None → Cuts setup log slave (drop p js) p rest → Cuts setup log slave js 0 (reverse (told xs) ++ rest)
+      from_zero : (p : ℕ) → count is_begun (marks_of xs) ≡ p → job_of (marks_of xs) ≡ None → Cuts setup log slave (drop p js) p rest → Cuts setup log slave js 0 (reverse (askings_told xs) ++ rest)
       from_zero p c e k =
           let z = none_asked setup.limits js xs l.1 e in
           let y : p ≡ 0 = sym c ∙ z.1 in
@@ -66,7 +66,7 @@ module _ (setup : Setup) (slave : Slave) (log : List LogEntry) (js : List Job) w
           let Q : List Asking → Type 0 = λ az. Cuts setup log slave js 0 (reverse az ++ rest) in
           subst Q (sym z.0) (subst P y k)
 
-      from_passed : (p : ℕ) → count is_begun (marks_of xs) ≡ p → Rests setup.limits (marks_of xs) → open_request (marks_of xs) ≡ None → HasPassed (marks_of xs) → IH → Cuts setup log slave (drop p js) p rest → Cuts setup log slave js 0 (reverse (told xs) ++ rest)
+      from_passed : (p : ℕ) → count is_begun (marks_of xs) ≡ p → Rests setup.limits (marks_of xs) → open_request (marks_of xs) ≡ None → HasPassed (marks_of xs) → IH → Cuts setup log slave (drop p js) p rest → Cuts setup log slave js 0 (reverse (askings_told xs) ++ rest)
       from_passed zero c r o h f k = let z = job_none (marks_of xs) c in let y : None ≡ Some h.job = sym z ∙ h.job_is in absurd cc
         where
           job_none : (ms : List Mark) → count is_begun ms ≡ 0 → job_of ms ≡ None
@@ -83,13 +83,13 @@ module _ (setup : Setup) (slave : Slave) (log : List LogEntry) (js : List Job) w
           let P : List Asking → Type 0 = λ z. Cuts setup log slave js 0 z in
           subst P (told_turned xs rest l.1) (f q c (reverse (now xs) ++ rest) (add_cut xs l.1 d.1 r o h q c rest k))
 
-      by : (m : Mark) → IsLegal setup.limits js m (marks_of xs) → count is_begun (m ∷ marks_of xs) ≡ suc p → IH → Cuts setup log slave js 0 (reverse (told (past_by m xs (past xs))) ++ rest)
+      by : (m : Mark) → IsLegal setup.limits js m (marks_of xs) → count is_begun (m ∷ marks_of xs) ≡ suc p → IH → Cuts setup log slave js 0 (reverse (askings_told (past_by m xs (past xs))) ++ rest)
       by (Begun j) i c f = begun (i.1).passed
         where
           c' : count is_begun (marks_of xs) ≡ p
           c' = omega (arith, c)
 
-          begun : (job_of (marks_of xs) ≡ None) ⊎ (verdict_of (marks_of xs) ≡ verdicts.Passed) → Cuts setup log slave js 0 (reverse (told xs) ++ rest)
+          begun : (job_of (marks_of xs) ≡ None) ⊎ (verdict_of (marks_of xs) ≡ verdicts.Passed) → Cuts setup log slave js 0 (reverse (askings_told xs) ++ rest)
           begun (inl e) = from_zero p c' e k
           begun (inr v) = from_passed p c' i.0 (i.1).free (verdict_passed (marks_of xs) v) f k
       by (Asked r) i c f = f p c rest k
@@ -102,12 +102,12 @@ module _ (setup : Setup) (slave : Slave) (log : List LogEntry) (js : List Job) w
 
   -- a conversation whose last phase has passed
   pub cut_all : (xs : List Placed) → AreLegal setup.limits js (marks_of xs) → AreDated setup slave log xs → Rests setup.limits (marks_of xs) → open_request (marks_of xs) ≡ None → HasPassed (marks_of xs) → (q : ℕ) → count is_begun (marks_of xs) ≡ suc q → length js ≡ suc q
-      → Cuts setup log slave js 0 (reverse (told xs))
+      → Cuts setup log slave js 0 (reverse (askings_told xs))
   cut_all xs l d r o h q c n =
       let P : List Asking → Type 0 = λ z. Cuts setup log slave js 0 z in
       let Q : List Job → Type 0 = λ z. Cuts setup log slave z (suc q) [] in
       let k : Cuts setup log slave (drop (suc q) js) (suc q) [] = subst Q (sym (none_left js (suc q) n)) refl in
-      subst P (told_turned xs [] l ∙ append-nil (reverse (told xs))) (cut_past xs l d q c (reverse (now xs) ++ []) (add_cut xs l d r o h q c [] k))
+      subst P (told_turned xs [] l ∙ append-nil (reverse (askings_told xs))) (cut_past xs l d q c (reverse (now xs) ++ []) (add_cut xs l d r o h q c [] k))
     where
       none_left : (js : List Job) (n : ℕ) → length js ≡ n → drop n js ≡ []
       none_left [] zero e = refl

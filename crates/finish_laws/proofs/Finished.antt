@@ -16,8 +16,8 @@ use Rattle.master_spec.specs.Requests.{Asking, Decision, asks}
 use Rattle.master_spec.specs.Exchanged.{in_order}
 use Rattle.asking_laws.specs.Legal.{GoesByRule}
 use Rattle.asking_laws.proofs.Legal.{IsFreeToGo, all_passed, going}
-use Rattle.index_laws.specs.Runs.{events, course_at, IsRun}
-use Rattle.index_laws.specs.Index.{marks_of, told, ReadBack}
+use Rattle.index_laws.specs.Runs.{events_of_master, course_at, IsRun}
+use Rattle.index_laws.specs.Index.{marks_of, askings_told, ReadBack}
 use Rattle.index_laws.specs.Follows.{talk_with}
 use Rattle.index_laws.specs.Late.{IsLate, AreLate}
 use Rattle.index_laws.specs.Laws.{AreHeard}
@@ -57,10 +57,10 @@ module _ (setup : Setup) (h : AreHeard setup) (log : List LogEntry) (run : IsRun
       let js = jobs_of setup slave in
       let c = course_at setup log in
       let s = (reported setup (ReadBack slave.id) i slave (listens setup h i slave e) h.runs log run (reports.Finished steps) r).0 in
-      let g = with_at (λ u m. GoesByRule setup.limits (jobs_of setup u) c.phase m) c.talks i (talk_with slave (marks_of s.xs)) (going setup h.runs (events setup log)).goes s.here in
-      let w = all_report setup (events setup log) (reports.Finished steps) r in
+      let g = with_at (λ u m. GoesByRule setup.limits (jobs_of setup u) c.phase m) c.talks i (talk_with slave (marks_of s.xs)) (going setup h.runs (events_of_master setup log)).goes s.here in
+      let w = all_report setup (events_of_master setup log) (reports.Finished steps) r in
       let f = all_at IsFreeToGo c.talks i (talk_with slave (marks_of s.xs)) (all_passed setup h.runs c.phase c.talks w.0 w.1) s.here in
-      let z = (finishes setup (events setup log) steps r).1 in
+      let z = (finishes setup (events_of_master setup log) steps r).1 in
       let n : length js ≡ phases setup = phases_counted setup.steps setup.runs slave.script h.runs in
       let q = length js - 1 in
       let p = g.phase_is in
@@ -69,7 +69,7 @@ module _ (setup : Setup) (h : AreHeard setup) (log : List LogEntry) (run : IsRun
       let j = job_some (marks_of s.xs) q (omega (arith, cnt)) in
       let k = passed_of (marks_of s.xs) j.0 j.1 f.1 in
       let P : List Asking → Type 0 = λ y. Cuts setup log slave js 0 (reverse y) in
-      subst P (sym (late_same s.until (asks setup.address slave log) (told s.xs) s.late ((ordered setup.limits js s.xs g.legal).decided f.0)))
+      subst P (sym (late_same s.until (asks setup.address slave log) (askings_told s.xs) s.late ((ordered setup.limits js s.xs g.legal).decided f.0)))
       (cut_all setup slave log js s.xs g.legal (s.dated).dates g.rests f.0 k q cnt last)
     where
       passed_of : (marks : List Mark) (job : Job) → job_of marks ≡ Some job → (job_of marks ≡ None) ⊎ (verdict_of marks ≡ verdicts.Passed) → HasPassed marks

@@ -9,8 +9,8 @@ use Rattle.dcp_ends.specs.Logs.{same_address}
 use Rattle.master_spec.specs.declared.reports.Report.{Report}
 use Rattle.master_spec.specs.declared.reports.Report.TheVariants as reports
 use Rattle.master_spec.specs.declared.setups.Setup.{Setup}
-use Rattle.master_spec.specs.Course.{Course, course, is_settled, is_quiet, failed, phases, with_next, with_report, with_turns, decided, decided_if, turned, still, after_turn, step}
-use Rattle.index_laws.specs.Runs.{with_event, events, course_at}
+use Rattle.master_spec.specs.Course.{Course, course, is_settled, is_quiet, failed, phases, with_next, with_report, with_turns, decided, decided_if, course_turned, still, course_after_turn, step}
+use Rattle.index_laws.specs.Runs.{with_event, events_of_master, course_at}
 use Rattle.index_laws.specs.Dates.{phase_before}
 use Rattle.index_laws.proofs.Runs.{step_gram, step_tick, step_still}
 
@@ -22,17 +22,17 @@ decided_rises setup c None = by (c.phase == phases setup)
     by true = omega arith
     by false = omega arith
 
-turned_rises : (setup : Setup) (c : Course) → c.phase ≤ (turned setup c).phase
+turned_rises : (setup : Setup) (c : Course) → c.phase ≤ (course_turned setup c).phase
 turned_rises setup c = by (list_all is_quiet c.talks)
   where
     by : (b : Bool) → c.phase ≤ (decided_if setup b c).phase
     by true = decided_rises setup c (failed c.phase c.talks)
     by false = omega arith
 
-tick_rises : (setup : Setup) (c : Course) → c.phase ≤ (after_turn setup c).phase
+tick_rises : (setup : Setup) (c : Course) → c.phase ≤ (course_after_turn setup c).phase
 tick_rises setup c = by (c.phase == 0)
   where
-    by : (b : Bool) → c.phase ≤ (if b then with_next setup (still c) else turned setup (with_turns setup (list_all is_settled c.talks) c)).phase
+    by : (b : Bool) → c.phase ≤ (if b then with_next setup (still c) else course_turned setup (with_turns setup (list_all is_settled c.talks) c)).phase
     by true = omega arith
     by false = turned_rises setup (with_turns setup (list_all is_settled c.talks) c)
 
@@ -51,13 +51,13 @@ entry_rises : (setup : Setup) (e : LogEntry) (log : List LogEntry) → (course_a
 entry_rises setup (Sent from to bytes) log = omega arith
 entry_rises setup (Got at from bytes) log = by (same_address at setup.address)
   where
-    by : (b : Bool) → (course_at setup log).phase ≤ (course setup (with_event b (Gram from bytes) (events setup log))).phase
+    by : (b : Bool) → (course_at setup log).phase ≤ (course setup (with_event b (Gram from bytes) (events_of_master setup log))).phase
     by true = step_rises setup (Gram from bytes) (course_at setup log)
     by false = omega arith
 entry_rises setup (Idle at) log = omega arith
 entry_rises setup (Turn at) log = by (same_address at setup.address)
   where
-    by : (b : Bool) → (course_at setup log).phase ≤ (course setup (with_event b Tick (events setup log))).phase
+    by : (b : Bool) → (course_at setup log).phase ≤ (course setup (with_event b Tick (events_of_master setup log))).phase
     by true = step_rises setup Tick (course_at setup log)
     by false = omega arith
 

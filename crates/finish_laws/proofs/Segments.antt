@@ -14,9 +14,9 @@ use Rattle.master_spec.specs.declared.setups.Slave.{Slave}
 use Rattle.master_spec.specs.declared.setups.Setup.{Setup}
 use Rattle.master_spec.specs.declared.tasks.Task.{Task}
 use Rattle.master_spec.specs.declared.tasks.Task.TheVariants as tasks
-use Rattle.master_spec.specs.Tasks.{is_by_list, is_by_end, target_of, row_of}
+use Rattle.master_spec.specs.Tasks.{is_by_list, is_by_end, target_of, task_row}
 use Rattle.master_spec.specs.Jobs.{Job, asked_by}
-use Rattle.master_spec.specs.Marks.{Mark, Begun, Asked, Again, Answered, Hinted, Brought, Turned, Ended, acks_change, brings, or_else, this_phase, configured, kept, count, is_begun, is_reached, has_outputs, is_passed, open_in, open_request}
+use Rattle.master_spec.specs.Marks.{Mark, Begun, Asked, Again, Answered, Hinted, Brought, Turned, Ended, acks_change, mark_brings, or_else, this_phase, settings_answered, kept, count, is_begun, is_reached, has_row_outputs, is_passed, open_in, open_request}
 use Rattle.master_spec.specs.Requests.{Asking, Decision, is_state_request, is_state_question, is_step, is_acked, acked, decided_by}
 use Rattle.master_spec.specs.Exchanged.{Brings, IsDecided}
 use Rattle.asking_laws.specs.Legal.{AreLegal}
@@ -67,7 +67,7 @@ HasCode job a = is_state_request a ≡ true → a.code ≡ task_code job.task
 pub record Segment (setup : Setup) (log : List LogEntry) (slave : Slave) (job : Job) (p : ℕ) (seg : List Asking) : Type 0 where
   pub first_in : Every (λ a. phase_before setup log a.first ≡ p) seg
   pub codes : Every (HasCode job) seg
-  pub came : (row : ℕ) → row_of job.task ≡ Some row → Came setup log slave row p
+  pub came : (row : ℕ) → task_row job.task ≡ Some row → Came setup log slave row p
   pub shape : ((task_code job.task ≡ 0) × Every (λ a. is_state_request a ≡ false) seg) ⊎ Single setup log job p seg
 
 -- ---- all main requests are acknowledged, and the questions are newer
@@ -196,7 +196,7 @@ or_none : (o : Option (List ℕ)) → is_some (or_else o None) ≡ true → is_s
 or_none None h = h
 or_none (Some x) h = refl
 
-brings_number : (n number : ℕ) (p : List ℕ) → is_some (brings n (Brought number p)) ≡ true → number ≡ n
+brings_number : (n number : ℕ) (p : List ℕ) → is_some (mark_brings n (Brought number p)) ≡ true → number ≡ n
 brings_number n number p h = by (number == n) refl h
   where
     by : (b : Bool) → (number == n) ≡ b → is_some (if b then Some p else None) ≡ true → number ≡ n
@@ -210,7 +210,7 @@ kept_in setup slave log row (x ∷ xs) d h = by x.mark d.0 h (λ z. kept_in setu
     p : ℕ
     p = count is_begun (marks_of xs)
 
-    here : (number : ℕ) (q : List ℕ) → IsDated setup slave log x.place (Brought number q) xs → (is_some (kept row (marks_of xs)) ≡ true) ⊎ (is_some (brings (row % 65536) (Brought number q)) ≡ true) → (is_some (kept row (marks_of xs)) ≡ true → Came setup log slave row p) → Came setup log slave row p
+    here : (number : ℕ) (q : List ℕ) → IsDated setup slave log x.place (Brought number q) xs → (is_some (kept row (marks_of xs)) ≡ true) ⊎ (is_some (mark_brings (row % 65536) (Brought number q)) ≡ true) → (is_some (kept row (marks_of xs)) ≡ true → Came setup log slave row p) → Came setup log slave row p
     here number q w (inl h) f = f h
     here number q w (inr h) f = let P : ℕ → Type 0 = λ n. Brings setup log slave n x.place in record { place = x.place; brings = subst P (brings_number (row % 65536) number q h) w.brings; came_in = w.phase }
 
@@ -220,11 +220,11 @@ kept_in setup slave log row (x ∷ xs) d h = by x.mark d.0 h (λ z. kept_in setu
     by Again w h f = f (or_none (kept row (marks_of xs)) h)
     by (Answered r a) w h f = f (or_none (kept row (marks_of xs)) h)
     by Hinted w h f = f (or_none (kept row (marks_of xs)) h)
-    by (Brought number q) w h f = here number q w (or_cases (kept row (marks_of xs)) (brings (row % 65536) (Brought number q)) h) f
+    by (Brought number q) w h f = here number q w (or_cases (kept row (marks_of xs)) (mark_brings (row % 65536) (Brought number q)) h) f
     by (Turned t) w h f = f (or_none (kept row (marks_of xs)) h)
     by (Ended cause) w h f = f (or_none (kept row (marks_of xs)) h)
 
-row_task : (task : Task) (row : ℕ) → row_of task ≡ Some row → (is_by_list task ≡ false) × (is_by_end task ≡ false)
+row_task : (task : Task) (row : ℕ) → task_row task ≡ Some row → (is_by_list task ≡ false) × (is_by_end task ≡ false)
 row_task (tasks.Register uuid) row e = (refl, refl)
 row_task tasks.Setup row e = absurd cc
 row_task tasks.Prepare row e = (refl, refl)
@@ -239,10 +239,10 @@ row_task tasks.Reset row e = (refl, refl)
 row_task tasks.Adjust row e = absurd cc
 row_task tasks.Deregister row e = absurd cc
 
-pub passed_outputs : (job : Job) (marks : List Mark) (row : ℕ) → row_of job.task ≡ Some row → is_passed job marks ≡ true → is_some (kept row marks) ≡ true
-passed_outputs job marks row e h = let t = row_task job.task row e in ap (λ (o : Option ℕ). has_outputs o marks) (sym e) ∙ by (is_by_list job.task) (is_by_end job.task) t.0 t.1 h
+pub passed_outputs : (job : Job) (marks : List Mark) (row : ℕ) → task_row job.task ≡ Some row → is_passed job marks ≡ true → is_some (kept row marks) ≡ true
+passed_outputs job marks row e h = let t = row_task job.task row e in ap (λ (o : Option ℕ). has_row_outputs o marks) (sym e) ∙ by (is_by_list job.task) (is_by_end job.task) t.0 t.1 h
   where
-    by : (a b : Bool) → a ≡ false → b ≡ false → (if a then nat_le (length job.list) (configured marks) else if b then list_any acks_change (this_phase marks) else (is_reached job.task marks && has_outputs (row_of job.task) marks)) ≡ true → has_outputs (row_of job.task) marks ≡ true
+    by : (a b : Bool) → a ≡ false → b ≡ false → (if a then nat_le (length job.list) (settings_answered marks) else if b then list_any acks_change (this_phase marks) else (is_reached job.task marks && has_row_outputs (task_row job.task) marks)) ≡ true → has_row_outputs (task_row job.task) marks ≡ true
     by true b f g h = absurd cc
     by false true f g h = absurd cc
-    by false false f g h = (and_parts (is_reached job.task marks) (has_outputs (row_of job.task) marks) h).1
+    by false false f g h = (and_parts (is_reached job.task marks) (has_row_outputs (task_row job.task) marks) h).1

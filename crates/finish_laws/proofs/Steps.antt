@@ -13,7 +13,7 @@ use Rattle.master_spec.specs.declared.setups.Setup.{Setup}
 use Rattle.master_spec.specs.Setup.{jobs_of}
 use Rattle.master_spec.specs.Jobs.{Job}
 use Rattle.master_spec.specs.Requests.{is_prepare, is_step, is_outputs, is_stop, is_reset, is_one, is_acked}
-use Rattle.master_spec.specs.Exchanged.{in_order, in_run, Exchange}
+use Rattle.master_spec.specs.Exchanged.{in_order, in_run, StepExchange}
 use Rattle.index_laws.specs.Dates.{bit, phase_before}
 use Rattle.finish_laws.proofs.Lists.{every_in}
 use Rattle.finish_laws.proofs.Codes.{count_code, count_append, kind_of, steps_kind}
@@ -28,7 +28,7 @@ phase_of steps r k = 6 + (r - 1) * (8 + 2 * steps) + 2 * k
 
 -- an exchange, and the phases in which it stands
 pub record Full (setup : Setup) (log : List LogEntry) (slave : Slave) (r k q : ℕ) : Type 0 where
-  pub exchange : Exchange setup log slave r k
+  pub exchange : StepExchange setup log slave r k
   pub step_in : phase_before setup log (exchange.step).first ≡ q
   pub computed_in : phase_before setup log exchange.told_computed ≡ q
   pub outputs_in : phase_before setup log (exchange.outputs).first ≡ suc q

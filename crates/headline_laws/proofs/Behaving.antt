@@ -10,9 +10,9 @@ use Rattle.log_spec.specs.Channel.{Repeats}
 use Rattle.log_spec.specs.Log.{Parties, IsSlaveOf, requests_sent}
 use Rattle.log_spec.specs.Moves.{Move, Asks, Comes, Tells, Hears, Brings, Turns, Rests, Other, move, decided_exchanges}
 use Rattle.log_spec.proofs.Turned.{honest_newest}
-use Rattle.lockstep_laws.specs.Cast.{Slaves}
+use Rattle.lockstep_laws.specs.Cast.{ConversingSlaves}
 use Rattle.lockstep_laws.specs.Steps.{RowEvent, event_asked, run_after, view}
-use Rattle.lockstep_laws.specs.Master.{IsLeast, IsNew, MasterMay, MasterConverses}
+use Rattle.lockstep_laws.specs.Master.{IsLeast, IsNewRequest, MasterMay, MasterConverses}
 use Rattle.lockstep_laws.specs.Runs.{AreSlaves}
 use Rattle.index_laws.specs.Runs.{IsRun}
 use Rattle.index_laws.proofs.ByEntry.{entry_by_entry}
@@ -23,14 +23,14 @@ use Rattle.course_spec.specs.Courses.{opened}
 use Rattle.course_laws.specs.Orders.{may_ask}
 use Rattle.model_laws.specs.Scenarios.{slave_numbered}
 use Rattle.model_laws.proofs.Scenarios.{has_parties}
-use Rattle.master_meets.specs.Laws.{IsParty, IsNext, MayAsk}
+use Rattle.master_meets.specs.Laws.{IsParty, IsNextRequest, MayAsk}
 use Rattle.master_meets.proofs.Asking as asking
 use Rattle.master_meets.proofs.Only.{only_requests}
 use Rattle.barrier_laws.specs.Laws.{IsLeastDone}
 use Rattle.barrier_laws.proofs.Waiting.{events_wait}
 use Rattle.plan_order_laws.proofs.Following.{requests_follow, slaves_opened}
 use Rattle.slave_laws.specs.Whole.{slaves_asked}
-use Rattle.run_laws.specs.Laws.{parties, setup_of}
+use Rattle.run_laws.specs.Laws.{parties, slave_setup_of}
 use Rattle.run_laws.proofs.Followed.{slave_runs}
 use Rattle.run_laws.proofs.Runs.{party, are_parties, accepts_it}
 use Rattle.headline_laws.specs.Laws.{AllBehave}
@@ -39,7 +39,7 @@ module _ (sc : Scenario) (other : SlaveDesc) (ok : IsScenario sc) where
   abbrev w : Parties
   w = parties sc other
 
-  abbrev x : Slaves
+  abbrev x : ConversingSlaves
   x = slaves_asked sc other
 
   -- ---- a request that is asked for the first time
@@ -73,15 +73,15 @@ module _ (sc : Scenario) (other : SlaveDesc) (ok : IsScenario sc) where
             same l h = cc
 
     -- the first request is the register that the slave accepts
-    accepted : IsNext w s (slave_numbered sc other s).uuid n log → requests_sent w s log ≡ [] → x.accepts s n ≡ true
+    accepted : IsNextRequest w s (slave_numbered sc other s).uuid n log → requests_sent w s log ≡ [] → x.accepts s n ≡ true
     accepted next none =
         let P : Note → Type 0 = λ z. x.accepts s z ≡ true in
-        subst P (sym (next.first none)) (accepts_it (setup_of sc other s) s)
+        subst P (sym (next.first none)) (accepts_it (slave_setup_of sc other s) s)
 
-    is_new : IsNext w s (slave_numbered sc other s).uuid n log → Again ⊎ IsNew w x s n log
+    is_new : IsNextRequest w s (slave_numbered sc other s).uuid n log → Again ⊎ IsNewRequest w x s n log
     is_new next = by (requests_follow sc (setups_heard sc ok).heard w (are_parties sc other ok) e log run s is (slave_numbered sc other s) (party sc other ok s is) n asks) (barrier (event_asked n) refl)
       where
-        by : Again ⊎ (may_ask sc s (slave_numbered sc other s) (decided_exchanges w s log) n ≡ true) → Again ⊎ ((k : RowEvent) → event_asked n ≡ Some k → IsLeast w x s k log) → Again ⊎ IsNew w x s n log
+        by : Again ⊎ (may_ask sc s (slave_numbered sc other s) (decided_exchanges w s log) n ≡ true) → Again ⊎ ((k : RowEvent) → event_asked n ≡ Some k → IsLeast w x s k log) → Again ⊎ IsNewRequest w x s n log
         by (inl again) b = inl again
         by (inr m) (inl again) = inl again
         by (inr m) (inr b) = inr (record { closed = next.closed; number = next.number; first = accepted next; may = m; barrier = b })
@@ -113,9 +113,9 @@ all_behave sc other ok log r =
       hosted = r.hosted;
       master = converses sc other ok (reverse log) run;
       asks = only_requests (setup_from sc) (setups_heard sc ok).heard (parties sc other) (are_parties sc other ok) (reverse log) run;
-      slaves = λ s is. slave_runs (setup_of sc other s) (parties sc other) s is (has_parties sc other ok message_in).apart refl log (r.slaves s is) (r.rests s is);
+      slaves = λ s is. slave_runs (slave_setup_of sc other s) (parties sc other) s is (has_parties sc other ok message_in).apart refl log (r.slaves s is) (r.rests s is);
     }
 
 pub are_slaves : (sc : Scenario) (other : SlaveDesc) → IsScenario sc → AreSlaves (parties sc other) (slaves_asked sc other)
 are_slaves sc other ok =
-    are_lawful (parties sc other) (setup_of sc other) sc.steps sc.runs (λ s. may_ask sc s (slave_numbered sc other s)) (λ s. opened sc s (slave_numbered sc other s)) (has_parties sc other ok message_in).apart (λ b. refl)
+    are_lawful (parties sc other) (slave_setup_of sc other) sc.steps sc.runs (λ s. may_ask sc s (slave_numbered sc other s)) (λ s. opened sc s (slave_numbered sc other s)) (has_parties sc other ok message_in).apart (λ b. refl)

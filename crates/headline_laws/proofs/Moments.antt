@@ -5,7 +5,7 @@ use Rattle.slave_desc.specs.declared.descriptions.SlaveDesc.{SlaveDesc}
 use Rattle.scenario.specs.declared.scenarios.Scenario.{Scenario}
 use Rattle.scenario.specs.Sound.{IsScenario}
 use Rattle.log_spec.specs.Log.{Parties}
-use Rattle.lockstep_laws.specs.Cast.{Slaves}
+use Rattle.lockstep_laws.specs.Cast.{ConversingSlaves}
 use Rattle.lockstep_laws.specs.Runs.{Behaves}
 use Rattle.lockstep_laws.specs.Laws.{Always, AskedInOrder, DecidedAsServed, DecidedByGiven, InStep, StepTogether, TakenInOrder}
 use Rattle.lockstep_laws.proofs.Deciding.{taken, served, deciding}
@@ -23,7 +23,7 @@ so_far sc other ok log r later sofar e =
     let P : List LogEntry → Type 0 = λ z. Behaves (parties sc other) (slaves_asked sc other) z in
     subst P e (all_behave sc other ok log r)
 
-at_moment : (Holds : Parties → Slaves → List LogEntry → Type 0) → Always Holds → AtEveryMoment Holds
+at_moment : (Holds : Parties → ConversingSlaves → List LogEntry → Type 0) → Always Holds → AtEveryMoment Holds
 at_moment Holds law sc other ok log r later sofar e =
     law (parties sc other) (slaves_asked sc other) (are_slaves sc other ok) later sofar (so_far sc other ok log r later sofar e)
 

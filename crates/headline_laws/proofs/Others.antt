@@ -12,7 +12,7 @@ use Rattle.slave_desc.specs.declared.descriptions.SlaveDesc.{SlaveDesc}
 use Rattle.scenario.specs.declared.scenarios.Scenario.{Scenario}
 use Rattle.scenario.specs.Sound.{IsScenario}
 use Rattle.rounds.specs.Told.{Follows}
-use Rattle.slave_spec.specs.Slaves.{rules_from}
+use Rattle.slave_spec.specs.Slaves.{slave_rules_from}
 use Rattle.log_spec.specs.Messages.{Note, Role, Request, Answer, Value, Else}
 use Rattle.log_spec.specs.Channel.{number_changes}
 use Rattle.log_spec.specs.Log.{Parties, IsSlaveOf, IsEnd, IsAtEnd, AreAtEnds, same, role_heard, Channel, Requests, Answers, Values, in_channel, sends_in}
@@ -165,6 +165,6 @@ no_difference sc other another ok away log r = record {
   honest = honest sc other another ok away log r.hosted r.honest;
   hosted = ends_same sc other another ok away (reverse log) r.hosted;
   master = r.master;
-  slaves = λ s is. (let P : SlaveDesc → Type 0 = λ d. Follows (rules_from (record { desc = d; micro = sc.micro })) log in subst P (same_slave sc other another ok away s is) (r.slaves s is));
+  slaves = λ s is. (let P : SlaveDesc → Type 0 = λ d. Follows (slave_rules_from (record { desc = d; micro = sc.micro })) log in subst P (same_slave sc other another ok away s is) (r.slaves s is));
   rests = λ s is. (let P : SlaveDesc → Type 0 = λ d. RestsWhenDone d.address log in subst P (same_slave sc other another ok away s is) (r.rests s is));
 }

@@ -6,7 +6,7 @@ use Rattle.scenario.specs.declared.scenarios.Scenario.{Scenario}
 use Rattle.scenario.specs.Sound.{IsScenario}
 use Rattle.lockstep.specs.declared.references.RefFault.{RefFault}
 use Rattle.log_spec.specs.Log.{Parties}
-use Rattle.lockstep_laws.specs.Cast.{Slaves}
+use Rattle.lockstep_laws.specs.Cast.{ConversingSlaves}
 use Rattle.index_laws.proofs.ByEntry.{entry_by_entry}
 use Rattle.model_laws.specs.Machines.{Machines}
 use Rattle.model_laws.specs.Collecting.{Collector, Collects}
@@ -30,7 +30,7 @@ collects sc other ok log r later sofar e =
     let P : List LogEntry → Type 0 = λ z. Collects (parties sc other) (slaves_asked sc other) (machines sc other) (collector sc other) z in
     subst P e (master_collects sc other ok (reverse log) (entry_by_entry sc log r.master))
 
-in_rows : (Holds : Parties → Slaves → Machines → List (List ℤ) → List LogEntry → Type 0) → AlwaysInRows Holds → AtEveryMomentInRows Holds
+in_rows : (Holds : Parties → ConversingSlaves → Machines → List (List ℤ) → List LogEntry → Type 0) → AlwaysInRows Holds → AtEveryMomentInRows Holds
 in_rows Holds law sc other ok rows fault ref log r later sofar e =
     law (parties sc other) (slaves_asked sc other) (machines sc other) (are_slaves sc other ok) (slaves_are sc other ok) rows fault ref later sofar (so_far sc other ok log r later sofar e)
 

@@ -7,7 +7,7 @@ use Rattle.scenario.specs.Sound.{IsScenario}
 use Rattle.lockstep.specs.declared.references.RefFault.{RefFault}
 use Rattle.lockstep.specs.Lockstep.{IsReference}
 use Rattle.log_spec.specs.Log.{Parties}
-use Rattle.lockstep_laws.specs.Cast.{Slaves}
+use Rattle.lockstep_laws.specs.Cast.{ConversingSlaves}
 use Rattle.lockstep_laws.specs.Runs.{Behaves}
 use Rattle.model_laws.specs.Machines.{Machines}
 use Rattle.model_laws.specs.Collecting.{Collector}
@@ -20,12 +20,12 @@ use Rattle.row_collecting.specs.Collecting.{collector}
 abbrev pub AllBehave : Type 0
 AllBehave = (sc : Scenario) (other : SlaveDesc) → IsScenario sc → (log : List LogEntry) → IsRunOf sc other log → Behaves (parties sc other) (slaves_asked sc other) (reverse log)
 
-abbrev pub AtEveryMoment : (Parties → Slaves → List LogEntry → Type 0) → Type 0
+abbrev pub AtEveryMoment : (Parties → ConversingSlaves → List LogEntry → Type 0) → Type 0
 AtEveryMoment Holds = (sc : Scenario) (other : SlaveDesc) → IsScenario sc → (log : List LogEntry) → IsRunOf sc other log → (later sofar : List LogEntry) → reverse log ≡ later ++ sofar
     → Holds (parties sc other) (slaves_asked sc other) sofar
 
 -- the same of what speaks of the models and the data, for the rows of the scenario's reference
-abbrev pub AtEveryMomentInRows : (Parties → Slaves → Machines → List (List ℤ) → List LogEntry → Type 0) → Type 0
+abbrev pub AtEveryMomentInRows : (Parties → ConversingSlaves → Machines → List (List ℤ) → List LogEntry → Type 0) → Type 0
 AtEveryMomentInRows Holds = (sc : Scenario) (other : SlaveDesc) → IsScenario sc → (rows : List (List ℤ)) (fault : Option RefFault) → IsReference sc rows fault → (log : List LogEntry) → IsRunOf sc other log → (later sofar : List LogEntry) → reverse log ≡ later ++ sofar
     → Holds (parties sc other) (slaves_asked sc other) (machines sc other) rows sofar
 

@@ -10,17 +10,17 @@ use Rattle.rounds.specs.Told.{IsToldUpTo, AllToldUpTo}
 use Rattle.slave_desc.specs.declared.descriptions.SlaveDesc.{SlaveDesc}
 use Rattle.scenario.specs.declared.scenarios.Scenario.{Scenario}
 use Rattle.master_spec.specs.Rules.{master_rules}
-use Rattle.slave_spec.specs.declared.words.Setup as slave
+use Rattle.slave_spec.specs.declared.words.SlaveSetup as slave
 use Rattle.master_spec.specs.declared.setups.Setup as master
 use Rattle.master_spec.specs.Setup.{setup_from}
 use Rattle.host.specs.Hosting.{slave_rules, slave_setup}
 use Rattle.host.specs.Views.{HostView, of_slave}
-use Rattle.host.specs.Seats.{IsFirstFound, IsFound, IsPlace}
+use Rattle.host.specs.Seats.{IsFirstFound, IsFoundSeat, IsSeatPlace}
 
-module _ {S : Type 0} (stands : S → List Event → Type 0) (rules : S → Rules) (made : S → slave.Setup) (slaves : List S) (sc : Scenario) (ds : List SlaveDesc) (log : List LogEntry)
+module _ {S : Type 0} (stands : S → List Event → Type 0) (rules : S → Rules) (made : S → slave.SlaveSetup) (slaves : List S) (sc : Scenario) (ds : List SlaveDesc) (log : List LogEntry)
     (same : map rules slaves ≡ map (slave_rules sc) ds) (same_made : map made slaves ≡ map (slave_setup sc) ds) (cut : AllToldUpTo stands rules slaves log) (i : ℕ) where
   is_found : (d : SlaveDesc) (end : Option S) → slice_get slaves i ≡ end → option_map rules end ≡ Some (slave_rules sc d) → option_map made end ≡ Some (slave_setup sc d)
-      → IsFound stands made sc log (Some d) end
+      → IsFoundSeat stands made sc log (Some d) end
   is_found d None here rules_same made_same = cc
   is_found d (Some end) here rules_same made_same =
       let rules_are : rules end ≡ slave_rules sc d = cc in
@@ -33,27 +33,27 @@ module _ {S : Type 0} (stands : S → List Event → Type 0) (rules : S → Rule
   there : {A : Type 0} (f : S → A) (g : SlaveDesc → A) (d : SlaveDesc) → map f slaves ≡ map g ds → slice_get ds i ≡ Some d → option_map f (slice_get slaves i) ≡ Some (g d)
   there f g d both place = sym (slice_get-map f slaves i) ∙ ap (λ l. slice_get l i) both ∙ slice_get-map g ds i ∙ ap (option_map g) place
 
-  pub found_at : (slave : Option SlaveDesc) → IsPlace slave ds (Some i) → IsFound stands made sc log slave (slice_get slaves i)
+  pub found_at : (slave : Option SlaveDesc) → IsSeatPlace slave ds (Some i) → IsFoundSeat stands made sc log slave (slice_get slaves i)
   found_at None place = cc
   found_at (Some d) place = is_found d (slice_get slaves i) refl (there rules (slave_rules sc) d same place) (there made (slave_setup sc) d same_made place)
 
-pub found_nowhere : {S : Type 0} (stands : S → List Event → Type 0) (made : S → slave.Setup) (sc : Scenario) (ds : List SlaveDesc) (log : List LogEntry) (slave : Option SlaveDesc)
-    → IsPlace slave ds None → IsFound stands made sc log slave None
+pub found_nowhere : {S : Type 0} (stands : S → List Event → Type 0) (made : S → slave.SlaveSetup) (sc : Scenario) (ds : List SlaveDesc) (log : List LogEntry) (slave : Option SlaveDesc)
+    → IsSeatPlace slave ds None → IsFoundSeat stands made sc log slave None
 found_nowhere stands made sc ds log None place = refl
 found_nowhere stands made sc ds log (Some d) place = absurd place
 
 -- what is read of the end of a slave
-pub slave_read : {S A : Type 0} (stands : S → List Event → Type 0) (made : S → slave.Setup) (host : HostView)
-    (reading : slave.Setup → List Event → Option A) (slave : Option SlaveDesc) (end : S) (result : Option A) → IsFound stands made host.scenario host.log slave (Some end)
+pub slave_read : {S A : Type 0} (stands : S → List Event → Type 0) (made : S → slave.SlaveSetup) (host : HostView)
+    (reading : slave.SlaveSetup → List Event → Option A) (slave : Option SlaveDesc) (end : S) (result : Option A) → IsFoundSeat stands made host.scenario host.log slave (Some end)
     → ((events : List Event) → stands end events → result ≡ reading (made end) events)
     → result ≡ of_slave host reading slave
 slave_read stands made host reading None end result found says = cc
 slave_read stands made host reading (Some d) end result found says =
-    says (events_at d.address host.log) found.1 ∙ ap (λ (s : slave.Setup). reading s (events_at d.address host.log)) found.0
+    says (events_at d.address host.log) found.1 ∙ ap (λ (s : slave.SlaveSetup). reading s (events_at d.address host.log)) found.0
 
 -- it stands for its own events
-pub stands_where : {S : Type 0} (stands : S → List Event → Type 0) (made : S → slave.Setup) (sc : Scenario) (log : List LogEntry) (slave : Option SlaveDesc) (end : S)
-    → IsFound stands made sc log slave (Some end) → IfSome slave (λ d. stands end (events_at d.address log))
+pub stands_where : {S : Type 0} (stands : S → List Event → Type 0) (made : S → slave.SlaveSetup) (sc : Scenario) (log : List LogEntry) (slave : Option SlaveDesc) (end : S)
+    → IsFoundSeat stands made sc log slave (Some end) → IfSome slave (λ d. stands end (events_at d.address log))
 stands_where stands made sc log None end found = tt
 stands_where stands made sc log (Some d) end found = found.1
 

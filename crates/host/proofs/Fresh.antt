@@ -10,7 +10,7 @@ use Rattle.rounds.specs.Told.{IsTold, AllTold}
 use Rattle.slave_desc.specs.declared.descriptions.SlaveDesc.{SlaveDesc}
 use Rattle.host.specs.declared.hosted.Hosted.{Hosted}
 use Rattle.scenario.specs.declared.scenarios.Scenario.{Scenario}
-use Rattle.slave_spec.specs.declared.words.Setup.{Setup}
+use Rattle.slave_spec.specs.declared.words.SlaveSetup.{SlaveSetup}
 use Rattle.master_spec.specs.Rules.{master_rules}
 use Rattle.master_spec.specs.Setup.{setup_from}
 use Rattle.host.specs.Hosting.{is_hosted, hosted_from, slave_rules, slave_setup}
@@ -35,7 +35,7 @@ slave_rules_are sc (d ∷ ds) = ap (λ (l : List Rules). slave_rules sc d ∷ l)
 
 pub slaves_made_are : (sc : Scenario) (ds : List SlaveDesc) → map (λ m. m.made) (map (slave_making sc) ds) ≡ map (slave_setup sc) ds
 slaves_made_are sc [] = refl
-slaves_made_are sc (d ∷ ds) = ap (λ (l : List Setup). slave_setup sc d ∷ l) (slaves_made_are sc ds)
+slaves_made_are sc (d ∷ ds) = ap (λ (l : List SlaveSetup). slave_setup sc d ∷ l) (slaves_made_are sc ds)
 
 module _ {E : Type 0} (seat : Ghosts E) where
   pub fresh_more : (ends : List E) (all : List (Making seat.Made)) (end : E) (making : Making seat.Made) → AllZip (IsFresh seat) ends all → IsFresh seat end making

@@ -8,7 +8,7 @@ use Rattle.slave_desc.specs.declared.descriptions.SlaveDesc.{SlaveDesc}
 use Rattle.host.specs.declared.hosted.Hosted.{Hosted}
 use Rattle.scenario.specs.Lookups.{slave_at}
 use Rattle.host.specs.Hosting.{is_hosted, hosted_from, count_from}
-use Rattle.host.specs.Seats.{IsPlace}
+use Rattle.host.specs.Seats.{IsSeatPlace}
 
 behind : (b : Bool) (x : SlaveDesc) (l m n : List SlaveDesc) → l ≡ m ++ n → (if b then x ∷ l else l) ≡ (if b then x ∷ m else m) ++ n
 behind true x l m n e = ap (λ (r : List SlaveDesc). x ∷ r) e
@@ -73,7 +73,7 @@ slave_at_suc slaves k =
     let m : suc k - 1 ≡ k = omega arith in
     rw (e, m) refl
 
-pub placed : (slaves : List SlaveDesc) (h : Hosted) (s : ℕ) (d : SlaveDesc) → Some d ≡ slave_at slaves s → is_hosted h s ≡ true → IsPlace (if is_hosted h s then slave_at slaves s else None) (hosted_from h 1 slaves) (Some (count_from h 1 (s - 1)))
+pub placed : (slaves : List SlaveDesc) (h : Hosted) (s : ℕ) (d : SlaveDesc) → Some d ≡ slave_at slaves s → is_hosted h s ≡ true → IsSeatPlace (if is_hosted h s then slave_at slaves s else None) (hosted_from h 1 slaves) (Some (count_from h 1 (s - 1)))
 placed slaves h zero d here is = cc
 placed slaves h (suc k) d here is =
     let n : 1 + k ≡ suc k = omega arith in

@@ -1,17 +1,21 @@
 -- Which ends of a scenario are hosted, what each is made to do, and what a network is opened with for them.
-use Rattle.std.specs.Prelude.{ℕ, ◌+◌, ◌-◌, ◌/◌, ◌%◌, ◌^◌, ◌==◌, Bool, if◌then◌else◌, Option, Some, None, List, [], ◌∷◌, map, zero, suc}
+use Rattle.std.specs.Prelude.{ℕ, ◌+◌, ◌-◌, ◌/◌, ◌%◌, ◌^◌, ◌==◌, Bool, true, if◌then◌else◌, Option, Some, None, List, [], ◌∷◌, map, zero, suc}
 use Rattle.dcp_types.specs.declared.addresses.Address.{Address}
 use Rattle.dcp_ends.specs.Events.{Rules}
 use Rattle.dcp_net.specs.declared.openings.Opening.{Opening}
 use Rattle.slave_desc.specs.declared.descriptions.SlaveDesc.{SlaveDesc}
 use Rattle.scenario.specs.declared.scenarios.Scenario.{Scenario}
 use Rattle.scenario.specs.Lookups.{slave_at}
-use Rattle.slave_spec.specs.declared.words.Setup.{Setup}
-use Rattle.slave_spec.specs.Slaves.{rules_from}
+use Rattle.slave_spec.specs.declared.words.SlaveSetup.{SlaveSetup}
+use Rattle.slave_spec.specs.Slaves.{slave_rules_from}
 use Rattle.master_spec.specs.Rules.{master_rules}
 use Rattle.master_spec.specs.Setup.{setup_from}
 use Rattle.master_spec.specs.declared.setups.Setup as master
 use Rattle.host.specs.declared.hosted.Hosted.{Hosted}
+
+-- the master and each slave that there is
+abbrev pub all_ends : Hosted
+all_ends = record { master = true; slaves = 65535 }
 
 -- bit s - 1 stands for slave s, from 1
 abbrev pub is_hosted : Hosted → ℕ → Bool
@@ -37,11 +41,11 @@ hosted_slave sc hosted s = if is_hosted hosted s then slave_at sc.slaves s else 
 -- ---- what each end is made to do
 
 -- what a slave is made with
-abbrev pub slave_setup : Scenario → SlaveDesc → Setup
+abbrev pub slave_setup : Scenario → SlaveDesc → SlaveSetup
 slave_setup sc d = record { desc = d; micro = sc.micro }
 
 abbrev pub slave_rules : Scenario → SlaveDesc → Rules
-slave_rules sc d = rules_from (slave_setup sc d)
+slave_rules sc d = slave_rules_from (slave_setup sc d)
 
 -- the master's rules, where it is hosted
 abbrev pub master_of : Scenario → Hosted → Option Rules
@@ -56,7 +60,7 @@ abbrev pub master_setup_of : Scenario → Hosted → Option master.Setup
 master_setup_of sc hosted = if hosted.master then Some (setup_from sc) else None
 
 -- what the hosted slaves are made from, in the order of their numbers
-abbrev pub slave_setups_of : Scenario → Hosted → List Setup
+abbrev pub slave_setups_of : Scenario → Hosted → List SlaveSetup
 slave_setups_of sc hosted = map (slave_setup sc) (hosted_slaves sc hosted)
 
 -- ---- the network

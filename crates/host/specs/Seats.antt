@@ -5,7 +5,7 @@ use Rattle.dcp_ends.specs.Events.{Event, Rules}
 use Rattle.dcp_ends.specs.Logs.{events_at}
 use Rattle.slave_desc.specs.declared.descriptions.SlaveDesc.{SlaveDesc}
 use Rattle.scenario.specs.declared.scenarios.Scenario.{Scenario}
-use Rattle.slave_spec.specs.declared.words.Setup as slave
+use Rattle.slave_spec.specs.declared.words.SlaveSetup as slave
 use Rattle.master_spec.specs.declared.setups.Setup as master
 use Rattle.master_spec.specs.Setup.{setup_from}
 use Rattle.master_spec.specs.Rules.{master_rules}
@@ -20,7 +20,7 @@ pub record Making (Made : Type 0) : Type 0 where
 abbrev pub master_making : Scenario → Making master.Setup
 master_making sc = record { rules = master_rules sc; made = setup_from sc }
 
-abbrev pub slave_making : Scenario → SlaveDesc → Making slave.Setup
+abbrev pub slave_making : Scenario → SlaveDesc → Making slave.SlaveSetup
 slave_making sc d = record { rules = slave_rules sc d; made = slave_setup sc d }
 
 -- an end is made so, and nothing has come to it
@@ -38,10 +38,10 @@ IsFirstFresh Fresh None (Some making) = ⊥
 IsFirstFresh Fresh (Some end) None = ⊥
 
 -- the end of this slave of a scenario, if it is one, stands where the log has it
-abbrev pub IsFound : {E : Type 0} → (E → List Event → Type 0) → (E → slave.Setup) → Scenario → List LogEntry → Option SlaveDesc → Option E → Type 0
-IsFound stands made sc log None end = end ≡ None
-IsFound stands made sc log (Some d) None = ⊥
-IsFound stands made sc log (Some d) (Some end) = (made end ≡ slave_setup sc d) × stands end (events_at d.address log)
+abbrev pub IsFoundSeat : {E : Type 0} → (E → List Event → Type 0) → (E → slave.SlaveSetup) → Scenario → List LogEntry → Option SlaveDesc → Option E → Type 0
+IsFoundSeat stands made sc log None end = end ≡ None
+IsFoundSeat stands made sc log (Some d) None = ⊥
+IsFoundSeat stands made sc log (Some d) (Some end) = (made end ≡ slave_setup sc d) × stands end (events_at d.address log)
 
 -- the master's end stands where the log has it, if the master is hosted
 abbrev pub IsFirstFound : {E : Type 0} → (E → List Event → Type 0) → (E → master.Setup) → Scenario → List LogEntry → Bool → Option E → Type 0
@@ -50,7 +50,7 @@ IsFirstFound stands made sc log true None = ⊥
 IsFirstFound stands made sc log true (Some end) = (made end ≡ setup_from sc) × stands end (events_at sc.master log)
 
 -- this slave, if it is one, has this place among these
-abbrev pub IsPlace : Option SlaveDesc → List SlaveDesc → Option ℕ → Type 0
-IsPlace None slaves place = place ≡ None
-IsPlace (Some d) slaves None = ⊥
-IsPlace (Some d) slaves (Some place) = slice_get slaves place ≡ Some d
+abbrev pub IsSeatPlace : Option SlaveDesc → List SlaveDesc → Option ℕ → Type 0
+IsSeatPlace None slaves place = place ≡ None
+IsSeatPlace (Some d) slaves None = ⊥
+IsSeatPlace (Some d) slaves (Some place) = slice_get slaves place ≡ Some d

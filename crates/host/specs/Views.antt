@@ -11,11 +11,11 @@ use Rattle.scenario.specs.declared.scenarios.Scenario.{Scenario}
 use Rattle.host.specs.declared.hosted.Hosted.{Hosted}
 use Rattle.host.specs.declared.hosted.Progress.{Progress}
 use Rattle.host.specs.declared.hosted.Progress.TheVariants.{Going, Done}
-use Rattle.slave_spec.specs.declared.words.Setup as slave
+use Rattle.slave_spec.specs.declared.words.SlaveSetup as slave
 use Rattle.master_spec.specs.declared.reports.Report.{Report}
 use Rattle.master_spec.specs.Course.{Course, course}
 use Rattle.master_spec.specs.Setup.{setup_from}
-use Rattle.master_core.specs.Columns.{value_at}
+use Rattle.master_core.specs.Columns.{column_value}
 use Rattle.slave_desc.specs.declared.descriptions.SlaveDesc.{SlaveDesc}
 use Rattle.host.specs.Hosting.{hosted_slave, master_of, slave_setup, slaves_of}
 
@@ -41,12 +41,12 @@ fault_of (Err fault) = Some fault
 abbrev pub Tells : Option (List LogEntry) → List LogEntry → Type 0
 Tells told log = IfSome told (λ calls. calls ≡ without_turns log)
 
-abbrev pub is_over_after : List LogEntry → Rules → Bool
-is_over_after log rules = rules.over (events_at rules.place log)
+abbrev pub rules_are_over : List LogEntry → Rules → Bool
+rules_are_over log rules = rules.over (events_at rules.place log)
 
 -- the hosted master has its report, or no master is hosted and each hosted slave is over
 abbrev pub is_done : Option Rules → List Rules → List LogEntry → Bool
-is_done None slaves log = list_all (is_over_after log) slaves
+is_done None slaves log = list_all (rules_are_over log) slaves
 is_done (Some master) slaves log = has_report (Some master) log
 
 abbrev pub progress_of : Bool → Progress
@@ -64,14 +64,14 @@ report_in host = if host.hosted.master then (course_in host).report else None
 abbrev pub row_count_in : HostView → ℕ
 row_count_in host = if host.hosted.master then length (course_in host).rows else 0
 
-abbrev pub value_in : HostView → (k slave port : ℕ) → Option ℤ
-value_in host k slave port = if host.hosted.master then value_at (setup_from host.scenario).slaves (course_in host).rows k slave port else None
+abbrev pub row_value : HostView → (k slave port : ℕ) → Option ℤ
+row_value host k slave port = if host.hosted.master then column_value (setup_from host.scenario).slaves (course_in host).rows k slave port else None
 
 -- what this gives of a slave and of all that happened to it
-abbrev pub of_slave : {A : Type 0} → HostView → (slave.Setup → List Event → Option A) → Option SlaveDesc → Option A
+abbrev pub of_slave : {A : Type 0} → HostView → (slave.SlaveSetup → List Event → Option A) → Option SlaveDesc → Option A
 of_slave host reading None = None
 of_slave host reading (Some d) = reading (slave_setup host.scenario d) (events_at d.address host.log)
 
 -- the same of the slave of a number, where it is hosted
-abbrev pub slave_in : {A : Type 0} → HostView → (s : ℕ) → (slave.Setup → List Event → Option A) → Option A
+abbrev pub slave_in : {A : Type 0} → HostView → (s : ℕ) → (slave.SlaveSetup → List Event → Option A) → Option A
 slave_in host s reading = of_slave host reading (hosted_slave host.scenario host.hosted s)

@@ -11,6 +11,12 @@ pub struct Hosted {
     pub slaves: u16,
 }
 
+/// The master and each slave that a scenario can have.
+pub const ALL_ENDS: Hosted = Hosted {
+    master: true,
+    slaves: u16::MAX,
+};
+
 /// Whether there is more to do.
 #[derive(Clone, Copy, Debug, PartialEq, Eq)]
 pub enum Progress {

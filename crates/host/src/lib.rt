@@ -17,6 +17,6 @@ mod readers;
 mod running;
 mod seated;
 
-pub use hosted::{Hosted, Progress};
+pub use hosted::{ALL_ENDS, Hosted, Progress};
 pub use hosts::Host;
 pub use rounds::HostFault;

@@ -4,7 +4,7 @@ ghost use Rattle.std.specs.Prelude.{◌≡◌, ◌≤◌, ◌+◌, ◌++◌, Lis
 ghost use Rattle.std.specs.List.{AllZip};
 ghost use Rattle.slave_desc.specs.Descriptions.{IsDesc};
 ghost use Rattle.scenario.specs.Sound.{IsScenario};
-ghost use Rattle.slave_spec.specs.declared.words.Setup.{Setup};
+ghost use Rattle.slave_spec.specs.declared.words.SlaveSetup.{SlaveSetup};
 ghost use Rattle.host.specs.Hosting.{hosted_from, hosted_slaves};
 ghost use Rattle.host.specs.Seats.{IsFresh, IsFirstFresh, Making, master_making, slave_making};
 
@@ -53,7 +53,7 @@ fn seat_hosted(
     requires micro { (1 ≤ scenario.now.micro) × (scenario.now.micro ≤ 1000) }
     requires descs { All (λ d. IsDesc d) descs.now }
     requires number { (1 ≤ slave) × (slave + length descs.now ≤ 17) }
-    ensures { OnOk result ((all : List (Making Setup)) → AllZip (IsFresh ⟦<SlaveSeat as Seat>⟧) seats.old.items all
+    ensures { OnOk result ((all : List (Making SlaveSetup)) → AllZip (IsFresh ⟦<SlaveSeat as Seat>⟧) seats.old.items all
         → AllZip (IsFresh ⟦<SlaveSeat as Seat>⟧) seats.new.items (all ++ map (slave_making scenario.now) (hosted_from hosted slave descs.now))) }
 {
     let [desc, rest @ ..] = descs else {

@@ -6,14 +6,14 @@ ghost use Rattle.std.specs.Option.{option_map};
 ghost use Rattle.dcp_ends.specs.declared.entries.LogEntry.{LogEntry};
 ghost use Rattle.rounds.specs.Rounds.{has_report};
 ghost use Rattle.rounds.specs.Told.{AllTold};
-ghost use Rattle.host.specs.Views.{is_done, is_over_after, progress_of};
+ghost use Rattle.host.specs.Views.{is_done, rules_are_over, progress_of};
 
 use crate::hosted::Progress;
 use rounds::Seat;
 
 /// Whether each of these ends is over.
 fn are_over<S: Seat>(slaves: &[S]) -> bool
-    ensures { (log : List LogEntry) → AllTold S.stands S.rules slaves.now log → result ≡ list_all (is_over_after log) (map S.rules slaves.now) }
+    ensures { (log : List LogEntry) → AllTold S.stands S.rules slaves.now log → result ≡ list_all (rules_are_over log) (map S.rules slaves.now) }
 {
     for seat in slaves {
         if !seat.is_over() {

@@ -6,8 +6,8 @@ ghost use Rattle.rounds.specs.Told.{Follows, FollowsUpTo};
 ghost use Rattle.master_spec.specs.Setup.{setup_from};
 ghost use Rattle.slave_spec.specs.Slaves.{state_after, steps_after, fault_after};
 ghost use Rattle.host.specs.Hosting.{hosted_slave, hosted_slaves, slave_setup};
-ghost use Rattle.host.specs.Seats.{IsFirstFound, IsFound, IsPlace};
-ghost use Rattle.host.specs.Views.{master_in, report_in, row_count_in, slave_in, slaves_in, value_in};
+ghost use Rattle.host.specs.Seats.{IsFirstFound, IsFoundSeat, IsSeatPlace};
+ghost use Rattle.host.specs.Views.{master_in, report_in, row_count_in, slave_in, slaves_in, row_value};
 
 use crate::hosted::Hosted;
 use crate::hosts::Host;
@@ -22,7 +22,7 @@ use scenario::{Scenario, slave_at};
 
 /// The place of a hosted slave among those that are hosted, from 0.
 fn place_of(scenario: &Scenario, hosted: Hosted, slave: u8) -> Option<usize>
-    ensures { IsPlace (hosted_slave scenario.now hosted slave) (hosted_slaves scenario.now hosted) result }
+    ensures { IsSeatPlace (hosted_slave scenario.now hosted slave) (hosted_slaves scenario.now hosted) result }
 {
     let Some(_desc) = slave_at(scenario.slaves.as_slice(), slave) else {
         return None;
@@ -106,7 +106,7 @@ impl Host {
     /// The value of a port in row k, which counts over all runs; slaves count from 1, ports from 0. None
     /// where there is no such row, slave or port, or no master is hosted.
     pub fn row(&self, k: u32, slave: u8, port: u8) -> Option<i128>
-        ensures { result ≡ value_in self.now k slave port }
+        ensures { result ≡ row_value self.now k slave port }
     {
         match self.master_seat() {
             Some(seat) => seat.end().row(k, slave, port),
@@ -128,7 +128,7 @@ impl Host {
 
     /// The seat of a hosted slave.
     fn seat_of(&self, slave: u8) -> Option<&SlaveSeat>
-        ensures { IsFound ⟦<SlaveSeat as Seat>⟧.stands ⟦<SlaveSeat as Seat>⟧.made self.now.scenario self.now.log (hosted_slave self.now.scenario self.now.hosted slave) (option_copied result) }
+        ensures { IsFoundSeat ⟦<SlaveSeat as Seat>⟧.stands ⟦<SlaveSeat as Seat>⟧.made self.now.scenario self.now.log (hosted_slave self.now.scenario self.now.hosted slave) (option_copied result) }
     {
         match place_of(&self.scenario, self.hosted, slave) {
             Some(place) => seat_at(&self.slaves, place),

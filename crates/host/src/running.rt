@@ -1,8 +1,7 @@
 //! One round of ends, with how far they are after it.
 
-ghost use Rattle.std.specs.Prelude.{◌≡◌, None, Option, List, IsTrue, OnOk, OnErr, IfOk, map};
+ghost use Rattle.std.specs.Prelude.{◌≡◌, None, Option, IsTrue, OnOk, OnErr, IfOk, map};
 ghost use Rattle.std.specs.Option.{option_map};
-ghost use Rattle.dcp_ends.specs.Events.{Rules};
 ghost use Rattle.rounds.specs.Rounds.{IsRound, IsRoundPart};
 ghost use Rattle.rounds.specs.Steps.{AddsPart, Caused};
 ghost use Rattle.host.specs.Views.{fault_of, is_done, progress_of};

@@ -5,7 +5,8 @@ use Rattle.scenario.specs.declared.scenarios.Scenario.{Scenario}
 use Rattle.scenario.specs.Sound.{IsScenario}
 use Rattle.host.specs.declared.hosted.Hosted.{Hosted}
 use Rattle.host.specs.Views.{HostView}
-use Rattle.host_laws.specs.Lockstep.{all_ends, HostsAll}
+use Rattle.host_laws.specs.Lockstep.{HostsAll}
+use Rattle.host.specs.Hosting.{all_ends}
 
 bit : (n : ℕ) → n < 16 → ((65535 / 2 ^ n) % 2 == 1) ≡ true
 bit zero few = refl

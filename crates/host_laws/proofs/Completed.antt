@@ -16,11 +16,11 @@ use Rattle.slave_desc.specs.declared.descriptions.SlaveDesc.{SlaveDesc}
 use Rattle.scenario.specs.declared.scenarios.Scenario.{Scenario}
 use Rattle.scenario.specs.Sound.{IsScenario}
 use Rattle.master_spec.specs.Rules.{master_rules}
-use Rattle.slave_spec.specs.Slaves.{rules_from}
+use Rattle.slave_spec.specs.Slaves.{slave_rules_from}
 use Rattle.model_laws.specs.Scenarios.{slave_numbered}
 use Rattle.pdu_layout.specs.Reading.{message_in}
 use Rattle.model_laws.proofs.Scenarios.{has_parties}
-use Rattle.run_laws.specs.Laws.{parties, setup_of, IsRunOf}
+use Rattle.run_laws.specs.Laws.{parties, slave_setup_of, IsRunOf}
 use Rattle.headline_laws.specs.Headline.{KeepsToReference}
 use Rattle.host_laws.proofs.Left.{address_is, left_sent, one_end}
 use Rattle.host_laws.proofs.Fronts.{Calm, calm_more, ends_join, ends_sent, ends_turned, other_sent, rests}
@@ -108,7 +108,7 @@ apart_false a b apart = by (cases_Bool (same_address a b))
 
 -- ---- a log of all ends of a scenario, each of which may have sends of the last event left
 module _ (sc : Scenario) (other : SlaveDesc) (ok : IsScenario sc) (log : List LogEntry) (honest : Honest (parties sc other) log) (ends : AreAtEnds (parties sc other) log) (calm : (a : Address) → Calm a log)
-    (master : FollowsUpTo (master_rules sc) log) (slaves : (s : ℕ) → IsSlaveOf (parties sc other) s → FollowsUpTo (rules_from (setup_of sc other s)) log) where
+    (master : FollowsUpTo (master_rules sc) log) (slaves : (s : ℕ) → IsSlaveOf (parties sc other) s → FollowsUpTo (slave_rules_from (slave_setup_of sc other s)) log) where
   apart : PartiesApart (parties sc other)
   apart = (has_parties sc other ok message_in).apart
 
@@ -117,7 +117,7 @@ module _ (sc : Scenario) (other : SlaveDesc) (ok : IsScenario sc) (log : List Lo
     pub left : List LogEntry
     pub run : IsRunOf sc other (log ++ left)
 
-  nothing_left : Follows (master_rules sc) log → ((s : ℕ) → IsSlaveOf (parties sc other) s → Follows (rules_from (setup_of sc other s)) log) → Completed
+  nothing_left : Follows (master_rules sc) log → ((s : ℕ) → IsSlaveOf (parties sc other) s → Follows (slave_rules_from (slave_setup_of sc other s)) log) → Completed
   nothing_left m f =
       let run : IsRunOf sc other log = record {
         honest = honest;
@@ -136,7 +136,7 @@ module _ (sc : Scenario) (other : SlaveDesc) (ok : IsScenario sc) (log : List Lo
       subst P (sym e.form) (subst Q (sym (append_assoc e.before (entry_of b e.event ∷ e.sents) left)) more)
 
   some_left : (b : Address) (left : List LogEntry) → IsEnd (parties sc other) b → AllSent b left → EndsIn b log → Follows (master_rules sc) (log ++ left)
-      → ((s : ℕ) → IsSlaveOf (parties sc other) s → Follows (rules_from (setup_of sc other s)) (log ++ left)) → Completed
+      → ((s : ℕ) → IsSlaveOf (parties sc other) s → Follows (slave_rules_from (slave_setup_of sc other s)) (log ++ left)) → Completed
   some_left b left at_end all e m f = record {
     left = left;
     run = record {
@@ -150,11 +150,11 @@ module _ (sc : Scenario) (other : SlaveDesc) (ok : IsScenario sc) (log : List Lo
 
   -- the log ends in no other slave's event, so that one has sent all
   slave_whole : (b : Address) → EndsIn b log → (s : ℕ) → IsSlaveOf (parties sc other) s → ((slave_numbered sc other s).address ≡ b → ⊥) → (left : List LogEntry) → AllSent b left
-      → Follows (rules_from (setup_of sc other s)) (log ++ left)
-  slave_whole b e s is far left all = by (settled (rules_from (setup_of sc other s)) log (slaves s is))
+      → Follows (slave_rules_from (slave_setup_of sc other s)) (log ++ left)
+  slave_whole b e s is far left all = by (settled (slave_rules_from (slave_setup_of sc other s)) log (slaves s is))
     where
-      by : Follows (rules_from (setup_of sc other s)) log ⊎ EndsIn (slave_numbered sc other s).address log → Follows (rules_from (setup_of sc other s)) (log ++ left)
-      by (inl f) = follows_other (rules_from (setup_of sc other s)) b log left (apart_false (slave_numbered sc other s).address b far) all f
+      by : Follows (slave_rules_from (slave_setup_of sc other s)) log ⊎ EndsIn (slave_numbered sc other s).address log → Follows (slave_rules_from (slave_setup_of sc other s)) (log ++ left)
+      by (inl f) = follows_other (slave_rules_from (slave_setup_of sc other s)) b log left (apart_false (slave_numbered sc other s).address b far) all f
       by (inr x) = absurd (far (one_end (slave_numbered sc other s).address b log x e))
 
   -- the master's last event is the newest
@@ -168,33 +168,33 @@ module _ (sc : Scenario) (other : SlaveDesc) (ok : IsScenario sc) (log : List Lo
   slave_left m s is e =
       let up = slaves s is in
       let a = (slave_numbered sc other s).address in
-      let all = left_sent (rules_from (setup_of sc other s)) log up.left up.own in
+      let all = left_sent (slave_rules_from (slave_setup_of sc other s)) log up.left up.own in
       let far : same_address sc.master a ≡ false = apart_false sc.master a (λ z. apart.master s is (sym z)) in
       some_left a up.left (inr (s, is, refl)) all e (follows_other (master_rules sc) a log up.left far all m) (λ t it. each t it (cases_eq t s))
     where
-      each : (t : ℕ) → IsSlaveOf (parties sc other) t → (t ≡ s) ⊎ (t ≡ s → ⊥) → Follows (rules_from (setup_of sc other t)) (log ++ (slaves s is).left)
-      each t it (inl same) = subst (λ (n : ℕ). Follows (rules_from (setup_of sc other n)) (log ++ (slaves s is).left)) (sym same) (follows_all (rules_from (setup_of sc other s)) log (slaves s is))
+      each : (t : ℕ) → IsSlaveOf (parties sc other) t → (t ≡ s) ⊎ (t ≡ s → ⊥) → Follows (slave_rules_from (slave_setup_of sc other t)) (log ++ (slaves s is).left)
+      each t it (inl same) = subst (λ (n : ℕ). Follows (slave_rules_from (slave_setup_of sc other n)) (log ++ (slaves s is).left)) (sym same) (follows_all (slave_rules_from (slave_setup_of sc other s)) log (slaves s is))
       each t it (inr ne) =
-          slave_whole (slave_numbered sc other s).address e t it (λ z. ne (apart.slaves t s it is z)) (slaves s is).left (left_sent (rules_from (setup_of sc other s)) log (slaves s is).left (slaves s is).own)
+          slave_whole (slave_numbered sc other s).address e t it (λ z. ne (apart.slaves t s it is z)) (slaves s is).left (left_sent (slave_rules_from (slave_setup_of sc other s)) log (slaves s is).left (slaves s is).own)
 
   abbrev Found : ℕ → Type 0
-  Found n = ((s : ℕ) → IsSlaveOf (parties sc other) s → s ≤ n → Follows (rules_from (setup_of sc other s)) log) ⊎ ((s : ℕ) × IsSlaveOf (parties sc other) s × EndsIn (slave_numbered sc other s).address log)
+  Found n = ((s : ℕ) → IsSlaveOf (parties sc other) s → s ≤ n → Follows (slave_rules_from (slave_setup_of sc other s)) log) ⊎ ((s : ℕ) × IsSlaveOf (parties sc other) s × EndsIn (slave_numbered sc other s).address log)
 
   -- of the slaves up to this one all have sent all, or the log ends in an event of one of them
   find : (n : ℕ) → n ≤ (parties sc other).count → Found n
   find zero le = inl (λ s is few. absurd (omega (arith, is.0, few)))
-  find (suc n) le = by (find n (omega (arith, le))) (settled (rules_from (setup_of sc other (suc n))) log (slaves (suc n) here))
+  find (suc n) le = by (find n (omega (arith, le))) (settled (slave_rules_from (slave_setup_of sc other (suc n))) log (slaves (suc n) here))
     where
       here : IsSlaveOf (parties sc other) (suc n)
       here = (omega arith, le)
 
-      by : Found n → Follows (rules_from (setup_of sc other (suc n))) log ⊎ EndsIn (slave_numbered sc other (suc n)).address log → Found (suc n)
+      by : Found n → Follows (slave_rules_from (slave_setup_of sc other (suc n))) log ⊎ EndsIn (slave_numbered sc other (suc n)).address log → Found (suc n)
       by (inr found) this = inr found
       by (inl f) (inr e) = inr (suc n, here, e)
       by (inl f) (inl g) = inl (λ s is few. each s is few (cases_eq s (suc n)))
         where
-          each : (s : ℕ) → IsSlaveOf (parties sc other) s → s ≤ suc n → (s ≡ suc n) ⊎ (s ≡ suc n → ⊥) → Follows (rules_from (setup_of sc other s)) log
-          each s is few (inl same) = subst (λ (k : ℕ). Follows (rules_from (setup_of sc other k)) log) (sym same) g
+          each : (s : ℕ) → IsSlaveOf (parties sc other) s → s ≤ suc n → (s ≡ suc n) ⊎ (s ≡ suc n → ⊥) → Follows (slave_rules_from (slave_setup_of sc other s)) log
+          each s is few (inl same) = subst (λ (k : ℕ). Follows (slave_rules_from (slave_setup_of sc other k)) log) (sym same) g
           each s is few (inr ne) = f s is (grind (arith, few, ne))
 
   pub completed : Completed

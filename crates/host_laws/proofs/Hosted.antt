@@ -19,16 +19,16 @@ use Rattle.slave_desc.specs.declared.descriptions.SlaveDesc.{SlaveDesc}
 use Rattle.scenario.specs.declared.scenarios.Scenario.{Scenario}
 use Rattle.scenario.specs.Sound.{IsScenario}
 use Rattle.master_spec.specs.Rules.{master_rules}
-use Rattle.slave_spec.specs.Slaves.{rules_from}
+use Rattle.slave_spec.specs.Slaves.{slave_rules_from}
 use Rattle.model_laws.specs.Scenarios.{slave_numbered}
 use Rattle.model_laws.proofs.Scenarios.{has_parties}
-use Rattle.run_laws.specs.Laws.{parties, setup_of, slave_rules}
+use Rattle.run_laws.specs.Laws.{parties, slave_setup_of, rules_of_slaves}
 use Rattle.headline_laws.specs.Headline.{KeepsToReference}
 use Rattle.headline_laws.proofs.Headline.{keep_to_reference}
 use Rattle.host.specs.declared.hosted.Hosted.{Hosted}
 use Rattle.host.specs.Hosting.{is_hosted, hosted_from}
 use Rattle.host.specs.Views.{HostView, master_in, slaves_in}
-use Rattle.host_laws.specs.Lockstep.{HostsAll, IsInRounds, KeepsInStep}
+use Rattle.host_laws.specs.Lockstep.{HostsAll, IsInRounds, HostKeepsInStep}
 use Rattle.host_laws.proofs.Fronts.{AllAt, Calm, are_at_ends, is_calm}
 use Rattle.host_laws.proofs.Completed.{completed, keeps_front}
 
@@ -39,16 +39,16 @@ all_from hosted s (d ∷ ds) h =
     cond-true (is_hosted hosted s) (d ∷ hosted_from hosted (s + 1) ds) (hosted_from hosted (s + 1) ds) (h s (omega arith) (omega arith))
     ∙ ap (λ (l : List SlaveDesc). d ∷ l) (all_from hosted (s + 1) ds (λ t le lt. h t (omega (arith, le)) (omega (arith, lt))))
 
-pub slaves_are : (host : HostView) → HostsAll host → slaves_in host ≡ slave_rules host.scenario
+pub slaves_are : (host : HostView) → HostsAll host → slaves_in host ≡ rules_of_slaves host.scenario
 slaves_are host all =
-    ap (map (λ (d : SlaveDesc). rules_from (record { desc = d; micro = host.scenario.micro })))
+    ap (map (λ (d : SlaveDesc). slave_rules_from (record { desc = d; micro = host.scenario.micro })))
     (all_from host.hosted 1 host.scenario.slaves (λ t le lt. all.slaves t (le, omega (arith, lt))))
 
 pub master_is : (host : HostView) → HostsAll host → master_in host ≡ Some (master_rules host.scenario)
 master_is host all = cond-true host.hosted.master (Some (master_rules host.scenario)) None all.master
 
 -- ---- the ends of a scenario
-anywhere : (sc : Scenario) (ds : List SlaveDesc) (E : Address → Type 0) → ((i : ℕ) (d : SlaveDesc) → slice_get ds i ≡ Some d → E d.address) → AllAt E (map (λ (d : SlaveDesc). rules_from (record { desc = d; micro = sc.micro })) ds)
+anywhere : (sc : Scenario) (ds : List SlaveDesc) (E : Address → Type 0) → ((i : ℕ) (d : SlaveDesc) → slice_get ds i ≡ Some d → E d.address) → AllAt E (map (λ (d : SlaveDesc). slave_rules_from (record { desc = d; micro = sc.micro })) ds)
 anywhere sc [] E h = tt
 anywhere sc (d ∷ ds) E h = (h 0 d refl, anywhere sc ds E (λ i d e. h (suc i) d e))
 
@@ -68,9 +68,9 @@ fronts_of host before part None front = inl front
 fronts_of host before part (Some fault) front = front
 
 module _ (host : HostView) (all : HostsAll host) (other : SlaveDesc) where
-  slave_follows : All (λ r. FollowsUpTo r host.log) (slave_rules host.scenario) → (s : ℕ) → IsSlaveOf (parties host.scenario other) s → FollowsUpTo (rules_from (setup_of host.scenario other s)) host.log
+  slave_follows : All (λ r. FollowsUpTo r host.log) (rules_of_slaves host.scenario) → (s : ℕ) → IsSlaveOf (parties host.scenario other) s → FollowsUpTo (slave_rules_from (slave_setup_of host.scenario other s)) host.log
   slave_follows each s is =
-      let rules : SlaveDesc → Rules = λ d. rules_from (record { desc = d; micro = host.scenario.micro }) in
+      let rules : SlaveDesc → Rules = λ d. slave_rules_from (record { desc = d; micro = host.scenario.micro }) in
       let many : length (map rules host.scenario.slaves) ≡ length host.scenario.slaves = rw length-map refl in
       let within : s - 1 < length (map rules host.scenario.slaves) = omega (arith, is.0, is.1, many) in
       subst (λ (r : Rules). FollowsUpTo r host.log) (get_or-map rules host.scenario.slaves (s - 1) other) (each (s - 1) (rules other) within)
@@ -79,24 +79,24 @@ module _ (host : HostView) (all : HostsAll host) (other : SlaveDesc) where
   master_follows None none up = absurd cc
   master_follows (Some r) same up = let z : r ≡ master_rules host.scenario = cc in subst (λ (r : Rules). FollowsUpTo r host.log) z up
 
-  module _ (honest : Honest (parties host.scenario other) host.log) (up : FollowsUpTo (master_rules host.scenario) host.log) (each : All (λ r. FollowsUpTo r host.log) (slave_rules host.scenario))
-      (n : ℕ) (before part : List LogEntry) (rounds : Rounds (Some (master_rules host.scenario)) (slave_rules host.scenario) n before) (form : host.log ≡ before ++ part)
-      (front : (part ≡ []) ⊎ IsRoundPart (Some (master_rules host.scenario)) (slave_rules host.scenario) before part) where
+  module _ (honest : Honest (parties host.scenario other) host.log) (up : FollowsUpTo (master_rules host.scenario) host.log) (each : All (λ r. FollowsUpTo r host.log) (rules_of_slaves host.scenario))
+      (n : ℕ) (before part : List LogEntry) (rounds : Rounds (Some (master_rules host.scenario)) (rules_of_slaves host.scenario) n before) (form : host.log ≡ before ++ part)
+      (front : (part ≡ []) ⊎ IsRoundPart (Some (master_rules host.scenario)) (rules_of_slaves host.scenario) before part) where
     at_ends : AreAtEnds (parties host.scenario other) host.log
     at_ends =
         subst (λ (l : List LogEntry). AreAtEnds (parties host.scenario other) l) (sym form)
-        (are_at_ends (master_rules host.scenario) (slave_rules host.scenario) n before part rounds front (parties host.scenario other) (inl refl)
+        (are_at_ends (master_rules host.scenario) (rules_of_slaves host.scenario) n before part rounds front (parties host.scenario other) (inl refl)
         (anywhere host.scenario host.scenario.slaves (IsEnd (parties host.scenario other)) (slave_end host.scenario other all.sound)))
 
     calm : (a : Address) → Calm a host.log
-    calm a = subst (λ (l : List LogEntry). Calm a l) (sym form) (is_calm (master_rules host.scenario) (slave_rules host.scenario) n before part rounds front a)
+    calm a = subst (λ (l : List LogEntry). Calm a l) (sym form) (is_calm (master_rules host.scenario) (rules_of_slaves host.scenario) n before part rounds front a)
 
     pub keeps : KeepsToReference host.scenario other host.log
     keeps =
         let whole = completed host.scenario other all.sound host.log honest at_ends calm up (slave_follows each) in
         keeps_front host.scenario other host.log whole.left (keep_to_reference host.scenario other all.sound (host.log ++ whole.left) whole.run)
 
-pub keeps_in_step : (host : HostView) → HostsAll host → IsInRounds host → IfSome (master_in host) (λ r. FollowsUpTo r host.log) → All (λ r. FollowsUpTo r host.log) (slaves_in host) → KeepsInStep host
+pub keeps_in_step : (host : HostView) → HostsAll host → IsInRounds host → IfSome (master_in host) (λ r. FollowsUpTo r host.log) → All (λ r. FollowsUpTo r host.log) (slaves_in host) → HostKeepsInStep host
 keeps_in_step host all in_rounds up each = λ other honest. (
     let ms = master_is host all in
     let ss = slaves_are host all in

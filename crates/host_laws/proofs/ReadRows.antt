@@ -13,12 +13,12 @@ use Rattle.master_spec.specs.declared.setups.Slave.{Slave}
 use Rattle.master_spec.specs.declared.reports.Report.TheVariants.{Finished}
 use Rattle.master_spec.specs.Setup.{setup_from}
 use Rattle.master_spec.specs.Course.{Course, course}
-use Rattle.master_core.specs.Columns.{value_at}
+use Rattle.master_core.specs.Columns.{column_value}
 use Rattle.index_laws.specs.Runs.{course_at}
 use Rattle.scenario_laws.proofs.Scenarios.{events_reverse}
 use Rattle.headline_laws.specs.Headline.{IsInLockstep, KeepsToReference}
-use Rattle.host.specs.Views.{HostView, course_in, report_in, row_count_in, value_in}
-use Rattle.host_laws.specs.Lockstep.{HostsAll, KeepsInStep}
+use Rattle.host.specs.Views.{HostView, course_in, report_in, row_count_in, row_value}
+use Rattle.host_laws.specs.Lockstep.{HostsAll, HostKeepsInStep}
 use Rattle.host_laws.specs.Readings.{OfReference}
 
 -- ---- the reference is one, so what holds at the end of the log holds of it
@@ -32,7 +32,7 @@ at_end sc other log k rows fault reference =
 course_is : (sc : Scenario) (log : List LogEntry) → course_at (setup_from sc) (reverse log) ≡ course (setup_from sc) (reverse (events_at sc.master log))
 course_is sc log = ap (course (setup_from sc)) (events_reverse (setup_from sc) log)
 
-module _ (host : HostView) (all : HostsAll host) (step : KeepsInStep host) where
+module _ (host : HostView) (all : HostsAll host) (step : HostKeepsInStep host) where
   -- at the end of the log, for the reference
   pub now_of : (Holds : List (List ℤ) → Option RefFault → Type 0) → ((other : SlaveDesc) (rows : List (List ℤ)) (fault : Option RefFault) → IsInLockstep host.scenario other rows fault (reverse host.log) → Holds rows fault) → OfReference host Holds
   now_of Holds h = λ other honest rows fault reference. h other rows fault (at_end host.scenario other host.log (step other honest) rows fault reference)
@@ -74,23 +74,23 @@ module _ (host : HostView) (all : HostsAll host) (step : KeepsInStep host) where
       ))
 
 -- ---- the value of a row that is there
-front_value : (slaves : List Slave) (rows rest : List (List ℤ)) (k id port : ℕ) (v : ℤ) → value_at slaves rows k id port ≡ Some v → value_at slaves (rows ++ rest) k id port ≡ Some v
+front_value : (slaves : List Slave) (rows rest : List (List ℤ)) (k id port : ℕ) (v : ℤ) → column_value slaves rows k id port ≡ Some v → column_value slaves (rows ++ rest) k id port ≡ Some v
 front_value slaves [] rest k id port v h = absurd cc
 front_value slaves (row ∷ rows) rest zero id port v h = h
 front_value slaves (row ∷ rows) rest (suc k) id port v h = front_value slaves rows rest k id port v h
 
-module _ (host : HostView) (all : HostsAll host) (step : KeepsInStep host) (k slave port : ℕ) where
-  value_is : value_in host k slave port ≡ value_at (setup_from host.scenario).slaves (course_in host).rows k slave port
-  value_is = cond-true host.hosted.master (value_at (setup_from host.scenario).slaves (course_in host).rows k slave port) None all.master
+module _ (host : HostView) (all : HostsAll host) (step : HostKeepsInStep host) (k slave port : ℕ) where
+  value_is : row_value host k slave port ≡ column_value (setup_from host.scenario).slaves (course_in host).rows k slave port
+  value_is = cond-true host.hosted.master (column_value (setup_from host.scenario).slaves (course_in host).rows k slave port) None all.master
 
-  pub value_of : (result : Option ℤ) → result ≡ value_in host k slave port
-      → OfReference host (λ rows fault. IfSome result (λ v. value_at (setup_from host.scenario).slaves rows k slave port ≡ Some v))
+  pub value_of : (result : Option ℤ) → result ≡ row_value host k slave port
+      → OfReference host (λ rows fault. IfSome result (λ v. column_value (setup_from host.scenario).slaves rows k slave port ≡ Some v))
   value_of None same = λ other honest rows fault reference. tt
   value_of (Some v) same =
-      now_of host all step (λ rows fault. value_at (setup_from host.scenario).slaves rows k slave port ≡ Some v)
+      now_of host all step (λ rows fault. column_value (setup_from host.scenario).slaves rows k slave port ≡ Some v)
       (λ other rows fault x. (
       let f = front_is host all step other rows fault x in
       let here = sym value_is ∙ sym same in
-      let P : List (List ℤ) → Type 0 = λ r. value_at (setup_from host.scenario).slaves r k slave port ≡ Some v in
+      let P : List (List ℤ) → Type 0 = λ r. column_value (setup_from host.scenario).slaves r k slave port ≡ Some v in
       subst P (sym f.1) (front_value (setup_from host.scenario).slaves (course_in host).rows f.0 k slave port v here)
       ))

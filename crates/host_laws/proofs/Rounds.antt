@@ -7,7 +7,8 @@ use Rattle.rounds.specs.Steps.{AddsPart}
 use Rattle.rounds.specs.declared.one_end.HostFault.{HostFault}
 use Rattle.scenario.specs.declared.scenarios.Scenario.{Scenario}
 use Rattle.host.specs.Views.{HostView, fault_of, master_in, slaves_in}
-use Rattle.host_laws.specs.Lockstep.{all_ends, HostsAll, IsInRounds}
+use Rattle.host_laws.specs.Lockstep.{HostsAll, IsInRounds}
+use Rattle.host.specs.Hosting.{all_ends}
 
 -- what stands behind the whole rounds, by the fault
 abbrev Behind : Option Rules → List Rules → (before part : List LogEntry) → Option HostFault → Type 0

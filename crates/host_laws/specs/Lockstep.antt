@@ -7,13 +7,8 @@ use Rattle.slave_desc.specs.declared.descriptions.SlaveDesc.{SlaveDesc}
 use Rattle.scenario.specs.Sound.{IsScenario, IsSlave}
 use Rattle.run_laws.specs.Laws.{parties}
 use Rattle.headline_laws.specs.Headline.{KeepsToReference}
-use Rattle.host.specs.declared.hosted.Hosted.{Hosted}
 use Rattle.host.specs.Hosting.{is_hosted}
 use Rattle.host.specs.Views.{HostView, master_in, slaves_in}
-
--- the master and each slave that there is
-abbrev pub all_ends : Hosted
-all_ends = record { master = true; slaves = 65535 }
 
 -- the scenario is sound, and its master and each of its slaves are hosted
 pub record HostsAll (host : HostView) : Type 0 where
@@ -31,5 +26,5 @@ pub record IsInRounds (host : HostView) : Type 0 where
   pub front : MatchOption host.fault (part ≡ []) (λ _. (part ≡ []) ⊎ IsRoundPart (master_in host) (slaves_in host) before part)
 
 -- Where the network delivers only what was sent, and nothing that is too old, the log keeps to the reference from its first moment to its last. What stands for slaves that are not there does not matter.
-abbrev pub KeepsInStep : HostView → Type 0
-KeepsInStep host = (other : SlaveDesc) → Honest (parties host.scenario other) host.log → KeepsToReference host.scenario other host.log
+abbrev pub HostKeepsInStep : HostView → Type 0
+HostKeepsInStep host = (other : SlaveDesc) → Honest (parties host.scenario other) host.log → KeepsToReference host.scenario other host.log

@@ -4,21 +4,15 @@ ghost use Rattle.std.specs.Prelude.{◌≡◌, [], None, Err, IsTrue, IfOk, IfSo
 ghost use Rattle.scenario.specs.Sound.{IsScenario};
 ghost use Rattle.rounds.specs.Rounds.{IsRound, IsRoundPart};
 ghost use Rattle.rounds.specs.Steps.{AddsPart, Caused};
-ghost use Rattle.host.specs.Hosting.{opening_of};
+ghost use Rattle.host.specs.Hosting.{all_ends, opening_of};
 ghost use Rattle.host.specs.Views.{fault_of, is_done, master_in, progress_of, slaves_in, Tells};
-ghost use Rattle.host_laws.specs.Lockstep.{all_ends, HostsAll, IsInRounds, KeepsInStep};
+ghost use Rattle.host_laws.specs.Lockstep.{HostsAll, IsInRounds, HostKeepsInStep};
 
 use dcp_net::Net;
 use dcp_types::OutOfMemory;
-use host::{Host, HostFault, Hosted, Progress};
+use host::{ALL_ENDS, Host, HostFault, Progress};
 use scenario::Scenario;
 use std::alloc::Global;
-
-/// The master and each slave that a scenario can have.
-const ALL: Hosted = Hosted {
-    master: true,
-    slaves: 65_535,
-};
 
 /// A host of the master and all slaves of a scenario, to which nothing has happened. It takes the memory of the
 /// ends.
@@ -28,7 +22,7 @@ pub fn host_of_all(alloc: Global, scenario: Scenario) -> Result<Host, OutOfMemor
     ensures all { IfOk result (λ host. HostsAll host) }
     ensures in_rounds { IfOk result (λ host. IsInRounds host) }
 {
-    Host::new(alloc, scenario, ALL)
+    Host::new(alloc, scenario, ALL_ENDS)
 }
 
 /// Opens the network for a host of all ends, before the first round.
@@ -68,7 +62,7 @@ pub fn round<N: Net>(host: &mut Host, net: &mut N) -> Result<Progress, HostFault
     ensures cause { host.old.fault ≡ None → Caused (N.count net.old) (N.count net.new) result }
     ensures all { HostsAll host.new }
     ensures in_rounds { IsInRounds host.new }
-    ensures in_step { KeepsInStep host.new }
+    ensures in_step { HostKeepsInStep host.new }
 {
     let result = host.round(net);
     keeps_in_step(host);
@@ -80,7 +74,7 @@ pub fn round<N: Net>(host: &mut Host, net: &mut N) -> Result<Progress, HostFault
 pub fn keeps_in_step(host: &Host)
     requires all { HostsAll host.now }
     requires in_rounds { IsInRounds host.now }
-    ensures { KeepsInStep host.now }
+    ensures { HostKeepsInStep host.now }
 {
     let _log = host.log();
 }

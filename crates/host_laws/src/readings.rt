@@ -3,9 +3,9 @@
 ghost use Rattle.std.specs.Prelude.{◌≡◌, ◌≤◌, ℕ, None, Some, IfSome, length};
 ghost use Rattle.master_spec.specs.declared.reports.Report.TheVariants.{Finished};
 ghost use Rattle.master_spec.specs.Setup.{setup_from};
-ghost use Rattle.master_core.specs.Columns.{value_at};
+ghost use Rattle.master_core.specs.Columns.{column_value};
 ghost use Rattle.scenario.specs.Lookups.{slave_at};
-ghost use Rattle.host.specs.Views.{report_in, row_count_in, value_in};
+ghost use Rattle.host.specs.Views.{report_in, row_count_in, row_value};
 ghost use Rattle.host_laws.specs.Lockstep.{HostsAll, IsInRounds};
 ghost use Rattle.host_laws.specs.Readings.{IsCloseToAll, OfReference, plant_in, StandsInLockstep};
 
@@ -30,8 +30,8 @@ pub fn rows(host: &Host) -> u32
 pub fn row(host: &Host, k: u32, slave: u8, port: u8) -> Option<i128>
     requires all { HostsAll host.now }
     requires in_rounds { IsInRounds host.now }
-    ensures value { result ≡ value_in host.now k slave port }
-    ensures of_reference { OfReference host.now (λ rows fault. IfSome result (λ value. value_at (setup_from host.now.scenario).slaves rows k slave port ≡ Some value)) }
+    ensures value { result ≡ row_value host.now k slave port }
+    ensures of_reference { OfReference host.now (λ rows fault. IfSome result (λ value. column_value (setup_from host.now.scenario).slaves rows k slave port ≡ Some value)) }
 {
     keeps_in_step(host);
     host.row(k, slave, port)

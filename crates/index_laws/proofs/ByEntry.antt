@@ -11,8 +11,8 @@ use Rattle.dcp_ends.specs.Logs.{same_address, own_at, sent_by, answered, events_
 use Rattle.master_spec.specs.declared.setups.Setup.{Setup}
 use Rattle.master_spec.specs.Setup.{setup_from}
 use Rattle.master_spec.specs.Course.{course}
-use Rattle.master_spec.specs.Rules.{rules_from}
-use Rattle.index_laws.specs.Runs.{with_event, events, owed, tail, IsFirst, where_it_is, IsRun}
+use Rattle.master_spec.specs.Rules.{master_rules_from}
+use Rattle.index_laws.specs.Runs.{with_event, events_of_master, owed, tail, IsFirstSend, where_it_is, IsRun}
 use Rattle.index_laws.specs.Laws.{RunsEntryByEntry}
 
 -- ---- either way round
@@ -30,20 +30,20 @@ address_turned a b = ap (λ (x : Bool). x && (a.port == b.port)) (equal_turned a
 
 -- what is still to come of a log, after these events, with these sends still to be made
 abbrev Comes : Setup → List LogEntry → List Event → List Send → Type 0
-Comes setup rest before posts = own_at setup.address rest ≡ sent_by setup.address posts ++ answered (rules_from setup) before (events_at setup.address rest)
+Comes setup rest before posts = own_at setup.address rest ≡ sent_by setup.address posts ++ answered (master_rules_from setup) before (events_at setup.address rest)
 
 -- ---- a send is the first that is owed
 record IsSend (setup : Setup) (rest : List LogEntry) (before : List Event) (posts : List Send) (to : Address) (bytes : List ℕ) : Type 0 where
-  pub first : IsFirst posts to bytes
+  pub first : IsFirstSend posts to bytes
   pub comes : Comes setup rest before (tail posts)
 
-no_event : (setup : Setup) (from to : Address) (bytes : List ℕ) (rest : List LogEntry) (before : List Event) (more : List Event) → Sent from to bytes ∷ rest ≡ answered (rules_from setup) before more → ⊥
+no_event : (setup : Setup) (from to : Address) (bytes : List ℕ) (rest : List LogEntry) (before : List Event) (more : List Event) → Sent from to bytes ∷ rest ≡ answered (master_rules_from setup) before more → ⊥
 no_event setup from to bytes rest before [] h = cc
 no_event setup from to bytes rest before (Gram f b ∷ more) h = cc
 no_event setup from to bytes rest before (Tick ∷ more) h = cc
 
 sends_first : (setup : Setup) (from to : Address) (bytes : List ℕ) (rest : List LogEntry) (before : List Event) (posts : List Send)
-    → Sent from to bytes ∷ own_at setup.address rest ≡ sent_by setup.address posts ++ answered (rules_from setup) before (events_at setup.address rest) → IsSend setup rest before posts to bytes
+    → Sent from to bytes ∷ own_at setup.address rest ≡ sent_by setup.address posts ++ answered (master_rules_from setup) before (events_at setup.address rest) → IsSend setup rest before posts to bytes
 sends_first setup from to bytes rest before [] h = absurd (no_event setup from to bytes (own_at setup.address rest) before (events_at setup.address rest) h)
 sends_first setup from to bytes rest before (p ∷ ps) h = record { first = (same_to, same_bytes); comes = same_rest }
   where
@@ -53,7 +53,7 @@ sends_first setup from to bytes rest before (p ∷ ps) h = record { first = (sam
     same_bytes : p.bytes ≡ bytes
     same_bytes = cc
 
-    same_rest : own_at setup.address rest ≡ sent_by setup.address ps ++ answered (rules_from setup) before (events_at setup.address rest)
+    same_rest : own_at setup.address rest ≡ sent_by setup.address ps ++ answered (master_rules_from setup) before (events_at setup.address rest)
     same_rest = cc
 
 -- ---- an event comes when nothing is owed
@@ -71,7 +71,7 @@ newest_one before event = reverse-append before (event ∷ [])
 -- ---- where the log stands
 record At (setup : Setup) (rest log : List LogEntry) : Type 0 where
   pub before : List Event
-  pub events_are : events setup log ≡ reverse before
+  pub events_are : events_of_master setup log ≡ reverse before
   pub run : IsRun setup log
   pub comes : Comes setup rest before (owed setup log)
 
@@ -84,9 +84,9 @@ sent_at setup from to bytes rest log s =
     a = setup.address
 
     P : Bool → Type 0
-    P b = (if b then Sent from to bytes ∷ [] else []) ++ own_at a rest ≡ sent_by a (owed setup log) ++ answered (rules_from setup) s.before (events_at a rest)
+    P b = (if b then Sent from to bytes ∷ [] else []) ++ own_at a rest ≡ sent_by a (owed setup log) ++ answered (master_rules_from setup) s.before (events_at a rest)
 
-    parts : (b : Bool) → P b → where_it_is b (IsFirst (owed setup log) to bytes) × Comes setup rest s.before (if b then tail (owed setup log) else owed setup log)
+    parts : (b : Bool) → P b → where_it_is b (IsFirstSend (owed setup log) to bytes) × Comes setup rest s.before (if b then tail (owed setup log) else owed setup log)
     parts true h = let k = sends_first setup from to bytes rest s.before (owed setup log) h in (k.first, k.comes)
     parts false h = (tt, h)
 
@@ -99,23 +99,23 @@ got_at setup at from bytes rest log s =
     a = setup.address
 
     P : Bool → Type 0
-    P b = (if b then Got at from bytes ∷ [] else []) ++ own_at a rest ≡ sent_by a (owed setup log) ++ answered (rules_from setup) s.before ((if b then Gram from bytes ∷ [] else []) ++ events_at a rest)
+    P b = (if b then Got at from bytes ∷ [] else []) ++ own_at a rest ≡ sent_by a (owed setup log) ++ answered (master_rules_from setup) s.before ((if b then Gram from bytes ∷ [] else []) ++ events_at a rest)
 
     Q : Bool → Type 0
-    Q b = (before : List Event) × ((with_event b (Gram from bytes) (events setup log) ≡ reverse before) × (where_it_is b (owed setup log ≡ [])
-        × Comes setup rest before (if b then (course setup (with_event b (Gram from bytes) (events setup log))).sent else owed setup log)))
+    Q b = (before : List Event) × ((with_event b (Gram from bytes) (events_of_master setup log) ≡ reverse before) × (where_it_is b (owed setup log ≡ [])
+        × Comes setup rest before (if b then (course setup (with_event b (Gram from bytes) (events_of_master setup log))).sent else owed setup log)))
 
     parts : (b : Bool) → P b → Q b
     parts false h = (s.before, (s.events_are, (tt, h)))
     parts true h =
-        let z = got_alone setup at from bytes (own_at a rest) (answered (rules_from setup) s.before (Gram from bytes ∷ events_at a rest)) (owed setup log) h in
-        let e : Gram from bytes ∷ events setup log ≡ Gram from bytes ∷ reverse s.before = ap (λ (es : List Event). Gram from bytes ∷ es) s.events_are in
-        let f : own_at a rest ≡ sent_by a (course setup (Gram from bytes ∷ reverse s.before)).sent ++ answered (rules_from setup) (s.before ++ Gram from bytes ∷ []) (events_at a rest) = tails z.1 in
-        let R : List Event → Type 0 = λ es. own_at a rest ≡ sent_by a (course setup es).sent ++ answered (rules_from setup) (s.before ++ Gram from bytes ∷ []) (events_at a rest) in
+        let z = got_alone setup at from bytes (own_at a rest) (answered (master_rules_from setup) s.before (Gram from bytes ∷ events_at a rest)) (owed setup log) h in
+        let e : Gram from bytes ∷ events_of_master setup log ≡ Gram from bytes ∷ reverse s.before = ap (λ (es : List Event). Gram from bytes ∷ es) s.events_are in
+        let f : own_at a rest ≡ sent_by a (course setup (Gram from bytes ∷ reverse s.before)).sent ++ answered (master_rules_from setup) (s.before ++ Gram from bytes ∷ []) (events_at a rest) = tails z.1 in
+        let R : List Event → Type 0 = λ es. own_at a rest ≡ sent_by a (course setup es).sent ++ answered (master_rules_from setup) (s.before ++ Gram from bytes ∷ []) (events_at a rest) in
         (s.before ++ Gram from bytes ∷ [], (e ∙ sym (newest_one s.before (Gram from bytes)), (z.0, subst R (sym e) f)))
       where
-        tails : Got at from bytes ∷ own_at a rest ≡ answered (rules_from setup) s.before (Gram from bytes ∷ events_at a rest)
-            → own_at a rest ≡ sent_by a (course setup (Gram from bytes ∷ reverse s.before)).sent ++ answered (rules_from setup) (s.before ++ Gram from bytes ∷ []) (events_at a rest)
+        tails : Got at from bytes ∷ own_at a rest ≡ answered (master_rules_from setup) s.before (Gram from bytes ∷ events_at a rest)
+            → own_at a rest ≡ sent_by a (course setup (Gram from bytes ∷ reverse s.before)).sent ++ answered (master_rules_from setup) (s.before ++ Gram from bytes ∷ []) (events_at a rest)
         tails y = cc
 
 turn_at : (setup : Setup) (at : Address) (rest log : List LogEntry) → At setup (Turn at ∷ rest) log → At setup rest (Turn at ∷ log)
@@ -127,23 +127,23 @@ turn_at setup at rest log s =
     a = setup.address
 
     P : Bool → Type 0
-    P b = (if b then Turn at ∷ [] else []) ++ own_at a rest ≡ sent_by a (owed setup log) ++ answered (rules_from setup) s.before ((if b then Tick ∷ [] else []) ++ events_at a rest)
+    P b = (if b then Turn at ∷ [] else []) ++ own_at a rest ≡ sent_by a (owed setup log) ++ answered (master_rules_from setup) s.before ((if b then Tick ∷ [] else []) ++ events_at a rest)
 
     Q : Bool → Type 0
-    Q b = (before : List Event) × ((with_event b Tick (events setup log) ≡ reverse before) × (where_it_is b (owed setup log ≡ [])
-        × Comes setup rest before (if b then (course setup (with_event b Tick (events setup log))).sent else owed setup log)))
+    Q b = (before : List Event) × ((with_event b Tick (events_of_master setup log) ≡ reverse before) × (where_it_is b (owed setup log ≡ [])
+        × Comes setup rest before (if b then (course setup (with_event b Tick (events_of_master setup log))).sent else owed setup log)))
 
     parts : (b : Bool) → P b → Q b
     parts false h = (s.before, (s.events_are, (tt, h)))
     parts true h =
-        let z = turn_alone setup at (own_at a rest) (answered (rules_from setup) s.before (Tick ∷ events_at a rest)) (owed setup log) h in
-        let e : Tick ∷ events setup log ≡ Tick ∷ reverse s.before = ap (λ (es : List Event). Tick ∷ es) s.events_are in
-        let f : own_at a rest ≡ sent_by a (course setup (Tick ∷ reverse s.before)).sent ++ answered (rules_from setup) (s.before ++ Tick ∷ []) (events_at a rest) = tails z.1 in
-        let R : List Event → Type 0 = λ es. own_at a rest ≡ sent_by a (course setup es).sent ++ answered (rules_from setup) (s.before ++ Tick ∷ []) (events_at a rest) in
+        let z = turn_alone setup at (own_at a rest) (answered (master_rules_from setup) s.before (Tick ∷ events_at a rest)) (owed setup log) h in
+        let e : Tick ∷ events_of_master setup log ≡ Tick ∷ reverse s.before = ap (λ (es : List Event). Tick ∷ es) s.events_are in
+        let f : own_at a rest ≡ sent_by a (course setup (Tick ∷ reverse s.before)).sent ++ answered (master_rules_from setup) (s.before ++ Tick ∷ []) (events_at a rest) = tails z.1 in
+        let R : List Event → Type 0 = λ es. own_at a rest ≡ sent_by a (course setup es).sent ++ answered (master_rules_from setup) (s.before ++ Tick ∷ []) (events_at a rest) in
         (s.before ++ Tick ∷ [], (e ∙ sym (newest_one s.before Tick), (z.0, subst R (sym e) f)))
       where
-        tails : Turn at ∷ own_at a rest ≡ answered (rules_from setup) s.before (Tick ∷ events_at a rest)
-            → own_at a rest ≡ sent_by a (course setup (Tick ∷ reverse s.before)).sent ++ answered (rules_from setup) (s.before ++ Tick ∷ []) (events_at a rest)
+        tails : Turn at ∷ own_at a rest ≡ answered (master_rules_from setup) s.before (Tick ∷ events_at a rest)
+            → own_at a rest ≡ sent_by a (course setup (Tick ∷ reverse s.before)).sent ++ answered (master_rules_from setup) (s.before ++ Tick ∷ []) (events_at a rest)
         tails y = cc
 
 goes_on : (setup : Setup) (rest log : List LogEntry) → At setup rest log → At setup [] (reverse rest ++ log)

@@ -18,7 +18,7 @@ use Rattle.master_spec.specs.Requests.{is_turn_of, turns_before, brings_outputs}
 use Rattle.master_spec.specs.Exchanged.{entry_at, Brings}
 use Rattle.index_laws.specs.Runs.{course_at}
 use Rattle.index_laws.specs.Index.{Placed, at, marks_of}
-use Rattle.index_laws.specs.Dates.{bit, clock, phase_before, next_after, next_place, IsLater, IsOfPhase, ThenBrings, AreDated, IsBroughtBy, IsBroughtAt, Dated}
+use Rattle.index_laws.specs.Dates.{bit, clock, phase_before, next_after, next_place, IsLaterMark, IsOfPhase, ThenBrings, AreDated, IsBroughtBy, IsBroughtAt, Dated}
 
 -- ---- what stands before a place does not change with what comes later
 pub before_later : (master : Address) (e : LogEntry) (log : List LogEntry) (i : ℕ) → i ≤ length log → turns_before master (e ∷ log) i ≡ turns_before master log i
@@ -161,8 +161,8 @@ dated_skip setup slave e log xs turn none d =
 -- ---- an entry that leaves its mark
 -- a mark at the place of an entry: what is brought there has its mark
 pub dated_here : (setup : Setup) (slave : Slave) (e : LogEntry) (log : List LogEntry) (m : Mark) (xs : List Placed) → is_turn_of setup.address e ≡ false
-    → IsLater (length log) m (length log) → next_after (length log) m (next_place xs) ≡ length (e ∷ log) → clock (m ∷ marks_of xs) ≡ clock (marks_of xs)
-    → (next_place xs ≤ length log → IsLater (length log) m (next_place xs))
+    → IsLaterMark (length log) m (length log) → next_after (length log) m (next_place xs) ≡ length (e ∷ log) → clock (m ∷ marks_of xs) ≡ clock (marks_of xs)
+    → (next_place xs ≤ length log → IsLaterMark (length log) m (next_place xs))
     → IsOfPhase m (phase_before setup (e ∷ log) (length log)) (count is_begun (m ∷ marks_of xs)) → ThenBrings setup (e ∷ log) slave (length log) m
     → ((number : ℕ) → Brings setup (e ∷ log) slave number (length log) → IsBroughtBy number (length log) (length log) m)
     → Dated setup slave log (length log) xs → Dated setup slave (e ∷ log) (length (e ∷ log)) (at (length log) m ∷ xs)

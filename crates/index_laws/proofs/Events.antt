@@ -15,21 +15,21 @@ use Rattle.master_spec.specs.declared.reactions.Awaited.{Awaited}
 use Rattle.master_spec.specs.declared.reactions.Awaited.TheVariants.{TheAnswer, TheState, TheInputs, TheOutputs, TheOthers}
 use Rattle.master_spec.specs.declared.causes.Cause.{Cause}
 use Rattle.master_spec.specs.declared.causes.Cause.TheVariants as causes
-use Rattle.master_spec.specs.Tasks.{is_by_end, is_at_once, asks_step, target_of, passing_of, step_of}
+use Rattle.master_spec.specs.Tasks.{is_by_end, is_at_once, asks_step, target_of, passing_of, task_step}
 use Rattle.master_spec.specs.Jobs.{Job, asked_by}
-use Rattle.master_spec.specs.Marks.{Mark, Begun, Asked, Again, Answered, Hinted, Brought, Turned, Ended, asked, newest_number, open_in, open_request, latest, job_of, has_ended, cause_of, turns_since, is_answer, is_hinted, is_missing, refusals, configured, is_passed, is_reached}
+use Rattle.master_spec.specs.Marks.{Mark, Begun, Asked, Again, Answered, Hinted, Brought, Turned, Ended, asked, newest_number, open_in, open_request, latest, job_of, conversation_ended, cause_of, turns_since, is_answer, is_hinted, is_missing, refusals, settings_answered, is_passed, is_reached}
 use Rattle.master_spec.specs.Conversation.{is_state, is_error, is_late, first_of, configuration_at, on_nack, on_acknowledged, on_state, on_answer, awaited_after_state, awaited_after, awaited_by, awaited, on_turn, on_hint, on_mark, reaction_in, reaction, unexpected}
 use Rattle.master_spec.specs.Requests.{Asking, decided_by}
 use Rattle.asking_laws.specs.Closed.{MayCome}
-use Rattle.index_laws.specs.Index.{Placed, at, marks_of, again_at, decided_at, told_by, IsHead, IsHeadOf, Shut}
+use Rattle.index_laws.specs.Index.{Placed, at, marks_of, again_at, decided_at, askings_told_by, IsHeadRequest, IsHeadOf, Shut}
 use Rattle.index_laws.proofs.Index.{number_next}
 
 -- ---- the newest request stays told
-pub head_came : (n : ℕ) (m : Mark) (marks : List Mark) (bs : List Asking) → MayCome m marks → IsHeadOf marks bs → IsHeadOf (m ∷ marks) (told_by n m marks bs)
-head_came n (Begun job) marks bs c h = let P : Option Request → Type 0 = λ z. IsHead z (newest_number marks) bs in subst P c h
-head_came n (Answered r a) marks bs c h = by bs (let P : Option Request → Type 0 = λ z. IsHead z (newest_number marks) bs in subst P c h)
+pub head_came : (n : ℕ) (m : Mark) (marks : List Mark) (bs : List Asking) → MayCome m marks → IsHeadOf marks bs → IsHeadOf (m ∷ marks) (askings_told_by n m marks bs)
+head_came n (Begun job) marks bs c h = let P : Option Request → Type 0 = λ z. IsHeadRequest z (newest_number marks) bs in subst P c h
+head_came n (Answered r a) marks bs c h = by bs (let P : Option Request → Type 0 = λ z. IsHeadRequest z (newest_number marks) bs in subst P c h)
   where
-    by : (bs : List Asking) → IsHead (Some r) (newest_number marks) bs → IsHead None (newest_number marks) (decided_at n a bs)
+    by : (bs : List Asking) → IsHeadRequest (Some r) (newest_number marks) bs → IsHeadRequest None (newest_number marks) (decided_at n a bs)
     by [] z = absurd z
     by (b ∷ bs) z = (z.0, ap (λ o. is_some (decided_by o (record { place = n; answer = a }))) (z.1).0)
 head_came n Hinted marks bs c h = h
@@ -39,18 +39,18 @@ head_came n (Asked r) marks bs c h = absurd c
 head_came n Again marks bs c h = absurd c
 head_came n (Ended cause) marks bs c h = absurd c
 
-pub head_asked : (n : ℕ) (r : Request) (marks : List Mark) (bs : List Asking) → IsHeadOf (Asked r ∷ marks) (told_by n (Asked r) marks bs)
+pub head_asked : (n : ℕ) (r : Request) (marks : List Mark) (bs : List Asking) → IsHeadOf (Asked r ∷ marks) (askings_told_by n (Asked r) marks bs)
 head_asked n r marks bs = (number_next (asked marks), (refl, refl))
 
-pub head_again : (n : ℕ) (r : Request) (marks : List Mark) (bs : List Asking) → open_request marks ≡ Some r → IsHeadOf marks bs → IsHeadOf (Again ∷ marks) (told_by n Again marks bs)
-head_again n r marks bs o h = back (by bs (let P : Option Request → Type 0 = λ z. IsHead z (newest_number marks) bs in subst P o h))
+pub head_again : (n : ℕ) (r : Request) (marks : List Mark) (bs : List Asking) → open_request marks ≡ Some r → IsHeadOf marks bs → IsHeadOf (Again ∷ marks) (askings_told_by n Again marks bs)
+head_again n r marks bs o h = back (by bs (let P : Option Request → Type 0 = λ z. IsHeadRequest z (newest_number marks) bs in subst P o h))
   where
-    by : (bs : List Asking) → IsHead (Some r) (newest_number marks) bs → IsHead (Some r) (newest_number marks) (again_at n bs)
+    by : (bs : List Asking) → IsHeadRequest (Some r) (newest_number marks) bs → IsHeadRequest (Some r) (newest_number marks) (again_at n bs)
     by [] z = absurd z
     by (b ∷ bs) z = z
 
-    back : IsHead (Some r) (newest_number marks) (again_at n bs) → IsHead (open_request marks) (newest_number marks) (again_at n bs)
-    back z = let P : Option Request → Type 0 = λ y. IsHead y (newest_number marks) (again_at n bs) in subst P (sym o) z
+    back : IsHeadRequest (Some r) (newest_number marks) (again_at n bs) → IsHeadRequest (open_request marks) (newest_number marks) (again_at n bs)
+    back z = let P : Option Request → Type 0 = λ y. IsHeadRequest y (newest_number marks) (again_at n bs) in subst P (sym o) z
 
 -- ---- only an open request is sent again
 abbrev pub IsOpen : List Mark → Type 0
@@ -70,7 +70,7 @@ not_again_state limits job state older marks h = by (is_error state) (is_state (
 not_again_nack : (limits : Limits) (job : Job) (request : Request) (code : ℕ) (marks : List Mark) → on_nack limits job request code marks ≡ Repeat → ⊥
 not_again_nack limits job request code marks h = by (is_missing code && asks_step request) (nat_le limits.step_tries (refusals marks)) h
   where
-    by : (a b : Bool) → (if a then (if b then GiveUp (causes.InputsMissing (newest_number marks) (step_of job.task)) else Wait) else GiveUp (causes.Refused (newest_number marks) code)) ≡ Repeat → ⊥
+    by : (a b : Bool) → (if a then (if b then GiveUp (causes.InputsMissing (newest_number marks) (task_step job.task)) else Wait) else GiveUp (causes.Refused (newest_number marks) code)) ≡ Repeat → ⊥
     by true true z = cc
     by true false z = cc
     by false b z = cc
@@ -94,7 +94,7 @@ not_again_ack job marks h = by (is_by_end job.task) (is_at_once job.task) (is_hi
 
 not_again_answer : (limits : Limits) (job : Job) (request : Request) (answer : Answer) (older marks : List Mark) → on_answer limits job request answer older marks ≡ Repeat → ⊥
 not_again_answer limits job request (Nack code) older marks h = not_again_nack limits job request code marks h
-not_again_answer limits job (Configure body) Ack older marks h = not_again_list (slice_get job.list (configured marks)) h
+not_again_answer limits job (Configure body) Ack older marks h = not_again_list (slice_get job.list (settings_answered marks)) h
 not_again_answer limits job (Change state body) Ack older marks h = not_again_ack job marks h
 not_again_answer limits job AskState (StateAck state) older marks h = not_again_state limits job state older marks h
 not_again_answer limits job AskError (ErrorAck code) older marks h = cc
@@ -125,7 +125,7 @@ again_turn limits job (TheInputs request) l settled marks h = by (nat_le limits.
     by false z = absurd cc
 again_turn limits job TheOutputs l settled marks h = by (nat_le limits.data_turns (turns_since is_answer marks)) h
   where
-    by : (b : Bool) → (if b then GiveUp (causes.DataMissing (step_of job.task)) else Wait) ≡ Repeat → TheOutputs ≡ TheAnswer
+    by : (b : Bool) → (if b then GiveUp (causes.DataMissing (task_step job.task)) else Wait) ≡ Repeat → TheOutputs ≡ TheAnswer
     by true z = absurd cc
     by false z = absurd cc
 again_turn limits job TheOthers l settled marks h = by (is_by_end job.task || settled) (nat_le limits.watch_turns (turns_since is_answer marks)) h
@@ -183,7 +183,7 @@ mark_again limits job (Ended c) marks h = absurd cc
 
 in_again : (limits : Limits) (o : Option Job) (m : Mark) (marks : List Mark) → reaction_in limits o m marks (m ∷ marks) ≡ Repeat → IsOpen (m ∷ marks)
 in_again limits None m marks h = absurd cc
-in_again limits (Some job) m marks h = by (has_ended marks) h
+in_again limits (Some job) m marks h = by (conversation_ended marks) h
   where
     by : (b : Bool) → (if b then Wait else on_mark limits job m marks (m ∷ marks)) ≡ Repeat → IsOpen (m ∷ marks)
     by true e = absurd cc
@@ -194,15 +194,15 @@ unfolding reaction
 repeats_open limits m marks h = in_again limits (job_of (m ∷ marks)) m marks h
 
 -- ---- who has ended does nothing more
-in_going : (limits : Limits) (o : Option Job) (m : Mark) (marks : List Mark) → (reaction_in limits o m marks (m ∷ marks) ≡ Wait → ⊥) → has_ended marks ≡ false
+in_going : (limits : Limits) (o : Option Job) (m : Mark) (marks : List Mark) → (reaction_in limits o m marks (m ∷ marks) ≡ Wait → ⊥) → conversation_ended marks ≡ false
 in_going limits None m marks h = absurd (h refl)
-in_going limits (Some job) m marks h = by (has_ended marks) h
+in_going limits (Some job) m marks h = by (conversation_ended marks) h
   where
     by : (b : Bool) → ((if b then Wait else on_mark limits job m marks (m ∷ marks)) ≡ Wait → ⊥) → b ≡ false
     by true e = absurd (e refl)
     by false e = refl
 
-going : (limits : Limits) (m : Mark) (marks : List Mark) → (reaction limits m marks ≡ Wait → ⊥) → has_ended marks ≡ false
+going : (limits : Limits) (m : Mark) (marks : List Mark) → (reaction limits m marks ≡ Wait → ⊥) → conversation_ended marks ≡ false
 unfolding reaction
 going limits m marks h = in_going limits (job_of (m ∷ marks)) m marks h
 

@@ -9,13 +9,13 @@ use Rattle.pdu_layout.specs.Reading.{message_in}
 use Rattle.master_spec.specs.declared.requests.Request.{Request}
 use Rattle.master_spec.specs.declared.requests.Request.TheVariants.{Change, Configure, AskState, AskError}
 use Rattle.master_spec.specs.declared.requests.Answer.{Answer}
-use Rattle.master_spec.specs.News.{News, Answers, Hints, Brings, Nothing, pdu_of, bytes_of}
+use Rattle.master_spec.specs.News.{News, Answers, Hints, Brings, Nothing, pdu_of, request_bytes}
 use Rattle.master_spec.specs.Marks.{Mark, Asked, Again, Answered, Hinted, Brought, asked, newest_number, open_request}
 use Rattle.master_spec.specs.Conversation.{if_open}
 use Rattle.master_spec.specs.Course.{mark_for, payload_size}
 use Rattle.master_spec.specs.declared.setups.Slave.{Slave}
 use Rattle.master_spec.specs.Requests.{Asking, Decision, asking_in, with_asking, decided_by, with_news}
-use Rattle.index_laws.specs.Index.{Placed, at, marks_of, first_at, again_at, told, told_if, IsHead, IsHeadOf, ReadBack}
+use Rattle.index_laws.specs.Index.{Placed, at, marks_of, first_at, again_at, askings_told, told_if, IsHeadRequest, IsHeadOf, ReadBack}
 
 -- a request that reads back is told as it was asked
 asking_message : (n q id : ℕ) (r : Request) → asking_in n (Some (message_of (pdu_of q id r))) ≡ Some (first_at n q r)
@@ -52,7 +52,7 @@ pub number_next : (k : ℕ) → k % 65536 ≡ (k + 1 + 65535) % 65536
 number_next k = omega arith
 
 -- a new request
-asks_new : (k : ℕ) (o : Option Request) (a : Asking) (bs : List Asking) → a.number ≡ k % 65536 → IsHead o ((k + 65535) % 65536) bs → with_asking (Some a) bs ≡ a ∷ bs
+asks_new : (k : ℕ) (o : Option Request) (a : Asking) (bs : List Asking) → a.number ≡ k % 65536 → IsHeadRequest o ((k + 65535) % 65536) bs → with_asking (Some a) bs ≡ a ∷ bs
 asks_new k o a [] e h = refl
 asks_new k None a (b ∷ bs) e h = by (a.number == b.number) refl
   where
@@ -66,7 +66,7 @@ asks_new k (Some r) a (b ∷ bs) e h = by (a.number == b.number) refl
     by false z = refl
 
 -- the newest one again
-asks_again : (q : ℕ) (r : Request) (a : Asking) (bs : List Asking) → a.number ≡ q → IsHead (Some r) q bs → with_asking (Some a) bs ≡ again_at a.first bs
+asks_again : (q : ℕ) (r : Request) (a : Asking) (bs : List Asking) → a.number ≡ q → IsHeadRequest (Some r) q bs → with_asking (Some a) bs ≡ again_at a.first bs
 asks_again q r a [] e h = absurd h
 asks_again q r a (b ∷ bs) e h = by (a.number == b.number) refl
   where
@@ -74,20 +74,20 @@ asks_again q r a (b ∷ bs) e h = by (a.number == b.number) refl
     by true z = refl
     by false z = absurd (eqb-false a.number b.number z (e ∙ sym h.0))
 
-pub sent_new : (n id : ℕ) (r : Request) (xs : List Placed) → ReadBack id r → IsHeadOf (marks_of xs) (told xs)
-    → with_asking (asking_in n (message_in (bytes_of (asked (marks_of xs) % 65536) id r))) (told xs) ≡ told (at n (Asked r) ∷ xs)
+pub sent_new : (n id : ℕ) (r : Request) (xs : List Placed) → ReadBack id r → IsHeadOf (marks_of xs) (askings_told xs)
+    → with_asking (asking_in n (message_in (request_bytes (asked (marks_of xs) % 65536) id r))) (askings_told xs) ≡ askings_told (at n (Asked r) ∷ xs)
 sent_new n id r xs back h =
     let k = asked (marks_of xs) in
-    let e : asking_in n (message_in (bytes_of (k % 65536) id r)) ≡ Some (first_at n (k % 65536) r) = ap (asking_in n) (back (k % 65536) (omega arith)) ∙ asking_message n (k % 65536) id r in
-    ap (λ o. with_asking o (told xs)) e ∙ asks_new k (open_request (marks_of xs)) (first_at n (k % 65536) r) (told xs) refl h
+    let e : asking_in n (message_in (request_bytes (k % 65536) id r)) ≡ Some (first_at n (k % 65536) r) = ap (asking_in n) (back (k % 65536) (omega arith)) ∙ asking_message n (k % 65536) id r in
+    ap (λ o. with_asking o (askings_told xs)) e ∙ asks_new k (open_request (marks_of xs)) (first_at n (k % 65536) r) (askings_told xs) refl h
 
-pub sent_again : (n id : ℕ) (r : Request) (xs : List Placed) → ReadBack id r → open_request (marks_of xs) ≡ Some r → IsHeadOf (marks_of xs) (told xs)
-    → with_asking (asking_in n (message_in (bytes_of (newest_number (marks_of xs)) id r))) (told xs) ≡ told (at n Again ∷ xs)
+pub sent_again : (n id : ℕ) (r : Request) (xs : List Placed) → ReadBack id r → open_request (marks_of xs) ≡ Some r → IsHeadOf (marks_of xs) (askings_told xs)
+    → with_asking (asking_in n (message_in (request_bytes (newest_number (marks_of xs)) id r))) (askings_told xs) ≡ askings_told (at n Again ∷ xs)
 sent_again n id r xs back o h =
     let q = newest_number (marks_of xs) in
-    let e : asking_in n (message_in (bytes_of q id r)) ≡ Some (first_at n q r) = ap (asking_in n) (back q (omega arith)) ∙ asking_message n q id r in
-    let P : Option Request → Type 0 = λ z. IsHead z q (told xs) in
-    ap (λ z. with_asking z (told xs)) e ∙ asks_again q r (first_at n q r) (told xs) refl (subst P o h)
+    let e : asking_in n (message_in (request_bytes q id r)) ≡ Some (first_at n q r) = ap (asking_in n) (back q (omega arith)) ∙ asking_message n q id r in
+    let P : Option Request → Type 0 = λ z. IsHeadRequest z q (askings_told xs) in
+    ap (λ z. with_asking z (askings_told xs)) e ∙ asks_again q r (first_at n q r) (askings_told xs) refl (subst P o h)
 
 -- ---- a datagram of the slave
 settled : (b : Asking) (d : Decision) → is_some b.decision ≡ true → decided_by b.decision d ≡ b.decision
@@ -97,7 +97,7 @@ settled b d h = by b.decision h
     by None z = absurd cc
     by (Some e) z = refl
 
-answers_told : (id n number sender : ℕ) (answer : Answer) (marks : List Mark) (o : Option Request) (q : ℕ) (bs : List Asking) → IsHead o q bs
+answers_told : (id n number sender : ℕ) (answer : Answer) (marks : List Mark) (o : Option Request) (q : ℕ) (bs : List Asking) → IsHeadRequest o q bs
     → with_news id n (Answers number sender answer) bs ≡ told_if n (if sender == id then if_open o number q answer else None) marks bs
 answers_told id n number sender answer marks None q [] h = by (sender == id)
   where
@@ -129,17 +129,17 @@ answers_told id n number sender answer marks (Some r) q (b ∷ bs) h = by (sende
     by true false true e = absurd cc
     by false u v e = refl
 
-pub news_told : (slave : Slave) (n : ℕ) (news : News) (xs : List Placed) → IsHeadOf (marks_of xs) (told xs)
-    → with_news slave.id n news (told xs) ≡ told_if n (mark_for slave (marks_of xs) news) (marks_of xs) (told xs)
-news_told slave n (Answers number sender answer) xs h = answers_told slave.id n number sender answer (marks_of xs) (open_request (marks_of xs)) (newest_number (marks_of xs)) (told xs) h
+pub news_told : (slave : Slave) (n : ℕ) (news : News) (xs : List Placed) → IsHeadOf (marks_of xs) (askings_told xs)
+    → with_news slave.id n news (askings_told xs) ≡ told_if n (mark_for slave (marks_of xs) news) (marks_of xs) (askings_told xs)
+news_told slave n (Answers number sender answer) xs h = answers_told slave.id n number sender answer (marks_of xs) (open_request (marks_of xs)) (newest_number (marks_of xs)) (askings_told xs) h
 news_told slave n (Hints sender) xs h = by (sender == slave.id)
   where
-    by : (t : Bool) → told xs ≡ told_if n (if t then Some Hinted else None) (marks_of xs) (told xs)
+    by : (t : Bool) → askings_told xs ≡ told_if n (if t then Some Hinted else None) (marks_of xs) (askings_told xs)
     by true = refl
     by false = refl
 news_told slave n (Brings number id payload) xs h = by ((id == slave.id) && (length payload == payload_size slave.types))
   where
-    by : (t : Bool) → told xs ≡ told_if n (if t then Some (Brought number payload) else None) (marks_of xs) (told xs)
+    by : (t : Bool) → askings_told xs ≡ told_if n (if t then Some (Brought number payload) else None) (marks_of xs) (askings_told xs)
     by true = refl
     by false = refl
 news_told slave n Nothing xs h = refl

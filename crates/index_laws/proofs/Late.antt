@@ -12,7 +12,7 @@ use Rattle.master_spec.specs.declared.reports.Report.TheVariants as reports
 use Rattle.master_spec.specs.declared.setups.Setup.{Setup}
 use Rattle.master_spec.specs.News.{News, Answers, Hints, Brings, Nothing}
 use Rattle.master_spec.specs.Marks.{verdict_of}
-use Rattle.master_spec.specs.Course.{Talk, Course, course, is_settled, is_quiet, failed_by, failed, phases, with_next, with_report, decided, with_turns, decided_if, turned, still, after_gram, after_turn, step, begin}
+use Rattle.master_spec.specs.Course.{CourseTalk, Course, course, is_settled, is_quiet, failed_by, failed, phases, with_next, with_report, decided, with_turns, decided_if, course_turned, still, after_gram, course_after_turn, step, begin}
 use Rattle.master_spec.specs.Requests.{Asking, Decision, decided_by, with_news}
 use Rattle.index_laws.specs.Index.{decided_at}
 use Rattle.index_laws.specs.Late.{IsLate, AreLate}
@@ -89,7 +89,7 @@ never c e report h = absurd (clash (sym e ∙ h))
     clash : None ≡ Some report → ⊥
     clash z = cc
 
-failed_failed : (phase : ℕ) (talks : List Talk) (report : Report) → failed phase talks ≡ Some report → (id p : ℕ) × ((cause : Cause) × (report ≡ reports.Failed id p cause))
+failed_failed : (phase : ℕ) (talks : List CourseTalk) (report : Report) → failed phase talks ≡ Some report → (id p : ℕ) × ((cause : Cause) × (report ≡ reports.Failed id p cause))
 failed_failed phase [] report h = absurd cc
 failed_failed phase (u ∷ us) report h = by (verdict_of u.marks) h (λ z. failed_failed phase us report z)
   where
@@ -115,17 +115,17 @@ decided_reports setup c n q None e r h = by (c.phase == phases setup) r h
     by true = λ r h. (q, finished r h)
     by false = never (with_next setup c) n
 
-turned_reports : (setup : Setup) (c : Course) → c.report ≡ None → Reports (turned setup c)
+turned_reports : (setup : Setup) (c : Course) → c.report ≡ None → Reports (course_turned setup c)
 turned_reports setup c n = by (list_all is_quiet c.talks) refl
   where
     by : (b : Bool) → list_all is_quiet c.talks ≡ b → Reports (decided_if setup b c)
     by true q = decided_reports setup c n q (failed c.phase c.talks) refl
     by false q = never c n
 
-tick_reports : (setup : Setup) (c : Course) → c.report ≡ None → Reports (after_turn setup c)
+tick_reports : (setup : Setup) (c : Course) → c.report ≡ None → Reports (course_after_turn setup c)
 tick_reports setup c n = by (c.phase == 0)
   where
-    by : (b : Bool) → Reports (if b then with_next setup (still c) else turned setup (with_turns setup (list_all is_settled c.talks) c))
+    by : (b : Bool) → Reports (if b then with_next setup (still c) else course_turned setup (with_turns setup (list_all is_settled c.talks) c))
     by true = never (with_next setup (still c)) n
     by false = turned_reports setup (with_turns setup (list_all is_settled c.talks) c) n
 

@@ -8,7 +8,7 @@ use Rattle.std.proofs.lemmas.Bool.{eq-eqb}
 use Rattle.dcp_types.specs.declared.addresses.Address.{Address}
 use Rattle.dcp_ends.specs.Events.{Send}
 use Rattle.dcp_ends.specs.Logs.{same_address}
-use Rattle.master_spec.specs.Course.{Talk, send_to}
+use Rattle.master_spec.specs.Course.{CourseTalk, send_to}
 use Rattle.index_laws.specs.Follows.{mine}
 
 pub same_self : (a : Address) → same_address a a ≡ true
@@ -35,10 +35,10 @@ mine_all : (a b : Address) (ms : List (List ℕ)) → same_address b a ≡ true 
 mine_all a b [] e = refl
 mine_all a b (m ∷ ms) e = ap (λ t. if t then m ∷ mine a (map (send_to b) ms) else mine a (map (send_to b) ms)) e ∙ ap (λ z. m ∷ z) (mine_all a b ms e)
 
-sends_of : (Talk → List (List ℕ)) → Talk → List Send
+sends_of : (CourseTalk → List (List ℕ)) → CourseTalk → List Send
 sends_of g u = map (send_to u.slave.address) (g u)
 
-flat_none : (a : Address) (g : Talk → List (List ℕ)) (talks : List Talk) → ((j : ℕ) (v : Talk) → slice_get talks j ≡ Some v → same_address v.slave.address a ≡ false) → mine a (flat_map (λ u. map (send_to u.slave.address) (g u)) talks) ≡ []
+flat_none : (a : Address) (g : CourseTalk → List (List ℕ)) (talks : List CourseTalk) → ((j : ℕ) (v : CourseTalk) → slice_get talks j ≡ Some v → same_address v.slave.address a ≡ false) → mine a (flat_map (λ u. map (send_to u.slave.address) (g u)) talks) ≡ []
 flat_none a g [] apart = refl
 flat_none a g (u ∷ us) apart =
     mine_append a (map (send_to u.slave.address) (g u)) (flat_map (λ u. map (send_to u.slave.address) (g u)) us)
@@ -53,13 +53,13 @@ append_none : (xs : List (List ℕ)) → xs ++ [] ≡ xs
 append_none [] = refl
 append_none (x ∷ xs) = ap (λ z. x ∷ z) (append_none xs)
 
-pub flat_mine : (a : Address) (g : Talk → List (List ℕ)) (talks : List Talk) (i : ℕ) (u : Talk) → slice_get talks i ≡ Some u
-    → ((j : ℕ) (v : Talk) → slice_get talks j ≡ Some v → same_address v.slave.address a ≡ true → j ≡ i) → same_address u.slave.address a ≡ true
+pub flat_mine : (a : Address) (g : CourseTalk → List (List ℕ)) (talks : List CourseTalk) (i : ℕ) (u : CourseTalk) → slice_get talks i ≡ Some u
+    → ((j : ℕ) (v : CourseTalk) → slice_get talks j ≡ Some v → same_address v.slave.address a ≡ true → j ≡ i) → same_address u.slave.address a ≡ true
     → mine a (flat_map (λ u. map (send_to u.slave.address) (g u)) talks) ≡ g u
 flat_mine a g [] i u is apart e = absurd cc
 flat_mine a g (v ∷ vs) zero u is apart e =
     let w : v ≡ u = cc in
-    let f : same_address v.slave.address a ≡ true = ap (λ (z : Talk). same_address z.slave.address a) w ∙ e in
+    let f : same_address v.slave.address a ≡ true = ap (λ (z : CourseTalk). same_address z.slave.address a) w ∙ e in
     mine_append a (map (send_to v.slave.address) (g v)) (flat_map (λ u. map (send_to u.slave.address) (g u)) vs)
     ∙ ap (λ z. z ++ mine a (flat_map (λ u. map (send_to u.slave.address) (g u)) vs)) (mine_all a v.slave.address (g v) f)
     ∙ ap (λ z. g v ++ z) (flat_none a g vs (λ j x q. not_true (same_address x.slave.address a) (λ y. absurd (clash j (apart (suc j) x q y)))))

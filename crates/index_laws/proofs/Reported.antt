@@ -22,10 +22,10 @@ use Rattle.master_spec.specs.News.{news_of}
 use Rattle.master_spec.specs.Marks.{Mark, open_request, cause_of, job_of, verdict_by, verdict_of, is_passed}
 use Rattle.master_spec.specs.Course.{Course, course, is_settled_as, is_passed_as, is_quiet}
 use Rattle.master_spec.specs.Requests.{Asking, with_news, with_asking, asking_in, asks}
-use Rattle.index_laws.specs.Runs.{events, with_event, course_at, tail, owed, IsFirst, where_it_is, MasterMay, IsRun}
-use Rattle.index_laws.specs.Index.{marks_of, told, IsAsked, IsAgain, Owes}
-use Rattle.index_laws.specs.Follows.{mine, talk_with, Listens, Follows}
-use Rattle.index_laws.specs.Late.{AreLate, Stands}
+use Rattle.index_laws.specs.Runs.{events_of_master, with_event, course_at, tail, owed, IsFirstSend, where_it_is, MasterActs, IsRun}
+use Rattle.index_laws.specs.Index.{marks_of, askings_told, IsAsked, IsAgain, Owes}
+use Rattle.index_laws.specs.Follows.{mine, talk_with, Listens, FollowsCourse}
+use Rattle.index_laws.specs.Late.{AreLate, StandsByLog}
 use Rattle.index_laws.proofs.Runs.{free_owes, follow, followed, step_still}
 use Rattle.index_laws.proofs.Late.{late_refl, late_trans, late_news, all_report}
 
@@ -70,7 +70,7 @@ quiet_owes good id posts slave marks older o q = by (quiet_open (open_request ma
 
 module _ (setup : Setup) (good : Request → Type 0) (i : ℕ) (slave : Slave) (k : Listens setup good i slave) where
   abbrev pub Rests : List LogEntry → Course → List Send → List Asking → Type 0
-  Rests log c posts bs = Stands setup i slave log c bs × (mine slave.address posts ≡ [])
+  Rests log c posts bs = StandsByLog setup i slave log c bs × (mine slave.address posts ≡ [])
 
   -- one more entry leaves the dates
   abbrev one_later : (e : LogEntry) (log : List LogEntry) (c : Course) (posts : List Send) (bs : List Asking) → Rests log c posts bs → Rests (e ∷ log) c posts bs
@@ -78,19 +78,19 @@ module _ (setup : Setup) (good : Request → Type 0) (i : ℕ) (slave : Slave) (
       let z = s.0 in
       (record { xs = z.xs; here = z.here; head = z.head; shut = z.shut; late = z.late; until = z.until; dated = dated_later setup slave e log z.until z.xs z.dated }, s.1)
 
-  comes : (log : List LogEntry) (c : Course) (posts : List Send) (bs : List Asking) → list_all is_quiet c.talks ≡ true → Follows setup good i slave log (length log) c posts bs → Rests log c posts bs
+  comes : (log : List LogEntry) (c : Course) (posts : List Send) (bs : List Asking) → list_all is_quiet c.talks ≡ true → FollowsCourse setup good i slave log (length log) c posts bs → Rests log c posts bs
   comes log c posts bs q f =
       let t = f.tracks in
       let none = quiet_owes good slave.id (mine slave.address posts) slave f.marks (marks_of f.xs) t.owes (all_get is_quiet c.talks i (talk_with slave f.marks) q f.here) in
       let P : List (List ℕ) → Type 0 = λ z. Owes good slave.id z f.marks (marks_of f.xs) in
-      let Q : List Asking → Type 0 = λ z. AreLate (length log) z (told f.xs) in
+      let Q : List Asking → Type 0 = λ z. AreLate (length log) z (askings_told f.xs) in
       let e : f.marks ≡ marks_of f.xs = subst P none t.owes in
-      (record { xs = f.xs; here = f.here ∙ ap (λ z. Some (talk_with slave z)) e; head = t.head; shut = t.shut; late = subst Q (sym t.is) (late_refl (length log) (told f.xs)); until = length log; dated = f.dated }, none)
+      (record { xs = f.xs; here = f.here ∙ ap (λ z. Some (talk_with slave z)) e; head = t.head; shut = t.shut; late = subst Q (sym t.is) (late_refl (length log) (askings_told f.xs)); until = length log; dated = f.dated }, none)
 
   more_news : (log : List LogEntry) (c : Course) (posts : List Send) (bs : List Asking) (n : ℕ) (bytes : List ℕ) (t : Bool) → (s : Rests log c posts bs) → (s.0).until ≤ n → Rests log c posts (if t then with_news slave.id n (news_of bytes) bs else bs)
   more_news log c posts bs n bytes false s l = s
   more_news log c posts bs n bytes true s l = let z = s.0 in
-      (record { xs = z.xs; here = z.here; head = z.head; shut = z.shut; late = late_trans z.until (with_news slave.id n (news_of bytes) bs) bs (told z.xs) (late_news z.until slave.id n (news_of bytes) bs l) z.late; until = z.until; dated = z.dated }, s.1)
+      (record { xs = z.xs; here = z.here; head = z.head; shut = z.shut; late = late_trans z.until (with_news slave.id n (news_of bytes) bs) bs (askings_told z.xs) (late_news z.until slave.id n (news_of bytes) bs l) z.late; until = z.until; dated = z.dated }, s.1)
 
   rests_event : (log : List LogEntry) (event : Event) (evs : List Event) (posts : List Send) (bs : List Asking) (report : Report) (b : Bool) (n : ℕ) → (course setup evs).report ≡ Some report → (s : Rests log (course setup evs) posts bs) → (s.0).until ≤ n
       → (t : Rests log (course setup (with_event b event evs)) (if b then (course setup (with_event b event evs)).sent else posts) bs) × ((t.0).until ≤ n)
@@ -100,7 +100,7 @@ module _ (setup : Setup) (good : Request → Type 0) (i : ℕ) (slave : Slave) (
       let z = s.0 in
       subst P (sym (step_still setup event (course setup evs) report e)) ((record { xs = z.xs; here = z.here; head = z.head; shut = z.shut; late = z.late; until = z.until; dated = z.dated }, refl), l)
 
-  rests_sent : (log : List LogEntry) (c : Course) (posts : List Send) (bs : List Asking) (n : ℕ) (to : Address) (bytes : List ℕ) (b : Bool) → where_it_is b (IsFirst posts to bytes) → Rests log c posts bs
+  rests_sent : (log : List LogEntry) (c : Course) (posts : List Send) (bs : List Asking) (n : ℕ) (to : Address) (bytes : List ℕ) (b : Bool) → where_it_is b (IsFirstSend posts to bytes) → Rests log c posts bs
       → Rests log c (if b then tail posts else posts) (if b && same_address to slave.address then with_asking (asking_in n (message_in bytes)) bs else bs)
   rests_sent log c posts bs n to bytes false may s = s
   rests_sent log c [] bs n to bytes true may s = absurd may
@@ -110,14 +110,14 @@ module _ (setup : Setup) (good : Request → Type 0) (i : ℕ) (slave : Slave) (
       by true z = absurd cc
       by false z = (s.0, z)
 
-  rests_on : (e : LogEntry) (log : List LogEntry) (report : Report) → MasterMay setup e log → (course_at setup log).report ≡ Some report → (s : Rests (e ∷ log) (course_at setup log) (owed setup log) (asks setup.address slave log)) → (s.0).until ≤ length log
+  rests_on : (e : LogEntry) (log : List LogEntry) (report : Report) → MasterActs setup e log → (course_at setup log).report ≡ Some report → (s : Rests (e ∷ log) (course_at setup log) (owed setup log) (asks setup.address slave log)) → (s.0).until ≤ length log
       → Rests (e ∷ log) (course_at setup (e ∷ log)) (owed setup (e ∷ log)) (asks setup.address slave (e ∷ log))
   rests_on (Sent from to bytes) log report may r s l = rests_sent (Sent from to bytes ∷ log) (course_at setup log) (owed setup log) (asks setup.address slave log) (length log) to bytes (same_address from setup.address) may s
   rests_on (Got to from bytes) log report may r s l =
-      let z = rests_event (Got to from bytes ∷ log) (Gram from bytes) (events setup log) (owed setup log) (asks setup.address slave log) report (same_address to setup.address) (length log) r s l in
+      let z = rests_event (Got to from bytes ∷ log) (Gram from bytes) (events_of_master setup log) (owed setup log) (asks setup.address slave log) report (same_address to setup.address) (length log) r s l in
       more_news (Got to from bytes ∷ log) (course_at setup (Got to from bytes ∷ log)) (owed setup (Got to from bytes ∷ log)) (asks setup.address slave log) (length log) bytes (same_address to setup.address && same_address from slave.address) z.0 z.1
   rests_on (Idle to) log report may r s l = s
-  rests_on (Turn to) log report may r s l = (rests_event (Turn to ∷ log) Tick (events setup log) (owed setup log) (asks setup.address slave log) report (same_address to setup.address) (length log) r s l).0
+  rests_on (Turn to) log report may r s l = (rests_event (Turn to ∷ log) Tick (events_of_master setup log) (owed setup log) (asks setup.address slave log) report (same_address to setup.address) (length log) r s l).0
 
   pub reported : (runs : 1 ≤ setup.runs) (log : List LogEntry) → IsRun setup log → (report : Report) → (course_at setup log).report ≡ Some report → Rests log (course_at setup log) (owed setup log) (asks setup.address slave log)
   reported runs [] run report r = absurd (clash r)
@@ -128,7 +128,7 @@ module _ (setup : Setup) (good : Request → Type 0) (i : ℕ) (slave : Slave) (
     where
       by : (o : Option Report) → (course_at setup log).report ≡ o → ((other : Report) → (course_at setup log).report ≡ Some other → Rests log (course_at setup log) (owed setup log) (asks setup.address slave log))
           → Rests (e ∷ log) (course_at setup (e ∷ log)) (owed setup (e ∷ log)) (asks setup.address slave (e ∷ log))
-      by None z h = comes (e ∷ log) (course_at setup (e ∷ log)) (owed setup (e ∷ log)) (asks setup.address slave (e ∷ log)) (all_report setup (events setup (e ∷ log)) report r).0
+      by None z h = comes (e ∷ log) (course_at setup (e ∷ log)) (owed setup (e ∷ log)) (asks setup.address slave (e ∷ log)) (all_report setup (events_of_master setup (e ∷ log)) report r).0
           (follow setup good i slave k runs e log run.0 z (followed setup good i slave k runs log run.1 z))
       by (Some other) z h =
           let k = h other z in

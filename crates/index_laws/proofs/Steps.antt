@@ -17,14 +17,14 @@ use Rattle.master_spec.specs.declared.reactions.Awaited.{Awaited}
 use Rattle.master_spec.specs.declared.reactions.Awaited.TheVariants.{TheAnswer, TheState, TheInputs, TheOutputs, TheOthers}
 use Rattle.master_spec.specs.declared.causes.Cause.{Cause}
 use Rattle.master_spec.specs.declared.causes.Cause.TheVariants as causes
-use Rattle.master_spec.specs.Tasks.{is_by_end, is_at_once, asks_step, target_of, passing_of, step_of}
+use Rattle.master_spec.specs.Tasks.{is_by_end, is_at_once, asks_step, target_of, passing_of, task_step}
 use Rattle.master_spec.specs.Jobs.{Job}
-use Rattle.master_spec.specs.News.{bytes_of}
-use Rattle.master_spec.specs.Marks.{Mark, Begun, Asked, Again, Answered, Hinted, Brought, Turned, Ended, asked, newest_number, open_in, latest, job_of, has_ended, cause_of, turns_since, is_sending, is_answer, sendings, is_hinted, is_missing, refusals, configured, is_passed, is_reached}
-use Rattle.master_spec.specs.Conversation.{is_state, is_error, is_late, configuration_at, on_nack, on_acknowledged, on_state, on_answer, awaited_after_state, awaited_after, awaited_by, awaited, on_silence, on_turn, on_hint, on_mark, reaction_in, reaction, done, after, again_bytes, messages_of, messages_after, unexpected}
+use Rattle.master_spec.specs.News.{request_bytes}
+use Rattle.master_spec.specs.Marks.{Mark, Begun, Asked, Again, Answered, Hinted, Brought, Turned, Ended, asked, newest_number, open_in, latest, job_of, conversation_ended, cause_of, turns_since, is_sending, is_answer, sendings, is_hinted, is_missing, refusals, settings_answered, is_passed, is_reached}
+use Rattle.master_spec.specs.Conversation.{is_state, is_error, is_late, configuration_at, on_nack, on_acknowledged, on_state, on_answer, awaited_after_state, awaited_after, awaited_by, awaited, on_silence, on_turn, on_hint, on_mark, reaction_in, reaction, done, marks_after, again_bytes, messages_of, messages_after, unexpected}
 use Rattle.master_spec.specs.Requests.{Asking, asking_in, with_asking}
 use Rattle.asking_laws.specs.Closed.{MayCome}
-use Rattle.index_laws.specs.Index.{Placed, at, marks_of, told_by, told, IsHeadOf, IsAsked, IsAgain, ReadBack, IsGoodJob, IsGoodMark, AreGood, Shut, Tracks}
+use Rattle.index_laws.specs.Index.{Placed, at, marks_of, askings_told_by, askings_told, IsHeadOf, IsAsked, IsAgain, ReadBack, IsGoodJob, IsGoodMark, AreGood, Shut, Tracks}
 use Rattle.index_laws.proofs.Index.{sent_new, sent_again}
 use Rattle.index_laws.proofs.Events.{repeats_open, head_came, head_asked, head_again, acts, cause_stays, shut_stays}
 
@@ -88,7 +88,7 @@ module _ (good : Request → Type 0) (state : good AskState) (error : good AskEr
   nack_good : (limits : Limits) (job : Job) (request : Request) (code : ℕ) (marks : List Mark) (r : Request) → on_nack limits job request code marks ≡ Ask r → good r
   nack_good limits job request code marks r h = by (is_missing code && asks_step request) (nat_le limits.step_tries (refusals marks)) h
     where
-      by : (a b : Bool) → (if a then (if b then GiveUp (causes.InputsMissing (newest_number marks) (step_of job.task)) else Wait) else GiveUp (causes.Refused (newest_number marks) code)) ≡ Ask r → good r
+      by : (a b : Bool) → (if a then (if b then GiveUp (causes.InputsMissing (newest_number marks) (task_step job.task)) else Wait) else GiveUp (causes.Refused (newest_number marks) code)) ≡ Ask r → good r
       by true true z = absurd cc
       by true false z = absurd cc
       by false b z = absurd cc
@@ -108,7 +108,7 @@ module _ (good : Request → Type 0) (state : good AskState) (error : good AskEr
 
   answer_good : (limits : Limits) (job : Job) (request : Request) (answer : Answer) (older marks : List Mark) (r : Request) → IsGoodJob good job → on_answer limits job request answer older marks ≡ Ask r → good r
   answer_good limits job request (Nack code) older marks r g h = nack_good limits job request code marks r h
-  answer_good limits job (Configure body) Ack older marks r g h = list_good (slice_get job.list (configured marks)) r (λ b e. g.1 (configured marks) b e) h
+  answer_good limits job (Configure body) Ack older marks r g h = list_good (slice_get job.list (settings_answered marks)) r (λ b e. g.1 (settings_answered marks) b e) h
   answer_good limits job (Change s body) Ack older marks r g h = ack_good job marks r h
   answer_good limits job AskState (StateAck s) older marks r g h = state_good limits job s older marks r h
   answer_good limits job AskError (ErrorAck code) older marks r g h = absurd cc
@@ -174,7 +174,7 @@ module _ (good : Request → Type 0) (state : good AskState) (error : good AskEr
   turn_good limits job (TheInputs q) settled marks r g h = if_asks (nat_le limits.retry_turns (turns_since is_answer marks)) q r g h
   turn_good limits job TheOutputs settled marks r g h = by (nat_le limits.data_turns (turns_since is_answer marks)) h
     where
-      by : (b : Bool) → (if b then GiveUp (causes.DataMissing (step_of job.task)) else Wait) ≡ Ask r → good r
+      by : (b : Bool) → (if b then GiveUp (causes.DataMissing (task_step job.task)) else Wait) ≡ Ask r → good r
       by true z = absurd cc
       by false z = absurd cc
   turn_good limits job TheOthers settled marks r g h = by (is_by_end job.task || settled) h
@@ -202,7 +202,7 @@ module _ (good : Request → Type 0) (state : good AskState) (error : good AskEr
 
   in_good : (limits : Limits) (o : Option Job) (m : Mark) (marks : List Mark) (r : Request) → GoodJobIf o → AreGood good (m ∷ marks) → reaction_in limits o m marks (m ∷ marks) ≡ Ask r → good r
   in_good limits None m marks r k g h = absurd cc
-  in_good limits (Some job) m marks r k g h = by (has_ended marks) h
+  in_good limits (Some job) m marks r k g h = by (conversation_ended marks) h
     where
       by : (b : Bool) → (if b then Wait else on_mark limits job m marks (m ∷ marks)) ≡ Ask r → good r
       by true e = absurd cc
@@ -213,12 +213,12 @@ module _ (good : Request → Type 0) (state : good AskState) (error : good AskEr
   asks_good limits m marks r g h = in_good limits (job_of (m ∷ marks)) m marks r (job_good (m ∷ marks) g) g h
 
   -- ---- an event
-  pub extends : (limits : Limits) (id n : ℕ) (m : Mark) (xs : List Placed) → MayCome m (marks_of xs) → IsGoodMark good m → IsHeadOf (marks_of xs) (told xs) → AreGood good (marks_of xs) → ((cause : Cause) → cause_of (marks_of xs) ≡ Some cause → Shut limits cause xs)
-      → (ys : List Placed) × (IsGrown n m xs ys × Tracks limits good id (after limits m (marks_of xs)) (messages_after limits id m (marks_of xs)) (told_by n m (marks_of xs) (told xs)) ys)
+  pub extends : (limits : Limits) (id n : ℕ) (m : Mark) (xs : List Placed) → MayCome m (marks_of xs) → IsGoodMark good m → IsHeadOf (marks_of xs) (askings_told xs) → AreGood good (marks_of xs) → ((cause : Cause) → cause_of (marks_of xs) ≡ Some cause → Shut limits cause xs)
+      → (ys : List Placed) × (IsGrown n m xs ys × Tracks limits good id (marks_after limits m (marks_of xs)) (messages_after limits id m (marks_of xs)) (askings_told_by n m (marks_of xs) (askings_told xs)) ys)
   extends limits id n m xs c g h a q = by (reaction limits m (marks_of xs)) refl
     where
-      now : IsHeadOf (m ∷ marks_of xs) (told (at n m ∷ xs))
-      now = head_came n m (marks_of xs) (told xs) c h
+      now : IsHeadOf (m ∷ marks_of xs) (askings_told (at n m ∷ xs))
+      now = head_came n m (marks_of xs) (askings_told xs) c h
 
       shut : (cause : Cause) → cause_of (m ∷ marks_of xs) ≡ Some cause → Shut limits cause (at n m ∷ xs)
       shut cause z = shut_stays limits n m cause xs c (q cause (sym (cause_stays m (marks_of xs) c) ∙ z))
@@ -233,13 +233,13 @@ module _ (good : Request → Type 0) (state : good AskState) (error : good AskEr
       again_not z = cc
 
       by : (R : Reaction) → reaction limits m (marks_of xs) ≡ R
-          → (ys : List Placed) × (IsGrown n m xs ys × Tracks limits good id (done R (m ∷ marks_of xs)) (messages_of id (m ∷ marks_of xs) R) (told_by n m (marks_of xs) (told xs)) ys)
+          → (ys : List Placed) × (IsGrown n m xs ys × Tracks limits good id (done R (m ∷ marks_of xs)) (messages_of id (m ∷ marks_of xs) R) (askings_told_by n m (marks_of xs) (askings_told xs)) ys)
       by Wait e = (at n m ∷ xs, (inl refl, record { owes = refl; is = refl; head = now; all = (g, a); shut = shut }))
       by (Ask r) e = (at n m ∷ xs, (inl refl, record { owes = (r, (asks_good limits m (marks_of xs) r (g, a) e, (none (Ask r) e (asks_not r), inl (refl, refl)))); is = refl; head = now; all = (g, a); shut = shut }))
       by Repeat e =
           let o = repeats_open limits m (marks_of xs) e in
-          let P : List (List ℕ) → Type 0 = λ z. (ys : List Placed) × (IsGrown n m xs ys × Tracks limits good id (Again ∷ m ∷ marks_of xs) z (told_by n m (marks_of xs) (told xs)) ys) in
-          let b : messages_of id (m ∷ marks_of xs) Repeat ≡ bytes_of (newest_number (m ∷ marks_of xs)) id o.0 ∷ [] = ap (again_bytes (newest_number (m ∷ marks_of xs)) id) o.1 in
+          let P : List (List ℕ) → Type 0 = λ z. (ys : List Placed) × (IsGrown n m xs ys × Tracks limits good id (Again ∷ m ∷ marks_of xs) z (askings_told_by n m (marks_of xs) (askings_told xs)) ys) in
+          let b : messages_of id (m ∷ marks_of xs) Repeat ≡ request_bytes (newest_number (m ∷ marks_of xs)) id o.0 ∷ [] = ap (again_bytes (newest_number (m ∷ marks_of xs)) id) o.1 in
           let k : GoodLatest (latest (m ∷ marks_of xs)) = latest_good (m ∷ marks_of xs) (g, a) in
           subst P (sym b) (at n m ∷ xs, (inl refl, record { owes = (o.0, (open_good (latest (m ∷ marks_of xs)) o.0 k o.1, (none Repeat e again_not, inr (refl, (o.1, refl))))); is = refl; head = now; all = (g, a); shut = shut }))
         where
@@ -269,8 +269,8 @@ module _ (good : Request → Type 0) (state : good AskState) (error : good AskEr
           inr (r, refl),
           record {
             owes = k.0;
-            is = ap (λ z. with_asking (asking_in n (message_in z)) bs) k.1 ∙ ap (with_asking (asking_in n (message_in (bytes_of (asked (marks_of xs) % 65536) id r)))) t.is ∙ sent_new n id r xs (back r g) t.head;
-            head = head_asked n r (marks_of xs) (told xs);
+            is = ap (λ z. with_asking (asking_in n (message_in z)) bs) k.1 ∙ ap (with_asking (asking_in n (message_in (request_bytes (asked (marks_of xs) % 65536) id r)))) t.is ∙ sent_new n id r xs (back r g) t.head;
+            head = head_asked n r (marks_of xs) (askings_told xs);
             all = (g, t.all);
             shut = λ cause z. absurd (clash cause (sym o ∙ z));
           },
@@ -282,8 +282,8 @@ module _ (good : Request → Type 0) (state : good AskState) (error : good AskEr
           inl refl,
           record {
             owes = k.0;
-            is = ap (λ z. with_asking (asking_in n (message_in z)) bs) (k.1).1 ∙ ap (with_asking (asking_in n (message_in (bytes_of (newest_number (marks_of xs)) id r)))) t.is ∙ sent_again n id r xs (back r g) (k.1).0 t.head;
-            head = head_again n r (marks_of xs) (told xs) (k.1).0 t.head;
+            is = ap (λ z. with_asking (asking_in n (message_in z)) bs) (k.1).1 ∙ ap (with_asking (asking_in n (message_in (request_bytes (newest_number (marks_of xs)) id r)))) t.is ∙ sent_again n id r xs (back r g) (k.1).0 t.head;
+            head = head_again n r (marks_of xs) (askings_told xs) (k.1).0 t.head;
             all = (tt, t.all);
             shut = λ cause z. absurd (clash cause (sym o ∙ z));
           },

@@ -38,15 +38,15 @@ next_place [] = 0
 next_place (x ∷ xs) = next_after x.place x.mark (next_place xs)
 
 -- a conversation ends at the place of what made it end
-abbrev pub IsLater : ℕ → Mark → ℕ → Type 0
-IsLater place (Ended cause) n = Unit {0}
-IsLater place (Begun job) n = n ≤ place
-IsLater place (Turned settled) n = n ≤ place
-IsLater place (Asked request) n = n ≤ place
-IsLater place Again n = n ≤ place
-IsLater place (Answered request answer) n = n ≤ place
-IsLater place Hinted n = n ≤ place
-IsLater place (Brought number payload) n = n ≤ place
+abbrev pub IsLaterMark : ℕ → Mark → ℕ → Type 0
+IsLaterMark place (Ended cause) n = Unit {0}
+IsLaterMark place (Begun job) n = n ≤ place
+IsLaterMark place (Turned settled) n = n ≤ place
+IsLaterMark place (Asked request) n = n ≤ place
+IsLaterMark place Again n = n ≤ place
+IsLaterMark place (Answered request answer) n = n ≤ place
+IsLaterMark place Hinted n = n ≤ place
+IsLaterMark place (Brought number payload) n = n ≤ place
 
 -- a turn may end the phase in which it comes
 abbrev pub IsOfPhase : Mark → (now counted : ℕ) → Type 0
@@ -71,7 +71,7 @@ ThenBrings setup log slave place (Turned settled) = Unit {0}
 ThenBrings setup log slave place (Ended cause) = Unit {0}
 
 pub record IsDated (setup : Setup) (slave : Slave) (log : List LogEntry) (place : ℕ) (mark : Mark) (xs : List Placed) : Type 0 where
-  pub later : IsLater place mark (next_place xs)
+  pub later : IsLaterMark place mark (next_place xs)
   pub below : place ≤ length log
   pub turns : turns_before setup.address log place ≡ clock (mark ∷ marks_of xs)
   pub phase : IsOfPhase mark (phase_before setup log place) (count is_begun (mark ∷ marks_of xs))

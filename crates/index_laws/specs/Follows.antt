@@ -9,7 +9,7 @@ use Rattle.master_spec.specs.declared.requests.Request.TheVariants.{AskState, As
 use Rattle.master_spec.specs.Jobs.{Job}
 use Rattle.master_spec.specs.Marks.{Mark}
 use Rattle.master_spec.specs.Requests.{Asking}
-use Rattle.master_spec.specs.Course.{Talk, Course}
+use Rattle.master_spec.specs.Course.{CourseTalk, Course}
 use Rattle.master_spec.specs.Setup.{jobs_of}
 use Rattle.master_spec.specs.declared.setups.Slave.{Slave}
 use Rattle.master_spec.specs.declared.setups.Setup.{Setup}
@@ -21,7 +21,7 @@ abbrev pub mine : Address → List Send → List (List ℕ)
 mine a [] = []
 mine a (p ∷ posts) = if same_address p.to a then p.bytes ∷ mine a posts else mine a posts
 
-abbrev pub talk_with : Slave → List Mark → Talk
+abbrev pub talk_with : Slave → List Mark → CourseTalk
 talk_with slave marks = record { slave = slave; marks = marks }
 
 -- the slave at a place of the setup: no other one has its address, and its requests read back
@@ -34,7 +34,7 @@ pub record Listens (setup : Setup) (good : Request → Type 0) (i : ℕ) (slave 
   pub jobs : (k : ℕ) (job : Job) → slice_get (jobs_of setup slave) k ≡ Some job → IsGoodJob good job
 
 -- where its conversation stands, and what the log tells of its requests
-pub record Follows (setup : Setup) (good : Request → Type 0) (i : ℕ) (slave : Slave) (log : List LogEntry) (until : ℕ) (c : Course) (posts : List Send) (bs : List Asking) : Type 0 where
+pub record FollowsCourse (setup : Setup) (good : Request → Type 0) (i : ℕ) (slave : Slave) (log : List LogEntry) (until : ℕ) (c : Course) (posts : List Send) (bs : List Asking) : Type 0 where
   pub marks : List Mark
   pub xs : List Placed
   pub here : slice_get c.talks i ≡ Some (talk_with slave marks)

@@ -11,7 +11,7 @@ use Rattle.dcp_types.specs.declared.limits.Limits.{Limits}
 use Rattle.master_spec.specs.declared.causes.Cause.{Cause}
 use Rattle.asking_laws.specs.Closed.{MayCome}
 use Rattle.master_spec.specs.declared.requests.Answer.{Answer}
-use Rattle.master_spec.specs.News.{pdu_of, bytes_of}
+use Rattle.master_spec.specs.News.{pdu_of, request_bytes}
 use Rattle.master_spec.specs.Jobs.{Job, asked_by}
 use Rattle.master_spec.specs.Conversation.{first_of, reaction}
 use Rattle.std.specs.Prelude.{slice_get}
@@ -54,40 +54,40 @@ decided_at place answer [] = []
 decided_at place answer (b ∷ bs) =
     record { code = b.code; number = b.number; more = b.more; first = b.first; repeats = b.repeats; decision = decided_by b.decision (record { place = place; answer = answer }) } ∷ bs
 
-abbrev pub told_by : ℕ → Mark → List Mark → List Asking → List Asking
-told_by place (Asked request) marks bs = first_at place (asked marks % 65536) request ∷ bs
-told_by place Again marks bs = again_at place bs
-told_by place (Answered request answer) marks bs = decided_at place answer bs
-told_by place (Begun job) marks bs = bs
-told_by place Hinted marks bs = bs
-told_by place (Brought number payload) marks bs = bs
-told_by place (Turned settled) marks bs = bs
-told_by place (Ended cause) marks bs = bs
+abbrev pub askings_told_by : ℕ → Mark → List Mark → List Asking → List Asking
+askings_told_by place (Asked request) marks bs = first_at place (asked marks % 65536) request ∷ bs
+askings_told_by place Again marks bs = again_at place bs
+askings_told_by place (Answered request answer) marks bs = decided_at place answer bs
+askings_told_by place (Begun job) marks bs = bs
+askings_told_by place Hinted marks bs = bs
+askings_told_by place (Brought number payload) marks bs = bs
+askings_told_by place (Turned settled) marks bs = bs
+askings_told_by place (Ended cause) marks bs = bs
 
-abbrev pub told : List Placed → List Asking
-told [] = []
-told (x ∷ xs) = told_by x.place x.mark (marks_of xs) (told xs)
+abbrev pub askings_told : List Placed → List Asking
+askings_told [] = []
+askings_told (x ∷ xs) = askings_told_by x.place x.mark (marks_of xs) (askings_told xs)
 
 abbrev pub told_if : ℕ → Option Mark → List Mark → List Asking → List Asking
 told_if place None marks bs = bs
-told_if place (Some m) marks bs = told_by place m marks bs
+told_if place (Some m) marks bs = askings_told_by place m marks bs
 
 -- the newest request has the newest number, and is decided unless it is open
-abbrev pub IsHead : Option Request → ℕ → List Asking → Type 0
-IsHead None q [] = Unit {0}
-IsHead None q (b ∷ bs) = (b.number ≡ q) × (is_some b.decision ≡ true)
-IsHead (Some request) q [] = ⊥
-IsHead (Some request) q (b ∷ bs) = (b.number ≡ q) × ((b.decision ≡ None) × (b.code ≡ code_of request))
+abbrev pub IsHeadRequest : Option Request → ℕ → List Asking → Type 0
+IsHeadRequest None q [] = Unit {0}
+IsHeadRequest None q (b ∷ bs) = (b.number ≡ q) × (is_some b.decision ≡ true)
+IsHeadRequest (Some request) q [] = ⊥
+IsHeadRequest (Some request) q (b ∷ bs) = (b.number ≡ q) × ((b.decision ≡ None) × (b.code ≡ code_of request))
 
 abbrev pub IsHeadOf : List Mark → List Asking → Type 0
-IsHeadOf marks bs = IsHead (open_request marks) (newest_number marks) bs
+IsHeadOf marks bs = IsHeadRequest (open_request marks) (newest_number marks) bs
 
 -- ---- what is still to be sent to the slave: nothing, or the newest mark's request
 abbrev pub IsAsked : ℕ → List ℕ → (marks older : List Mark) → Request → Type 0
-IsAsked id b marks older r = (marks ≡ Asked r ∷ older) × (b ≡ bytes_of (asked older % 65536) id r)
+IsAsked id b marks older r = (marks ≡ Asked r ∷ older) × (b ≡ request_bytes (asked older % 65536) id r)
 
 abbrev pub IsAgain : ℕ → List ℕ → (marks older : List Mark) → Request → Type 0
-IsAgain id b marks older r = (marks ≡ Again ∷ older) × ((open_request older ≡ Some r) × (b ≡ bytes_of (newest_number older) id r))
+IsAgain id b marks older r = (marks ≡ Again ∷ older) × ((open_request older ≡ Some r) × (b ≡ request_bytes (newest_number older) id r))
 
 abbrev pub Owes : (Request → Type 0) → ℕ → List (List ℕ) → (marks older : List Mark) → Type 0
 Owes good id [] marks older = marks ≡ older
@@ -96,7 +96,7 @@ Owes good id (b ∷ c ∷ more) marks older = ⊥
 
 -- ---- requests that read back
 abbrev pub ReadBack : ℕ → Request → Type 0
-ReadBack id r = (number : ℕ) → number < 65536 → message_in (bytes_of number id r) ≡ Some (message_of (pdu_of number id r))
+ReadBack id r = (number : ℕ) → number < 65536 → message_in (request_bytes number id r) ≡ Some (message_of (pdu_of number id r))
 
 abbrev pub IsGoodJob : (Request → Type 0) → Job → Type 0
 IsGoodJob good job = ((r : Request) → first_of (asked_by job) ≡ Ask r → good r) × ((i : ℕ) (body : Cfg) → slice_get job.list i ≡ Some body → good (Configure body))
@@ -119,7 +119,7 @@ AreGood good (m ∷ marks) = IsGoodMark good m × AreGood good marks
 -- the conversation ended by what happened last in xs
 abbrev pub Why : Limits → Cause → List Placed → Type 0
 Why limits cause [] = ⊥
-Why limits cause (x ∷ xs) = (reaction limits x.mark (marks_of xs) ≡ GiveUp cause) × (MayCome x.mark (marks_of xs) × IsHeadOf (marks_of xs) (told xs))
+Why limits cause (x ∷ xs) = (reaction limits x.mark (marks_of xs) ≡ GiveUp cause) × (MayCome x.mark (marks_of xs) × IsHeadOf (marks_of xs) (askings_told xs))
 
 -- it ended with this cause, and nothing was sent since
 abbrev pub ShutBy : Limits → Cause → Mark → List Placed → Type 0 → Type 0
@@ -138,7 +138,7 @@ Shut limits cause (x ∷ xs) = ShutBy limits cause x.mark xs (Shut limits cause 
 
 pub record Tracks (limits : Limits) (good : Request → Type 0) (id : ℕ) (marks : List Mark) (owed : List (List ℕ)) (bs : List Asking) (xs : List Placed) : Type 0 where
   pub owes : Owes good id owed marks (marks_of xs)
-  pub is : bs ≡ told xs
-  pub head : IsHeadOf (marks_of xs) (told xs)
+  pub is : bs ≡ askings_told xs
+  pub head : IsHeadOf (marks_of xs) (askings_told xs)
   pub all : AreGood good (marks_of xs)
   pub shut : (cause : Cause) → cause_of (marks_of xs) ≡ Some cause → Shut limits cause xs

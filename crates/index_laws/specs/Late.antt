@@ -8,7 +8,7 @@ use Rattle.master_spec.specs.Course.{Course}
 use Rattle.master_spec.specs.Requests.{Asking, Decision}
 use Rattle.dcp_ends.specs.declared.entries.LogEntry.{LogEntry}
 use Rattle.index_laws.specs.Dates.{Dated}
-use Rattle.index_laws.specs.Index.{Placed, marks_of, told, IsHeadOf, Shut}
+use Rattle.index_laws.specs.Index.{Placed, marks_of, askings_told, IsHeadOf, Shut}
 use Rattle.index_laws.specs.Follows.{talk_with}
 
 -- the same request, but that an answer may have come to it at this place or later
@@ -28,11 +28,11 @@ AreLate since (a ∷ az) [] = ⊥
 AreLate since (a ∷ az) (b ∷ bs) = IsLate since a b × (az ≡ bs)
 
 -- once there is a report, at any later moment
-pub record Stands (setup : Setup) (i : ℕ) (slave : Slave) (log : List LogEntry) (c : Course) (bs : List Asking) : Type 0 where
+pub record StandsByLog (setup : Setup) (i : ℕ) (slave : Slave) (log : List LogEntry) (c : Course) (bs : List Asking) : Type 0 where
   pub xs : List Placed
   pub here : slice_get c.talks i ≡ Some (talk_with slave (marks_of xs))
-  pub head : IsHeadOf (marks_of xs) (told xs)
+  pub head : IsHeadOf (marks_of xs) (askings_told xs)
   pub shut : (cause : Cause) → cause_of (marks_of xs) ≡ Some cause → Shut setup.limits cause xs
   pub until : ℕ
-  pub late : AreLate until bs (told xs)
+  pub late : AreLate until bs (askings_told xs)
   pub dated : Dated setup slave log until xs

@@ -13,8 +13,8 @@ use Rattle.master_spec.specs.Rules.{MasterRun}
 use Rattle.master_spec.specs.Requests.{asks}
 use Rattle.index_laws.specs.Runs.{course_at, owed, IsRun}
 use Rattle.index_laws.specs.Index.{ReadBack, IsGoodJob}
-use Rattle.index_laws.specs.Follows.{mine, Follows}
-use Rattle.index_laws.specs.Late.{Stands}
+use Rattle.index_laws.specs.Follows.{mine, FollowsCourse}
+use Rattle.index_laws.specs.Late.{StandsByLog}
 
 -- the slaves have addresses of their own, what they are asked reads back, and there is a run
 pub record AreHeard (setup : Setup) : Type 0 where
@@ -28,13 +28,13 @@ pub record AreHeard (setup : Setup) : Type 0 where
 abbrev pub IndexUpToReport : Type 0
 IndexUpToReport = (setup : Setup) → AreHeard setup → (log : List LogEntry) → IsRun setup log → (course_at setup log).report ≡ None
     → (i : ℕ) (slave : Slave) → slice_get setup.slaves i ≡ Some slave
-    → Follows setup (ReadBack slave.id) i slave log (length log) (course_at setup log) (owed setup log) (asks setup.address slave log)
+    → FollowsCourse setup (ReadBack slave.id) i slave log (length log) (course_at setup log) (owed setup log) (asks setup.address slave log)
 
 -- once there is a report they are the same, but for a late answer to the newest one, and nothing is still to be sent
 abbrev pub IndexOnceReported : Type 0
 IndexOnceReported = (setup : Setup) → AreHeard setup → (log : List LogEntry) → IsRun setup log → (report : Report) → (course_at setup log).report ≡ Some report
     → (i : ℕ) (slave : Slave) → slice_get setup.slaves i ≡ Some slave
-    → Stands setup i slave log (course_at setup log) (asks setup.address slave log) × (mine slave.address (owed setup log) ≡ [])
+    → StandsByLog setup i slave log (course_at setup log) (asks setup.address slave log) × (mine slave.address (owed setup log) ≡ [])
 
 -- a log in which the master's entries are those of its rules, the oldest first, is one entry by entry, the newest first
 abbrev pub RunsEntryByEntry : Type 0

@@ -10,19 +10,19 @@ use Rattle.master_spec.specs.Course.{Course, course}
 
 -- the Gots and Turns of the master, the newest first
 abbrev pub with_event : Bool → Event → List Event → List Event
-with_event true event events = event ∷ events
-with_event false event events = events
+with_event true event events_of_master = event ∷ events_of_master
+with_event false event events_of_master = events_of_master
 
-abbrev pub events : Setup → List LogEntry → List Event
-events setup [] = []
-events setup (Sent from to bytes ∷ log) = events setup log
-events setup (Got at from bytes ∷ log) = with_event (same_address at setup.address) (Gram from bytes) (events setup log)
-events setup (Idle at ∷ log) = events setup log
-events setup (Turn at ∷ log) = with_event (same_address at setup.address) Tick (events setup log)
+abbrev pub events_of_master : Setup → List LogEntry → List Event
+events_of_master setup [] = []
+events_of_master setup (Sent from to bytes ∷ log) = events_of_master setup log
+events_of_master setup (Got at from bytes ∷ log) = with_event (same_address at setup.address) (Gram from bytes) (events_of_master setup log)
+events_of_master setup (Idle at ∷ log) = events_of_master setup log
+events_of_master setup (Turn at ∷ log) = with_event (same_address at setup.address) Tick (events_of_master setup log)
 
 -- where the master stands after a log
 abbrev pub course_at : Setup → List LogEntry → Course
-course_at setup log = course setup (events setup log)
+course_at setup log = course setup (events_of_master setup log)
 
 abbrev pub tail : List Send → List Send
 tail [] = []
@@ -36,22 +36,22 @@ owed setup (Got at from bytes ∷ log) = if same_address at setup.address then (
 owed setup (Idle at ∷ log) = owed setup log
 owed setup (Turn at ∷ log) = if same_address at setup.address then (course_at setup (Turn at ∷ log)).sent else owed setup log
 
-abbrev pub IsFirst : List Send → Address → List ℕ → Type 0
-IsFirst [] to bytes = ⊥
-IsFirst (p ∷ posts) to bytes = (p.to ≡ to) × (p.bytes ≡ bytes)
+abbrev pub IsFirstSend : List Send → Address → List ℕ → Type 0
+IsFirstSend [] to bytes = ⊥
+IsFirstSend (p ∷ posts) to bytes = (p.to ≡ to) × (p.bytes ≡ bytes)
 
 abbrev pub where_it_is : Bool → Type 0 → Type 0
 where_it_is true P = P
 where_it_is false P = Unit {0}
 
 -- the master sends what it owes, and has no event before that
-abbrev pub MasterMay : Setup → LogEntry → List LogEntry → Type 0
-MasterMay setup (Sent from to bytes) log = where_it_is (same_address from setup.address) (IsFirst (owed setup log) to bytes)
-MasterMay setup (Got at from bytes) log = where_it_is (same_address at setup.address) (owed setup log ≡ [])
-MasterMay setup (Idle at) log = Unit {0}
-MasterMay setup (Turn at) log = where_it_is (same_address at setup.address) (owed setup log ≡ [])
+abbrev pub MasterActs : Setup → LogEntry → List LogEntry → Type 0
+MasterActs setup (Sent from to bytes) log = where_it_is (same_address from setup.address) (IsFirstSend (owed setup log) to bytes)
+MasterActs setup (Got at from bytes) log = where_it_is (same_address at setup.address) (owed setup log ≡ [])
+MasterActs setup (Idle at) log = Unit {0}
+MasterActs setup (Turn at) log = where_it_is (same_address at setup.address) (owed setup log ≡ [])
 
 -- after the last event the sends are a front of those of the definition
 abbrev pub IsRun : Setup → List LogEntry → Type 0
 IsRun setup [] = Unit {0}
-IsRun setup (e ∷ log) = MasterMay setup e log × IsRun setup log
+IsRun setup (e ∷ log) = MasterActs setup e log × IsRun setup log

@@ -7,26 +7,26 @@ use Rattle.dcp_ends.specs.declared.entries.LogEntry.TheVariants.{Sent, Got, Turn
 use Rattle.fixed_models.specs.declared.kinds.Kind.TheVariants.{Const}
 use Rattle.pdu_layout.specs.Reading.{message_in}
 use Rattle.log_spec.specs.Log.{Parties}
-use Rattle.lockstep_laws.specs.Cast.{Slaves}
-use Rattle.slave_spec.specs.declared.words.Setup.{Setup}
+use Rattle.lockstep_laws.specs.Cast.{ConversingSlaves}
+use Rattle.slave_spec.specs.declared.words.SlaveSetup.{SlaveSetup}
 use Rattle.slave_meets.specs.Laws.{slaves_made}
 
-abbrev pub address : ℕ → Address
-address s = record { ip = 1; port = 9 + s }
+abbrev pub small_address : ℕ → Address
+small_address s = record { ip = 1; port = 9 + s }
 
-abbrev pub parties : Parties
-parties = record { count = 1; master = address 0; slave = address; read = message_in }
+abbrev pub small_parties : Parties
+small_parties = record { count = 1; master = small_address 0; slave = small_address; read = message_in }
 
 -- slave s has the identity s, and shows one number for ever
-abbrev pub setup : ℕ → Setup
+abbrev pub setup : ℕ → SlaveSetup
 setup s = record {
-  desc = record { name = []; uuid = s; address = address s; busy = 0; heartbeat = 0; numerator = 1; denominator = 1; kind = Const; parameters = pos 5 ∷ []; inputs = []; outputs = record { vr = 1; kind = I64 } ∷ [] };
+  desc = record { name = []; uuid = s; address = small_address s; busy = 0; heartbeat = 0; numerator = 1; denominator = 1; kind = Const; parameters = pos 5 ∷ []; inputs = []; outputs = record { vr = 1; kind = I64 } ∷ [] };
   micro = 1;
 }
 
 -- anything may be asked of it, but for row events: no run is opened
-abbrev pub slaves : Slaves
-slaves = slaves_made parties setup 1 1 (λ s es n. true) (λ s run es. false)
+abbrev pub slaves : ConversingSlaves
+slaves = slaves_made small_parties setup 1 1 (λ s es n. true) (λ s run es. false)
 
 -- the messages: a register, the question for the state, and their answers
 abbrev pub register : List ℕ
@@ -41,32 +41,32 @@ question = 128 ∷ 1 ∷ 0 ∷ 1 ∷ []
 abbrev pub configuration : List ℕ
 configuration = 178 ∷ 1 ∷ 0 ∷ 1 ∷ 1 ∷ []
 
-abbrev pub asked : List ℕ → LogEntry
-asked bytes = Sent (address 0) (address 1) bytes
+abbrev pub asked_entry : List ℕ → LogEntry
+asked_entry bytes = Sent (small_address 0) (small_address 1) bytes
 
-abbrev pub came : List ℕ → LogEntry
-came bytes = Got (address 1) (address 0) bytes
+abbrev pub came_entry : List ℕ → LogEntry
+came_entry bytes = Got (small_address 1) (small_address 0) bytes
 
-abbrev pub told : List ℕ → LogEntry
-told bytes = Sent (address 1) (address 0) bytes
+abbrev pub told_entry : List ℕ → LogEntry
+told_entry bytes = Sent (small_address 1) (small_address 0) bytes
 
-abbrev pub heard : List ℕ → LogEntry
-heard bytes = Got (address 0) (address 1) bytes
+abbrev pub heard_entry : List ℕ → LogEntry
+heard_entry bytes = Got (small_address 0) (small_address 1) bytes
 
 -- the newest entry first
 abbrev pub log : List LogEntry
 log =
-    heard acknowledgement
-    ∷ heard configuration
-    ∷ told configuration
-    ∷ came question
-    ∷ asked question
-    ∷ heard acknowledgement
-    ∷ told acknowledgement
-    ∷ came register
-    ∷ told acknowledgement
-    ∷ came register
-    ∷ asked register
-    ∷ asked register
-    ∷ Turn (address 0)
+    heard_entry acknowledgement
+    ∷ heard_entry configuration
+    ∷ told_entry configuration
+    ∷ came_entry question
+    ∷ asked_entry question
+    ∷ heard_entry acknowledgement
+    ∷ told_entry acknowledgement
+    ∷ came_entry register
+    ∷ told_entry acknowledgement
+    ∷ came_entry register
+    ∷ asked_entry register
+    ∷ asked_entry register
+    ∷ Turn (small_address 0)
     ∷ []

@@ -8,18 +8,18 @@ ghost use Rattle.std.specs.Prelude.{◌≡◌, [], ◌∷◌, length, map};
 ghost use Rattle.lockstep_laws.specs.Runs.{AreSlaves, Behaves};
 ghost use Rattle.log_spec.specs.Log.{requests_sent};
 ghost use Rattle.log_spec.specs.Moves.{decided_exchanges};
-ghost use Rattle.law_witnesses.specs.Small.{parties, slaves, log};
+ghost use Rattle.law_witnesses.specs.Small.{small_parties, slaves, log};
 
 /// The slave is a slave of the laws, and the network, the master and the slave behave in the log.
 pub fn a_run_behaves()
-    ensures slaves { AreSlaves parties slaves }
-    ensures run { Behaves parties slaves log }
+    ensures slaves { AreSlaves small_parties slaves }
+    ensures run { Behaves small_parties slaves log }
 {}
 
 /// In it two requests are sent, both are taken, once each and in order, and both are decided by the answers
 /// that were given.
 pub fn a_run_shows()
-    ensures sent { length (requests_sent parties 1 log) ≡ 2 }
-    ensures taken { map (λ e. e.request) (slaves.desk 1 log).served ≡ requests_sent parties 1 log }
-    ensures decided { decided_exchanges parties 1 log ≡ (slaves.desk 1 log).served }
+    ensures sent { length (requests_sent small_parties 1 log) ≡ 2 }
+    ensures taken { map (λ e. e.request) (slaves.desk 1 log).served ≡ requests_sent small_parties 1 log }
+    ensures decided { decided_exchanges small_parties 1 log ≡ (slaves.desk 1 log).served }
 {}

@@ -14,14 +14,14 @@ use Rattle.commands.specs.declared.statuses.Status.{Status}
 use Rattle.commands.specs.declared.statuses.Status.TheVariants.{Done, Usage, BadInput, RunFailed, ReadFault, WriteFault, NetFault, OutOfMemory, Differs}
 use Rattle.commands.specs.Statuses.{ComesBeforeWriting, ComesWithoutNet, judgement_of_report, status_after}
 use Rattle.dcp_io.specs.Faults.{Rose}
-use Rattle.commands.specs.Changes.{Change}
+use Rattle.commands.specs.Changes.{RunChange}
 use Rattle.commands.specs.Outcomes.{IsFree}
 use Rattle.live_commands.specs.Outcomes.{Answered, Outcome}
 use Rattle.live_commands.specs.Parts.{IsLive}
 use Rattle.live_commands.specs.declared.answers.Run.{Run}
 use Rattle.live_commands.specs.declared.parts.Part.{Part}
 use Rattle.live_commands.specs.declared.parts.Part.TheVariants as parts
-use Rattle.live_commands.specs.Answers.{Delivered, IsEnded, RunDelivered, ended_text}
+use Rattle.live_commands.specs.Answers.{Delivered, IsRunEnded, RunDelivered, ended_text}
 use Rattle.live_commands.specs.Changes.{LiveChange}
 use Rattle.live_commands.specs.Parts.{bits_in}
 use Rattle.live_commands.specs.Says.{ComesTo, HasLived, LivesTo, SaysLive, judgement_of_fault}
@@ -55,7 +55,7 @@ says_of words net input Refused text traced lives = absurd (is_said lives.part l
 
 -- what is delivered of a run is what the command says of its text
 pub ran_says : (held holds : Option (List ℕ)) (before now : ℕ) (kept keeps : Option (List ℕ)) (began ends : ℕ) (words : List (List ℕ)) (net : LiveChange) (input : List ℕ) (run : Run) (status : Status)
-    → HasLived words net input run.part run.host × IsEnded run → RunDelivered held holds before now kept keeps began ends input run status → Delivered held holds before now kept keeps began ends words net input status
+    → HasLived words net input run.part run.host × IsRunEnded run → RunDelivered held holds before now kept keeps began ends input run status → Delivered held holds before now kept keeps began ends words net input status
 ran_says held holds before now kept keeps began ends words net input run status given done =
     let text = ended_text run.host run.ending in
     let traced = trace_bytes (bits_in run.part (length run.host.scenario.slaves)) input run.host.log in
@@ -76,13 +76,13 @@ said_written judged.Differs delivery said = absurd said
 said_written Refused delivery said = absurd said
 
 pub written : (held holds : Option (List ℕ)) (before now : ℕ) (kept keeps : Option (List ℕ)) (began ends : ℕ) (input : List ℕ) (run : Run) (status : Status)
-    → IsEnded run → RunDelivered held holds before now kept keeps began ends input run status → (ComesBeforeWriting status → ⊥) × (status ≡ Usage → ⊥) × (ComesWithoutNet status → ⊥)
+    → IsRunEnded run → RunDelivered held holds before now kept keeps began ends input run status → (ComesBeforeWriting status → ⊥) × (status ≡ Usage → ⊥) × (ComesWithoutNet status → ⊥)
 written held holds before now kept keeps began ends input run status ended done =
     let said = is_said run.part run.host run.judgement (ended_text run.host run.ending) ended in
     let Written : Status → Type 0 = λ s. (ComesBeforeWriting s → ⊥) × (s ≡ Usage → ⊥) × (ComesWithoutNet s → ⊥) in
     subst Written (sym done.status_is) (said_written run.judgement done.delivery said)
 
-module _ (words : List (List ℕ)) (source out trace : Change) (net : LiveChange) where
+module _ (words : List (List ℕ)) (source out trace : RunChange) (net : LiveChange) where
   pub outcome_is : (judgement : Judgement) (delivery : Delivery) → Answered words source out trace net judgement delivery → Outcome words source out trace net (status_after judgement delivery)
   outcome_is Good Whole answered = answered
   outcome_is Good Cut answered = inl answered

@@ -13,8 +13,8 @@ use Rattle.commands.specs.Limits.{input_limit}
 use Rattle.commands.specs.Said.{text_of}
 use Rattle.commands.specs.SaysRun.{run_text}
 use Rattle.commands.specs.Statuses.{status_after}
-use Rattle.live_commands.specs.declared.answers.Answer.{Answer}
-use Rattle.live_commands.specs.declared.answers.Answer.TheVariants.{Refused, Ran}
+use Rattle.live_commands.specs.declared.answers.LiveAnswer.{LiveAnswer}
+use Rattle.live_commands.specs.declared.answers.LiveAnswer.TheVariants.{Refused, Ran}
 use Rattle.live_commands.specs.declared.answers.Ending.{Ending}
 use Rattle.live_commands.specs.declared.answers.Ending.TheVariants.{Report, Line}
 use Rattle.live_commands.specs.declared.answers.Run.{Run}
@@ -33,30 +33,30 @@ HasMaster host (Report report) = host.hosted.master ≡ true
 HasMaster host (Line line) = Unit {0}
 
 -- what the run came to, and its text
-abbrev pub IsEnded : Run → Type 0
-IsEnded run = ComesTo run.part run.host run.judgement (ended_text run.host run.ending)
+abbrev pub IsRunEnded : Run → Type 0
+IsRunEnded run = ComesTo run.part run.host run.judgement (ended_text run.host run.ending)
 
 -- what the command says of the input is in this answer
-abbrev pub Gives : List (List ℕ) → LiveChange → (input : List ℕ) → Answer → Type 0
-Gives words net input (Refused said) = (said.judgement ≡ judged.Refused) × SaysLive words net input said.judgement (text_of said.text) []
-Gives words net input (Ran run) = HasLived words net input run.part run.host × IsEnded run
+abbrev pub GivesLive : List (List ℕ) → LiveChange → (input : List ℕ) → LiveAnswer → Type 0
+GivesLive words net input (Refused said) = (said.judgement ≡ judged.Refused) × SaysLive words net input said.judgement (text_of said.text) []
+GivesLive words net input (Ran run) = HasLived words net input run.part run.host × IsRunEnded run
 
 -- the scenario is sound, no fault stopped the ends, and what they came to is known
-pub record IsWritable (input : List ℕ) (run : Run) : Type 0 where
+pub record IsWritableRun (input : List ℕ) (run : Run) : Type 0 where
   pub sound : IsScenario run.host.scenario
   pub part : IsPart run.part
   pub unfaulted : run.host.fault ≡ None
   pub master : HasMaster run.host run.ending
-  pub ended : IsEnded run
+  pub ended : IsRunEnded run
   pub short : length input ≤ input_limit
 
-abbrev pub IsWritableAnswer : (input : List ℕ) → Answer → Type 0
-IsWritableAnswer input (Refused said) = said.judgement ≡ judged.Refused
-IsWritableAnswer input (Ran run) = IsWritable input run
+abbrev pub IsWritableLive : (input : List ℕ) → LiveAnswer → Type 0
+IsWritableLive input (Refused said) = said.judgement ≡ judged.Refused
+IsWritableLive input (Ran run) = IsWritableRun input run
 
-abbrev pub IsRefusal : Answer → Type 0
-IsRefusal (Refused said) = Unit {0}
-IsRefusal (Ran run) = ⊥
+abbrev pub IsLiveRefusal : LiveAnswer → Type 0
+IsLiveRefusal (Refused said) = Unit {0}
+IsLiveRefusal (Ran run) = ⊥
 
 -- the two sinks told and tell this, with their counts of faults
 module _ (held holds : Option (List ℕ)) (before now : ℕ) (kept keeps : Option (List ℕ)) (began ends : ℕ) where

@@ -10,7 +10,7 @@ use Rattle.commands.specs.declared.statuses.Status.{Status}
 use Rattle.commands.specs.declared.statuses.Status.TheVariants.{Done, Usage, BadInput, RunFailed, ReadFault, WriteFault, NetFault, OutOfMemory, Differs}
 use Rattle.commands.specs.declared.statuses.Judgement.{Judgement}
 use Rattle.commands.specs.declared.statuses.Judgement.TheVariants.{Good, Failed, Refused}
-use Rattle.commands.specs.Changes.{Change, HasFailed, HasNotFailed}
+use Rattle.commands.specs.Changes.{RunChange, HasFailed, HasNotFailed}
 use Rattle.commands.specs.Inputs.{TakesInput, TakesSome}
 use Rattle.commands.specs.Limits.{input_limit}
 use Rattle.live_commands.specs.Changes.{LiveChange}
@@ -26,7 +26,7 @@ abbrev pub NetFailed : LiveChange → Type 0
 NetFailed net = Rose net.before net.now ⊎ Rose net.failed_before net.failed_now
 
 -- these words were given, and this happened to the source, the two sinks, the network and the waits
-module _ (words : List (List ℕ)) (source out trace : Change) (net : LiveChange) where
+module _ (words : List (List ℕ)) (source out trace : RunChange) (net : LiveChange) where
   -- the text was written to the one sink, and then the trace to the other
   abbrev pub Wrote : (text traced : List ℕ) → Delivery → Type 0
   Wrote = DeliversBoth out.was out.is out.before out.now trace.was trace.is trace.before trace.now

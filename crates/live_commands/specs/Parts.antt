@@ -4,7 +4,7 @@ use Rattle.slave_desc.specs.declared.descriptions.SlaveDesc.{SlaveDesc}
 use Rattle.scenario.specs.declared.scenarios.Scenario.{Scenario}
 use Rattle.scenario.specs.Lookups.{slave_at}
 use Rattle.host.specs.declared.hosted.Hosted.{Hosted}
-use Rattle.scenario_runs.specs.Runs.{all_ends}
+use Rattle.host.specs.Hosting.{all_ends}
 use Rattle.run_text.specs.Runs.{all_bits}
 use Rattle.live_commands.specs.declared.parts.Part.{Part}
 use Rattle.live_commands.specs.declared.parts.Part.TheVariants as parts

@@ -8,13 +8,13 @@ ghost use Rattle.dcp_ends.specs.Logs.{IsInRange};
 ghost use Rattle.dcp_record.specs.Traces.{trace_bytes};
 ghost use Rattle.run_text.specs.Runs.{DeliversBoth};
 ghost use Rattle.scenario.specs.Sound.{IsScenario};
-ghost use Rattle.live_commands.specs.Answers.{Delivered, Gives, HasMaster, IsRefusal, IsWritable, IsWritableAnswer, RunDelivered, ended_text};
+ghost use Rattle.live_commands.specs.Answers.{Delivered, GivesLive, HasMaster, IsLiveRefusal, IsWritableRun, IsWritableLive, RunDelivered, ended_text};
 ghost use Rattle.live_commands.specs.Changes.{LiveChange};
 ghost use Rattle.live_commands.specs.Parts.{IsPart, bits_in};
 
 use crate::parts::Part;
 use byte_spool::{Delivery, write_all};
-use commands::{Judgement, Said, Status, write_text};
+use commands::{Judgement, Statement, Status, write_text};
 use dcp_ends::LogEntry;
 use dcp_io::Sink;
 use dcp_record::write_record;
@@ -24,9 +24,9 @@ use run_text::write_report;
 
 /// What a command answers to a text.
 #[derive(Drop)]
-pub enum Answer {
+pub enum LiveAnswer {
     /// The line that refuses it.
-    Refused(Said),
+    Refused(Statement),
     /// The ends have run until they were done.
     Ran(Run),
 }
@@ -124,7 +124,7 @@ fn write_both<K: Sink, R: Sink>(
 
 /// Writes what a run leaves.
 fn deliver_run<K: Sink, R: Sink>(out: &mut K, trace: &mut R, run: &Run, input: &[u8]) -> Status
-    requires { IsWritable input.now run.now }
+    requires { IsWritableRun input.now run.now }
     ensures { RunDelivered (K.written out.old) (K.written out.new) (K.faults out.old) (K.faults out.new)
         (R.written trace.old) (R.written trace.new) (R.faults trace.old) (R.faults trace.new) input.now run.now result }
 {
@@ -134,16 +134,21 @@ fn deliver_run<K: Sink, R: Sink>(out: &mut K, trace: &mut R, run: &Run, input: &
 }
 
 /// Writes the line that refuses a text and nothing to the other sink; or what a run leaves to both.
-pub fn deliver<K: Sink, R: Sink>(out: &mut K, trace: &mut R, answer: Answer, input: &[u8]) -> Status
-    requires { IsWritableAnswer input.now answer }
-    ensures delivered { (words : List (List ℕ)) (net : LiveChange) → Gives words net input.now answer
+pub fn deliver<K: Sink, R: Sink>(
+    out: &mut K,
+    trace: &mut R,
+    answer: LiveAnswer,
+    input: &[u8],
+) -> Status
+    requires { IsWritableLive input.now answer }
+    ensures delivered { (words : List (List ℕ)) (net : LiveChange) → GivesLive words net input.now answer
         → Delivered (K.written out.old) (K.written out.new) (K.faults out.old) (K.faults out.new) (R.written trace.old) (R.written trace.new) (R.faults trace.old) (R.faults trace.new) words net input.now result }
     ensures written { ComesBeforeWriting result → ⊥ }
     ensures used { result ≡ Status.Usage → ⊥ }
-    ensures refused { ComesWithoutNet result → IsRefusal answer }
+    ensures refused { ComesWithoutNet result → IsLiveRefusal answer }
 {
     match answer {
-        Answer::Refused(said) => said.judgement.status(write_text(out, &said.text)),
-        Answer::Ran(run) => deliver_run(out, trace, &run, input),
+        LiveAnswer::Refused(said) => said.judgement.status(write_text(out, &said.text)),
+        LiveAnswer::Ran(run) => deliver_run(out, trace, &run, input),
     }
 }

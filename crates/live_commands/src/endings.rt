@@ -5,7 +5,7 @@ ghost use Rattle.commands.specs.SaysRun.{report_after};
 ghost use Rattle.commands.specs.Statuses.{judgement_of_report};
 ghost use Rattle.host.specs.Views.{is_done, master_in, slaves_in};
 ghost use Rattle.scenario.specs.Lookups.{slave_at};
-ghost use Rattle.live_commands.specs.Answers.{HasMaster, IsEnded};
+ghost use Rattle.live_commands.specs.Answers.{HasMaster, IsRunEnded};
 ghost use Rattle.live_commands.specs.Parts.{HasSlave, IsPart, hosted_of};
 ghost use Rattle.live_commands.specs.Says.{LinesOf, judgement_of_fault};
 
@@ -76,7 +76,7 @@ fn slave_run(alloc: Global, slave: u8, host: Host) -> Result<Run, OutOfMemory>
     requires hosted { host.hosted ≡ hosted_of (Part.Slave slave) }
     requires there { is_some (slave_at host.scenario.slaves slave) ≡ true }
     ensures same { IfOk result (λ run. (run.part ≡ Part.Slave slave) × (run.host ≡ host)) }
-    ensures ended { IfOk result IsEnded }
+    ensures ended { IfOk result IsRunEnded }
     ensures master { IfOk result (λ run. HasMaster run.host run.ending) }
 {
     let said = said_of_slave(alloc, &host, slave)?;
@@ -107,7 +107,7 @@ pub fn ended(alloc: Global, part: Part, host: Host) -> Result<Run, OutOfMemory>
     requires there { HasSlave host.scenario part }
     requires done { is_done (master_in host) (slaves_in host) host.log ≡ true }
     ensures same { IfOk result (λ run. (run.part ≡ part) × (run.host ≡ host)) }
-    ensures ended { IfOk result IsEnded }
+    ensures ended { IfOk result IsRunEnded }
     ensures master { IfOk result (λ run. HasMaster run.host run.ending) }
 {
     if let Part::Slave(slave) = part {

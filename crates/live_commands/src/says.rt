@@ -1,11 +1,11 @@
 //! What a command over sockets says of a text.
 
 ghost use Rattle.std.specs.Prelude.{◌≡◌, IfOk, IfErr};
-ghost use Rattle.live_commands.specs.Answers.{Gives, IsRefusal, IsWritableAnswer};
+ghost use Rattle.live_commands.specs.Answers.{GivesLive, IsLiveRefusal, IsWritableLive};
 ghost use Rattle.live_commands.specs.Parts.{IsLive};
 ghost use Rattle.live_commands.specs.Stops.{StopsLive};
 
-use crate::answers::Answer;
+use crate::answers::LiveAnswer;
 use crate::endings::ended;
 use crate::hosting::{LiveFault, host_part};
 use crate::parts::part_of;
@@ -24,9 +24,9 @@ pub(crate) fn say_live<W: Wait, N: Net, P: Ready>(
     input: &[u8],
     net: &mut N,
     ready: &mut P,
-) -> Result<Answer, LiveFault>
+) -> Result<LiveAnswer, LiveFault>
     requires { IsLive words.now }
-    ensures says { IfOk result (Gives words.now (record {
+    ensures says { IfOk result (GivesLive words.now (record {
       told = record { calls = N.calls net.new; opening = N.opening net.new };
       before = N.count net.old;
       now = N.count net.new;
@@ -35,21 +35,21 @@ pub(crate) fn say_live<W: Wait, N: Net, P: Ready>(
       failed_before = P.count ready.old;
       failed_now = P.count ready.new;
     }) input.now) }
-    ensures writable { IfOk result (IsWritableAnswer input.now) }
-    ensures refused { IfOk result (λ answer. IsRefusal answer → (net.new ≡ net.old) × (ready.new ≡ ready.old)) }
+    ensures writable { IfOk result (IsWritableLive input.now) }
+    ensures refused { IfOk result (λ answer. IsLiveRefusal answer → (net.new ≡ net.old) × (ready.new ≡ ready.old)) }
     ensures still { IfOk result (λ answer. (N.count net.new ≡ N.count net.old) × (P.count ready.new ≡ P.count ready.old)) }
     ensures stopped { IfErr result (StopsLive input.now (N.count net.old) (N.count net.new) (P.count ready.old) (P.count ready.new)) }
 {
     if input.len() > LIMIT {
-        return Ok(Answer::Refused(refuse_past_limit()));
+        return Ok(LiveAnswer::Refused(refuse_past_limit()));
     }
     let scenario = match read_scenario(alloc, input) {
         Ok(scenario) => scenario,
-        Err(refused) => return Ok(Answer::Refused(refuse_text(alloc, refused)?)),
+        Err(refused) => return Ok(LiveAnswer::Refused(refuse_text(alloc, refused)?)),
     };
     let Some(part) = part_of(words.as_slice(), &scenario) else {
-        return Ok(Answer::Refused(refuse_line(alloc, 0, "UNKNOWN_SLAVE")?));
+        return Ok(LiveAnswer::Refused(refuse_line(alloc, 0, "UNKNOWN_SLAVE")?));
     };
     let host = host_part(rt, alloc, scenario, part, net, ready)?;
-    Ok(Answer::Ran(ended(alloc, part, host)?))
+    Ok(LiveAnswer::Ran(ended(alloc, part, host)?))
 }

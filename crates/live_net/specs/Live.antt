@@ -7,9 +7,9 @@ use Rattle.live_net.specs.declared.live_ends.LiveEnd.{LiveEnd}
 use Rattle.live_net.specs.declared.live_ends.LiveEnd.TheVariants.{Udp, Tcp}
 
 -- the address of an end
-abbrev pub place_of : LiveEnd → Address
-place_of (Udp end) = end.place
-place_of (Tcp end) = end.place
+abbrev pub socket_place : LiveEnd → Address
+socket_place (Udp end) = end.place
+socket_place (Tcp end) = end.place
 
 -- a network: the addresses that have a socket of their own, and how often it has failed
 pub record Live : Type 0 where
@@ -17,5 +17,5 @@ pub record Live : Type 0 where
   pub faults : ℕ
 
 -- an address has a socket of its own
-abbrev pub is_hosted : Live → Address → Bool
-is_hosted live at = list_any (λ place. same_address place at) live.hosted
+abbrev pub has_socket : Live → Address → Bool
+has_socket live at = list_any (λ place. same_address place at) live.hosted

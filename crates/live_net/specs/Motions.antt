@@ -11,15 +11,15 @@ abbrev pub IsLater : Error → Type 0
 IsLater error = (error_kind error ≡ WouldBlock) ⊎ (error_kind error ≡ Interrupted)
 
 -- each motion stands for these results and no others
-abbrev pub Means : Motion → Result ℕ Error → Type 0
-Means (Moved n) called = (called ≡ Ok n) × (1 ≤ n)
-Means Ended called = called ≡ Ok 0
-Means Later called = (error : Error) × (called ≡ Err error) × IsLater error
-Means Broken called = (error : Error) × (called ≡ Err error) × ¬ (IsLater error)
+abbrev pub MeansMotion : Motion → Result ℕ Error → Type 0
+MeansMotion (Moved n) called = (called ≡ Ok n) × (1 ≤ n)
+MeansMotion Ended called = called ≡ Ok 0
+MeansMotion Later called = (error : Error) × (called ≡ Err error) × IsLater error
+MeansMotion Broken called = (error : Error) × (called ≡ Err error) × ¬ (IsLater error)
 
 -- no byte will be moved after it
-abbrev pub is_last : Motion → Bool
-is_last (Moved n) = false
-is_last Ended = true
-is_last Later = false
-is_last Broken = true
+abbrev pub is_last_motion : Motion → Bool
+is_last_motion (Moved n) = false
+is_last_motion Ended = true
+is_last_motion Later = false
+is_last_motion Broken = true

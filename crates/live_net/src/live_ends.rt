@@ -2,7 +2,7 @@
 
 ghost use Rattle.std.specs.Prelude.{◌≡◌, ◌≤◌, length, IfOk};
 ghost use Rattle.dcp_net.specs.Nets.{IsWithinRoom};
-ghost use Rattle.live_net.specs.Live.{place_of};
+ghost use Rattle.live_net.specs.Live.{socket_place};
 
 use crate::datagrams::UdpEnd;
 use crate::refusals::Refused;
@@ -30,7 +30,7 @@ impl LiveEnd {
         place: Address,
         all: &[Address],
     ) -> Result<LiveEnd, Refused>
-        ensures { IfOk result (λ end. place_of end ≡ place) }
+        ensures { IfOk result (λ end. socket_place end ≡ place) }
     {
         match protocol {
             Protocol::Udp => Ok(LiveEnd::Udp(UdpEnd::open(net, registry, place)?)),
@@ -43,7 +43,7 @@ impl LiveEnd {
 
     /// Where it is.
     pub(crate) fn place(&self) -> Address
-        ensures { result ≡ place_of self.now }
+        ensures { result ≡ socket_place self.now }
     {
         match self {
             LiveEnd::Udp(end) => end.place(),
@@ -62,7 +62,7 @@ impl LiveEnd {
     ) -> Done
         requires low { 1 ≤ length bytes.now }
         requires high { length bytes.now ≤ 1024 }
-        ensures { place_of self.new ≡ place_of self.old }
+        ensures { socket_place self.new ≡ socket_place self.old }
     {
         match self {
             LiveEnd::Udp(end) => end.send(to, bytes),
@@ -78,7 +78,7 @@ impl LiveEnd {
         all: &[Address],
         room: &mut [u8; 1025],
     ) -> Taken
-        ensures place { place_of self.new ≡ place_of self.old }
+        ensures place { socket_place self.new ≡ socket_place self.old }
         ensures len { IsWithinRoom result }
     {
         match self {

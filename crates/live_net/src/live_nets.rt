@@ -2,7 +2,7 @@
 
 ghost use Rattle.std.specs.Prelude.{◌≡◌, ◌≤◌, ◌<◌, ⊤, [], false, true, length, IfOk, IsTrue, MatchOption};
 ghost use Rattle.dcp_net.specs.Nets.{HasCause, IsWithinRoom};
-ghost use Rattle.live_net.specs.Live.{is_hosted};
+ghost use Rattle.live_net.specs.Live.{has_socket};
 
 use crate::live_ends::LiveEnd;
 use crate::refusals::Refused;
@@ -30,11 +30,11 @@ pub struct LiveNet<H: net::Net + Clone + Drop> {
 
 impl<H: net::Net + Clone + Drop> Model for LiveNet<H> {
     ghost use Rattle.std.specs.Prelude.{map};
-    ghost use Rattle.live_net.specs.Live.{Live, place_of};
+    ghost use Rattle.live_net.specs.Live.{Live, socket_place};
 
     ghost Value = { Live };
 
-    ghost view = { λ s. record { hosted = map place_of s.ends.items; faults = s.faults } };
+    ghost view = { λ s. record { hosted = map socket_place s.ends.items; faults = s.faults } };
 }
 
 impl<H: net::Net + Clone + Drop> LiveNet<H> {
@@ -81,7 +81,7 @@ impl<H: net::Net + Clone + Drop> LiveNet<H> {
 
     /// The place of the hosted end at this address.
     fn find(&self, at: Address) -> Option<usize>
-        ensures { MatchOption result (is_hosted self.now at ≡ false) (λ i. (i < length self.now.hosted) × (is_hosted self.now at ≡ true)) }
+        ensures { MatchOption result (has_socket self.now at ≡ false) (λ i. (i < length self.now.hosted) × (has_socket self.now at ≡ true)) }
     {
         for (i, end) in self.ends.iter().enumerate() {
             if end.place() == at {
@@ -96,7 +96,7 @@ impl<H: net::Net + Clone + Drop> LiveNet<H> {
         requires low { 1 ≤ length bytes.now }
         requires high { length bytes.now ≤ 1024 }
         ensures same { self.new ≡ self.old }
-        ensures elsewhere { is_hosted self.old from ≡ false → result ≡ Done.Ok }
+        ensures elsewhere { has_socket self.old from ≡ false → result ≡ Done.Ok }
     {
         match self.find(from) {
             Some(i) => self.ends[i].send(&self.net, &self.registry, self.alloc, to, bytes),
@@ -108,7 +108,7 @@ impl<H: net::Net + Clone + Drop> LiveNet<H> {
     fn take_at(&mut self, at: Address, room: &mut [u8; 1025]) -> Taken
         ensures same { self.new ≡ self.old }
         ensures len { IsWithinRoom result }
-        ensures elsewhere { is_hosted self.old at ≡ false → result ≡ Taken.Nothing }
+        ensures elsewhere { has_socket self.old at ≡ false → result ≡ Taken.Nothing }
     {
         match self.find(at) {
             Some(i) => self.ends[i].take(&self.registry, self.alloc, &self.all, room),
@@ -157,7 +157,7 @@ impl<H: net::Net + Clone + Drop> Net for LiveNet<H> {
         ensures opening { Unit {0} }
         ensures cause { HasCause self.old.faults self.new.faults (result ≡ Done.Failed) }
         ensures hosted { self.new.hosted ≡ self.old.hosted }
-        ensures elsewhere { is_hosted self.old from ≡ false → result ≡ Done.Ok }
+        ensures elsewhere { has_socket self.old from ≡ false → result ≡ Done.Ok }
     {
         let sent = self.send_by(from, to, bytes);
         if sent == Done::Failed {
@@ -175,7 +175,7 @@ impl<H: net::Net + Clone + Drop> Net for LiveNet<H> {
         ensures opening { Unit {0} }
         ensures cause { HasCause self.old.faults self.new.faults (result ≡ Taken.Failed) }
         ensures hosted { self.new.hosted ≡ self.old.hosted }
-        ensures elsewhere { is_hosted self.old at ≡ false → result ≡ Taken.Nothing }
+        ensures elsewhere { has_socket self.old at ≡ false → result ≡ Taken.Nothing }
     {
         let taken = self.take_at(at, room);
         if taken == Taken::Failed {

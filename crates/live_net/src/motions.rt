@@ -1,6 +1,6 @@
 //! What a call on a stream that does not wait came to.
 
-ghost use Rattle.live_net.specs.Motions.{Means};
+ghost use Rattle.live_net.specs.Motions.{MeansMotion};
 
 use std::io;
 use std::io::ErrorKind;
@@ -20,7 +20,7 @@ pub enum Motion {
 
 /// What the result of a read or a write means.
 pub fn motion_of(called: &io::Result<usize>) -> Motion
-    ensures { Means result called.now }
+    ensures { MeansMotion result called.now }
 {
     match called {
         Ok(0) => Motion::Ended,

@@ -1,7 +1,7 @@
 //! A stream that does not wait, as a source and as a sink.
 
 ghost use Rattle.std.specs.Prelude.{◌≡◌, ◌||◌, false};
-ghost use Rattle.live_net.specs.Motions.{is_last};
+ghost use Rattle.live_net.specs.Motions.{is_last_motion};
 
 use crate::motions::{Motion, motion_of};
 use dcp_io::{Read, Sink, Source, Written};
@@ -34,7 +34,7 @@ impl<T> Stream<T> {
     fn note(&mut self, motion: Motion)
         ensures inner { self.new.inner ≡ self.old.inner }
         ensures faults { self.new.faults ≡ self.old.faults }
-        ensures over { self.new.is_over ≡ (self.old.is_over || is_last motion) }
+        ensures over { self.new.is_over ≡ (self.old.is_over || is_last_motion motion) }
     {
         match motion {
             Motion::Ended | Motion::Broken => self.is_over = true,

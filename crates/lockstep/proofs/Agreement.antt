@@ -9,7 +9,7 @@ use Rattle.scenario.specs.declared.scenarios.Wire.{Wire}
 use Rattle.lockstep.specs.declared.references.RefFault.{RefFault}
 use Rattle.scenario.specs.Settings.{parameters}
 use Rattle.scenario.specs.Wiring.{wire_into, interval, column}
-use Rattle.lockstep.specs.Lockstep.{row_index, read, inputs, state, state_after, shown, shown_at, beside, row_from, row}
+use Rattle.lockstep.specs.Lockstep.{row_index, read, inputs, state, model_state_after, shown, shown_at, beside, row_from, row}
 
 -- two lists of rows agree below a place
 abbrev pub Agree : ℕ → List (List ℤ) → List (List ℤ) → Type 0
@@ -43,7 +43,7 @@ below : (sc : Scenario) (rows others : List (List ℤ)) (r k : ℕ) → Agree (r
 below sc rows others r k h i lt = h i (omega arith)
 
 after-agree : (sc : Scenario) (rows others : List (List ℤ)) (s : ℕ) (d : SlaveDesc) (r k : ℕ) (x : Result (List ℤ) FaultCode) →
-    Agree (row_index sc.steps r k + 1) rows others → state_after sc rows s d r k x ≡ state_after sc others s d r k x
+    Agree (row_index sc.steps r k + 1) rows others → model_state_after sc rows s d r k x ≡ model_state_after sc others s d r k x
 after-agree sc rows others s d r k (Ok x) h =
     ap (λ (us : List ℤ). model_step d.kind (parameters sc s d r) (map (λ p. p.kind) d.outputs) x us sc.micro)
     (inputs-agree sc rows others s d r k h)
@@ -56,7 +56,7 @@ state-agree sc rows others s d r zero h = refl
 state-agree sc rows others s d r (suc k) h =
     let at = below sc rows others r k h in
     let before = state-agree sc rows others s d r k (λ i lt. h i (omega arith)) in
-    ap (λ (x : Result (List ℤ) FaultCode). state_after sc rows s d r k x) before
+    ap (λ (x : Result (List ℤ) FaultCode). model_state_after sc rows s d r k x) before
     ∙ after-agree sc rows others s d r k (state sc others s d r k) at
 
 pub row_from-agree : (sc : Scenario) (rows others : List (List ℤ)) (r k s : ℕ) (ds : List SlaveDesc) →

@@ -14,7 +14,7 @@ use Rattle.scenario.specs.Lookups.{slave_at, parameters_at, parameters_in}
 use Rattle.scenario.specs.Settings.{changed, setting_in, taken_by, takes_at, settings_until, parameters}
 use Rattle.scenario.specs.Sound.{IsScenario, changes}
 use Rattle.fixed_models.specs.Views.{accepts}
-use Rattle.lockstep.specs.Parts.{types_of}
+use Rattle.lockstep.specs.Parts.{types_of_outputs}
 
 AllPairs-head : {X : Type 0} (R : X → X → Type 0) (x : X) (xs : List X) → AllPairs R (x ∷ xs) → All (R x) xs
 AllPairs-head R x xs h k d lt = h 0 (suc k) d (omega arith) (omega arith)
@@ -59,7 +59,7 @@ both_true : (a b : Bool) → a ≡ true → b ≡ true → (a && b) ≡ true
 both_true a b h k = rw h k
 
 -- the kind takes the parameters of each run
-pub accepted : (sc : Scenario) (s r : ℕ) (d : SlaveDesc) → IsScenario sc → slave_at sc.slaves s ≡ Some d → (1 ≤ s) × (s ≤ length sc.slaves) → IsDesc d → accepts d.kind (parameters sc s d r) (length (types_of d)) ≡ true
+pub accepted : (sc : Scenario) (s r : ℕ) (d : SlaveDesc) → IsScenario sc → slave_at sc.slaves s ≡ Some d → (1 ≤ s) × (s ≤ length sc.slaves) → IsDesc d → accepts d.kind (parameters sc s d r) (length (types_of_outputs d)) ≡ true
 accepted sc s r d sound is slave desc =
     let n = length sc.settings + length (filter (λ x. nat_le x.run r) sc.reruns) in
     let all = sound.taken n s slave in
@@ -71,6 +71,6 @@ accepted sc s r d sound is slave desc =
     let taken : takes d.kind (parameters sc s d r) ≡ true =
     ap (λ (xs : List Setting). takes d.kind (changed d.parameters s xs)) (settings_first sc r sound) ∙ took in
     let ports : (length d.outputs == output_count d.kind) ≡ true = and_second (has_inputs d.kind (length d.inputs)) (length d.outputs == output_count d.kind) desc.ports in
-    let count : (length (types_of d) == output_count d.kind) ≡ true =
+    let count : (length (types_of_outputs d) == output_count d.kind) ≡ true =
     ap (λ (x : ℕ). x == output_count d.kind) (length-map d.outputs (λ p. p.kind)) ∙ ports in
-    both_true (takes d.kind (parameters sc s d r)) (length (types_of d) == output_count d.kind) taken count
+    both_true (takes d.kind (parameters sc s d r)) (length (types_of_outputs d) == output_count d.kind) taken count

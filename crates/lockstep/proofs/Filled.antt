@@ -26,7 +26,7 @@ use Rattle.lockstep.specs.declared.references.RefFault.{RefFault}
 use Rattle.lockstep.specs.Cut.{Grid, SameRows}
 use Rattle.scenario.specs.Settings.{parameters}
 use Rattle.lockstep.specs.Lockstep.{row, row_from, beside, shown, shown_at, shown_of, state}
-use Rattle.lockstep.specs.Parts.{StandsAt, AllStand, types_of}
+use Rattle.lockstep.specs.Parts.{PartStandsAt, AllStand, types_of_outputs}
 use Rattle.lockstep.specs.Filling.{behind, Filled}
 use Rattle.lockstep.proofs.Showing.{length-outputs}
 use Rattle.lockstep.proofs.Serving.{same_count, both_first, both_second}
@@ -87,22 +87,22 @@ rest_more sc rows r k i d at =
     ∙ ap (λ (x : SlaveDesc). row_from sc rows r k (i + 1) (x ∷ drop (i + 1) sc.slaves)) is
 
 pub filled_more : (sc : Scenario) (rows : List (List ℤ)) (r k i : ℕ) (d : SlaveDesc) (parts : List Part) (p : Part) (before vs after : List ℤ) → slice_get sc.slaves i ≡ Some d →
-    Filled sc rows r k i parts before → shown sc rows (i + 1) d r k ≡ Ok vs → after ≡ before ++ vs → StandsAt sc rows r k (i + 1) d p → Filled sc rows r k (i + 1) (set parts i p) after
+    Filled sc rows r k i parts before → shown sc rows (i + 1) d r k ≡ Ok vs → after ≡ before ++ vs → PartStandsAt sc rows r k (i + 1) d p → Filled sc rows r k (i + 1) (set parts i p) after
 filled_more sc rows r k i d parts p before vs after at h here e stands =
     let lt : i < length sc.slaves = slice_get_within sc.slaves i d at in
     let within : i < length parts = omega (arith, h.count) in
     record {
       count = length-set parts i p ∙ h.count;
       done = λ j d' p' below at' got.
-          let P : ℕ → Type 0 = λ n. j ≡ n → StandsAt sc rows r k (j + 1) d' p' in
+          let P : ℕ → Type 0 = λ n. j ≡ n → PartStandsAt sc rows r k (j + 1) d' p' in
           let last : P i = λ same.
           let got' : Some p ≡ Some p' = sym (slice_get-set_same parts i p within) ∙ ap (λ (n : ℕ). slice_get (set parts i p) n) (sym same) ∙ got in
           let there : Some d ≡ Some d' = sym at ∙ ap (λ (n : ℕ). slice_get sc.slaves n) (sym same) ∙ at' in
           let part : p ≡ p' = cc in
           let desc : d ≡ d' = cc in
-          subst (λ (x : Part). StandsAt sc rows r k (j + 1) d' x) part
-          (subst (λ (x : SlaveDesc). StandsAt sc rows r k (j + 1) x p) desc
-          (subst (λ (n : ℕ). StandsAt sc rows r k (n + 1) d p) (sym same) stands)) in
+          subst (λ (x : Part). PartStandsAt sc rows r k (j + 1) d' x) part
+          (subst (λ (x : SlaveDesc). PartStandsAt sc rows r k (j + 1) x p) desc
+          (subst (λ (n : ℕ). PartStandsAt sc rows r k (n + 1) d p) (sym same) stands)) in
           let earlier : (n : ℕ) → n < i → P n = λ n less same.
           h.done j d' p' (omega arith) at' (sym (slice_get-set_other parts i j p (λ (q : j ≡ i). absurd (omega arith))) ∙ got) in
           below_more P i earlier last j below refl;
@@ -193,8 +193,8 @@ shown_is sc s d r (Ok x) desc =
     let n : length vs ≡ length d.outputs =
     length-outputs d.kind (parameters sc s d r) x
     ∙ sym (same_count (length d.outputs) (output_count d.kind) (both_second (has_inputs d.kind (length d.inputs)) (length d.outputs == output_count d.kind) desc.ports)) in
-    let m : length (types_of d) ≡ length vs = length-map d.outputs (λ p. p.kind) ∙ sym n in
-    subst (λ (k : ℕ). IsShown k (shown_of (types_of d) vs)) n (checked_is (types_of d) vs (all_fit (types_of d) vs) m refl)
+    let m : length (types_of_outputs d) ≡ length vs = length-map d.outputs (λ p. p.kind) ∙ sym n in
+    subst (λ (k : ℕ). IsShown k (shown_of (types_of_outputs d) vs)) n (checked_is (types_of_outputs d) vs (all_fit (types_of_outputs d) vs) m refl)
 
 beside_is : (s r k n m : ℕ) (x : Result (List ℤ) FaultCode) (y : Result (List ℤ) RefFault) → IsShown n x → IsRow m y → IsRow (n + m) (beside s r k x y)
 unfolding IsShown IsRow

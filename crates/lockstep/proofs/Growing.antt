@@ -16,8 +16,8 @@ use Rattle.lockstep.specs.declared.halts.Halt.TheVariants as halts
 use Rattle.lockstep.specs.declared.references.RefFault.{RefFault}
 use Rattle.lockstep.specs.Cut.{Grid, SameRows}
 use Rattle.lockstep.specs.Lockstep.{row_index, row, IsMoment, IsReference, EachRow, EndsAt}
-use Rattle.lockstep.specs.Parts.{StandsAt, AllStand, Halted}
-use Rattle.lockstep.specs.Filling.{SoFar, Stopped, StoppedBy}
+use Rattle.lockstep.specs.Parts.{PartStandsAt, AllStand, Halted}
+use Rattle.lockstep.specs.Filling.{SoFar, StoppedGrid, StoppedBy}
 use Rattle.lockstep.proofs.Agreement.{state-agree}
 use Rattle.lockstep.proofs.Cuts.{grid_of}
 use Rattle.lockstep.proofs.Existence.{agree_push, EachRow-push, row-moment}
@@ -26,7 +26,7 @@ use Rattle.lockstep.proofs.Filled.{row_is}
 -- the first slaves of a run stand at its begin
 pub record PartsSoFar (sc : Scenario) (r i : ℕ) (parts : List Part) : Type 0 where
   pub count : length parts ≡ i
-  pub each : (rows : List (List ℤ)) (j : ℕ) (d : SlaveDesc) (p : Part) → slice_get sc.slaves j ≡ Some d → slice_get parts j ≡ Some p → StandsAt sc rows r 0 (j + 1) d p
+  pub each : (rows : List (List ℤ)) (j : ℕ) (d : SlaveDesc) (p : Part) → slice_get sc.slaves j ≡ Some d → slice_get parts j ≡ Some p → PartStandsAt sc rows r 0 (j + 1) d p
 
 -- the rows go as far as step k of run r, and the slaves stand before it
 pub record Standing (sc : Scenario) (r k : ℕ) (g : Grid) (parts : List Part) : Type 0 where
@@ -46,7 +46,7 @@ pushed (x ∷ xs) y zero p e = inl e
 pushed (x ∷ xs) y (suc j) p e = elim (pushed xs y j p e) [ inl h ↦ inl h | inr h ↦ inr (ap suc h.0, h.1) ]
 
 pub parts_more : (sc : Scenario) (r i : ℕ) (d : SlaveDesc) (parts more : List Part) (p : Part) → slice_get sc.slaves i ≡ Some d → PartsSoFar sc r i parts →
-    ((rows : List (List ℤ)) → StandsAt sc rows r 0 (i + 1) d p) → more ≡ parts ++ p ∷ [] → PartsSoFar sc r (i + 1) more
+    ((rows : List (List ℤ)) → PartStandsAt sc rows r 0 (i + 1) d p) → more ≡ parts ++ p ∷ [] → PartsSoFar sc r (i + 1) more
 parts_more sc r i d parts more p at h stands e = record {
   count = ap (λ (x : List Part). length x) e ∙ length_push parts p ∙ ap (λ (n : ℕ). n + 1) h.count;
   each = λ rows j d' p' at' got.
@@ -56,9 +56,9 @@ parts_more sc r i d parts more p at h stands e = record {
             let same : j ≡ i = new.0 ∙ h.count in
             let there : Some d ≡ Some d' = sym at ∙ ap (λ (n : ℕ). slice_get sc.slaves n) (sym same) ∙ at' in
             let desc : d ≡ d' = cc in
-            subst (λ (x : Part). StandsAt sc rows r 0 (j + 1) d' x) new.1
-            (subst (λ (x : SlaveDesc). StandsAt sc rows r 0 (j + 1) x p) desc
-            (subst (λ (n : ℕ). StandsAt sc rows r 0 (n + 1) d p) (sym same) (stands rows)))
+            subst (λ (x : Part). PartStandsAt sc rows r 0 (j + 1) d' x) new.1
+            (subst (λ (x : SlaveDesc). PartStandsAt sc rows r 0 (j + 1) x p) desc
+            (subst (λ (n : ℕ). PartStandsAt sc rows r 0 (n + 1) d p) (sym same) (stands rows)))
       ];
 }
 
@@ -71,7 +71,7 @@ standing_first sc r g parts h stand = record {
   stand = stand;
 }
 
-stands_on : (sc : Scenario) (rows : List (List ℤ)) (vs : List ℤ) (r k s : ℕ) (d : SlaveDesc) (p : Part) → row_index sc.steps r k ≤ length rows → StandsAt sc rows r k s d p → StandsAt sc (rows ++ vs ∷ []) r k s d p
+stands_on : (sc : Scenario) (rows : List (List ℤ)) (vs : List ℤ) (r k s : ℕ) (d : SlaveDesc) (p : Part) → row_index sc.steps r k ≤ length rows → PartStandsAt sc rows r k s d p → PartStandsAt sc (rows ++ vs ∷ []) r k s d p
 stands_on sc rows vs r k s d p le h = record {
   kind = h.kind;
   types = h.types;
@@ -104,7 +104,7 @@ standing_more sc r k g filled more parts sound m h here stand same e =
       };
       stand = record {
         count = stand.count;
-        each = λ j d p at got. subst (λ (n : ℕ). StandsAt sc (g.rows ++ vs ∷ []) r n (j + 1) d p) (sym back) (stands_on sc g.rows vs r k (j + 1) d p (omega (arith, h.count)) (stand.each j d p at got));
+        each = λ j d p at got. subst (λ (n : ℕ). PartStandsAt sc (g.rows ++ vs ∷ []) r n (j + 1) d p) (sym back) (stands_on sc g.rows vs r k (j + 1) d p (omega (arith, h.count)) (stand.each j d p at got));
       };
     })
 
@@ -122,7 +122,7 @@ run_done sc r k g parts first e h =
     let same : (r - 1) * (sc.steps + 1) + k ≡ r * (sc.steps + 1) = ap (λ (x : ℕ). (r - 1) * (sc.steps + 1) + x) e ∙ run_end r (sc.steps + 1) first in
     subst (λ (n : ℕ). SoFar sc n g) same h.rows
 
-stopped_same : (sc : Scenario) (g more : Grid) (fault : RefFault) → SameRows g more → Stopped sc g fault → Stopped sc more fault
+stopped_same : (sc : Scenario) (g more : Grid) (fault : RefFault) → SameRows g more → StoppedGrid sc g fault → StoppedGrid sc more fault
 stopped_same sc g more fault same h = record {
   each = subst (λ (x : List (List ℤ)). EachRow sc x) (sym same.rows) h.each;
   ends = subst (λ (x : List (List ℤ)). EndsAt sc x fault) (sym same.rows) h.ends;
@@ -157,5 +157,5 @@ none_yet sc g width w e =
 pub all_rows : (sc : Scenario) (g : Grid) (rows : List (List ℤ)) → rows ≡ g.rows → SoFar sc (sc.runs * (sc.steps + 1)) g → IsReference sc rows None
 all_rows sc g rows e h = subst (λ (x : List (List ℤ)). IsReference sc x None) (sym e) (record { each = h.each; ends = h.count })
 
-pub stopped_rows : (sc : Scenario) (g : Grid) (rows : List (List ℤ)) (fault : RefFault) → rows ≡ g.rows → Stopped sc g fault → IsReference sc rows (Some fault)
+pub stopped_rows : (sc : Scenario) (g : Grid) (rows : List (List ℤ)) (fault : RefFault) → rows ≡ g.rows → StoppedGrid sc g fault → IsReference sc rows (Some fault)
 stopped_rows sc g rows fault e h = subst (λ (x : List (List ℤ)). IsReference sc x (Some fault)) (sym e) (record { each = h.each; ends = h.ends })

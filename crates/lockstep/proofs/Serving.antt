@@ -24,8 +24,8 @@ use Rattle.lockstep.specs.declared.parts.Part.{Part}
 use Rattle.scenario.specs.Settings.{parameters}
 use Rattle.scenario.specs.Wiring.{wire_into, every_between, q_of, interval, column}
 use Rattle.lockstep.specs.Feeds.{fed, feed_of, feeds_of, IsFeed}
-use Rattle.lockstep.specs.Lockstep.{row_index, read, inputs, state, state_after, shown, shown_at}
-use Rattle.lockstep.specs.Parts.{types_of, shows, Reaches, Shows, Serves, StandsAt}
+use Rattle.lockstep.specs.Lockstep.{row_index, read, inputs, state, model_state_after, shown, shown_at}
+use Rattle.lockstep.specs.Parts.{types_of_outputs, shows, Reaches, Shows, Serves, PartStandsAt}
 use Rattle.lockstep.proofs.Reading.{All-find, wire_is}
 
 pub both_first : (a b : Bool) → (a && b) ≡ true → a ≡ true
@@ -42,14 +42,14 @@ same_count a b h = grind (arith)
 length-feeds_of : (sc : Scenario) (s n : ℕ) → length (feeds_of sc s n) ≡ n
 length-feeds_of sc s n = length-map-range_with_len (λ i. feed_of sc (wire_into sc.wires s i)) 0 n
 
-pub ports_ok : (sc : Scenario) (rows : List (List ℤ)) (r k s : ℕ) (d : SlaveDesc) (p : Part) → StandsAt sc rows r k s d p → IsDesc d → has_inputs p.model.kind (length p.feeds.items) ≡ true
+pub ports_ok : (sc : Scenario) (rows : List (List ℤ)) (r k s : ℕ) (d : SlaveDesc) (p : Part) → PartStandsAt sc rows r k s d p → IsDesc d → has_inputs p.model.kind (length p.feeds.items) ≡ true
 ports_ok sc rows r k s d p h desc =
     let n : length p.feeds.items ≡ length d.inputs = ap (λ (fs : List (Option Feed)). length fs) h.feeds ∙ length-feeds_of sc s (length d.inputs) in
     ap (λ (x : ℕ). has_inputs p.model.kind x) n
     ∙ ap (λ k. has_inputs k (length d.inputs)) h.kind
     ∙ both_first (has_inputs d.kind (length d.inputs)) (length d.outputs == output_count d.kind) desc.ports
 
-pub types_ok : (sc : Scenario) (rows : List (List ℤ)) (r k s : ℕ) (d : SlaveDesc) (p : Part) → StandsAt sc rows r k s d p → IsDesc d → length p.model.types ≡ output_count p.model.kind
+pub types_ok : (sc : Scenario) (rows : List (List ℤ)) (r k s : ℕ) (d : SlaveDesc) (p : Part) → PartStandsAt sc rows r k s d p → IsDesc d → length p.model.types ≡ output_count p.model.kind
 types_ok sc rows r k s d p h desc =
     ap (λ ts. length ts) h.types ∙ length-map d.outputs (λ p. p.kind)
     ∙ same_count (length d.outputs) (output_count d.kind) (both_second (has_inputs d.kind (length d.inputs)) (length d.outputs == output_count d.kind) desc.ports)
@@ -107,7 +107,7 @@ inputs_fed sc rows s d r k =
     (λ i. read_fed sc rows r k (wire_into sc.wires s i)) (range_with_len 0 (length d.inputs))
 
 -- a step of the definition is a step of the model
-step_same : (sc : Scenario) (rows : List (List ℤ)) (r k s : ℕ) (d : SlaveDesc) (p : Part) → length rows ≡ row_index sc.steps r (suc k) → StandsAt sc rows r k s d p →
+step_same : (sc : Scenario) (rows : List (List ℤ)) (r k s : ℕ) (d : SlaveDesc) (p : Part) → length rows ≡ row_index sc.steps r (suc k) → PartStandsAt sc rows r k s d p →
     state sc rows s d r (suc k) ≡ step_of p.model (map (fed rows (length rows - suc k) k) p.feeds.items) sc.micro
 step_same sc rows r k s d p at h =
     let first : length rows - suc k ≡ (r - 1) * (sc.steps + 1) = omega (arith, at) in
@@ -115,23 +115,23 @@ step_same sc rows r k s d p at h =
     inputs_fed sc rows s d r k
     ∙ ap (λ (x : ℕ). map (fed rows x k) (feeds_of sc s (length d.inputs))) (sym first)
     ∙ ap (λ (fs : List (Option Feed)). map (fed rows (length rows - suc k) k) fs) (sym h.feeds) in
-    ap (λ (x : Result (List ℤ) FaultCode). state_after sc rows s d r k x) h.state
-    ∙ ap (λ (x : List ℤ). model_step d.kind (parameters sc s d r) (types_of d) p.model.state x sc.micro) us
-    ∙ ap (λ k'. model_step k' (parameters sc s d r) (types_of d) p.model.state (map (fed rows (length rows - suc k) k) p.feeds.items) sc.micro) (sym h.kind)
-    ∙ ap (λ (x : List ℤ). model_step p.model.kind x (types_of d) p.model.state (map (fed rows (length rows - suc k) k) p.feeds.items) sc.micro) (sym h.parameters)
+    ap (λ (x : Result (List ℤ) FaultCode). model_state_after sc rows s d r k x) h.state
+    ∙ ap (λ (x : List ℤ). model_step d.kind (parameters sc s d r) (types_of_outputs d) p.model.state x sc.micro) us
+    ∙ ap (λ k'. model_step k' (parameters sc s d r) (types_of_outputs d) p.model.state (map (fed rows (length rows - suc k) k) p.feeds.items) sc.micro) (sym h.kind)
+    ∙ ap (λ (x : List ℤ). model_step p.model.kind x (types_of_outputs d) p.model.state (map (fed rows (length rows - suc k) k) p.feeds.items) sc.micro) (sym h.parameters)
     ∙ ap (λ x. model_step p.model.kind p.model.parameters x p.model.state (map (fed rows (length rows - suc k) k) p.feeds.items) sc.micro) (sym h.types)
 
-stands_before : (sc : Scenario) (rows : List (List ℤ)) (r k s : ℕ) (d : SlaveDesc) (p : Part) → StandsAt sc rows r (suc k - 1) s d p → StandsAt sc rows r k s d p
-stands_before sc rows r k s d p h = let e : suc k - 1 ≡ k = omega arith in subst (λ (x : ℕ). StandsAt sc rows r x s d p) e h
+stands_before : (sc : Scenario) (rows : List (List ℤ)) (r k s : ℕ) (d : SlaveDesc) (p : Part) → PartStandsAt sc rows r (suc k - 1) s d p → PartStandsAt sc rows r k s d p
+stands_before sc rows r k s d p h = let e : suc k - 1 ≡ k = omega arith in subst (λ (x : ℕ). PartStandsAt sc rows r x s d p) e h
 
-pub reach_err : (sc : Scenario) (rows : List (List ℤ)) (r k s : ℕ) (d : SlaveDesc) (old new : Part) (code : FaultCode) → length rows ≡ row_index sc.steps r k → StandsAt sc rows r (k - 1) s d old → Reaches rows old new k sc.micro (Err code) → shown sc rows s d r k ≡ Err code
+pub reach_err : (sc : Scenario) (rows : List (List ℤ)) (r k s : ℕ) (d : SlaveDesc) (old new : Part) (code : FaultCode) → length rows ≡ row_index sc.steps r k → PartStandsAt sc rows r (k - 1) s d old → Reaches rows old new k sc.micro (Err code) → shown sc rows s d r k ≡ Err code
 reach_err sc rows r zero s d old new code at h reached = absurd reached
 reach_err sc rows r (suc k) s d old new code at h reached =
     let e = step_same sc rows r k s d old at (stands_before sc rows r k s d old h) in
     ap (λ (x : Result (List ℤ) FaultCode). shown_at sc s d r x) (e ∙ reached)
 
-stands_moved : (sc : Scenario) (rows : List (List ℤ)) (r k s : ℕ) (d : SlaveDesc) (old new : Part) → length rows ≡ row_index sc.steps r (suc k) → StandsAt sc rows r k s d old →
-    step_of old.model (map (fed rows (length rows - suc k) k) old.feeds.items) sc.micro ≡ Ok new.model.state → new ≡ record old { model = moved old.model new.model.state } → StandsAt sc rows r (suc k) s d new
+stands_moved : (sc : Scenario) (rows : List (List ℤ)) (r k s : ℕ) (d : SlaveDesc) (old new : Part) → length rows ≡ row_index sc.steps r (suc k) → PartStandsAt sc rows r k s d old →
+    step_of old.model (map (fed rows (length rows - suc k) k) old.feeds.items) sc.micro ≡ Ok new.model.state → new ≡ record old { model = moved old.model new.model.state } → PartStandsAt sc rows r (suc k) s d new
 stands_moved sc rows r k s d old new at h stepped is = record {
   kind = ap (λ (x : Part). x.model.kind) is ∙ h.kind;
   types = ap (λ (x : Part). x.model.types) is ∙ h.types;
@@ -140,18 +140,18 @@ stands_moved sc rows r k s d old new at h stepped is = record {
   state = step_same sc rows r k s d old at h ∙ stepped;
 }
 
-pub reach_ok : (sc : Scenario) (rows : List (List ℤ)) (r k s : ℕ) (d : SlaveDesc) (old new : Part) (u : Unit) → length rows ≡ row_index sc.steps r k → StandsAt sc rows r (k - 1) s d old → Reaches rows old new k sc.micro (Ok u) → StandsAt sc rows r k s d new
-reach_ok sc rows r zero s d old new u at h reached = subst (λ (x : Part). StandsAt sc rows r 0 s d x) (sym reached) h
+pub reach_ok : (sc : Scenario) (rows : List (List ℤ)) (r k s : ℕ) (d : SlaveDesc) (old new : Part) (u : Unit) → length rows ≡ row_index sc.steps r k → PartStandsAt sc rows r (k - 1) s d old → Reaches rows old new k sc.micro (Ok u) → PartStandsAt sc rows r k s d new
+reach_ok sc rows r zero s d old new u at h reached = subst (λ (x : Part). PartStandsAt sc rows r 0 s d x) (sym reached) h
 reach_ok sc rows r (suc k) s d old new u at h reached = stands_moved sc rows r k s d old new at (stands_before sc rows r k s d old h) reached.0 reached.1
 
 -- what the model shows is what the definition shows
-shown_same : (sc : Scenario) (rows : List (List ℤ)) (r k s : ℕ) (d : SlaveDesc) (p : Part) → StandsAt sc rows r k s d p → shown sc rows s d r k ≡ shows p.model
+shown_same : (sc : Scenario) (rows : List (List ℤ)) (r k s : ℕ) (d : SlaveDesc) (p : Part) → PartStandsAt sc rows r k s d p → shown sc rows s d r k ≡ shows p.model
 shown_same sc rows r k s d p h =
     ap (λ (x : Result (List ℤ) FaultCode). shown_at sc s d r x) h.state
-    ∙ ap (λ k'. shows (record { kind = k'; parameters = parameters sc s d r; types = types_of d; state = p.model.state; stepped = p.model.stepped })) (sym h.kind)
-    ∙ ap (λ (x : List ℤ). shows (record { kind = p.model.kind; parameters = x; types = types_of d; state = p.model.state; stepped = p.model.stepped })) (sym h.parameters)
+    ∙ ap (λ k'. shows (record { kind = k'; parameters = parameters sc s d r; types = types_of_outputs d; state = p.model.state; stepped = p.model.stepped })) (sym h.kind)
+    ∙ ap (λ (x : List ℤ). shows (record { kind = p.model.kind; parameters = x; types = types_of_outputs d; state = p.model.state; stepped = p.model.stepped })) (sym h.parameters)
     ∙ ap (λ x. shows (record { kind = p.model.kind; parameters = p.model.parameters; types = x; state = p.model.state; stepped = p.model.stepped })) (sym h.types)
 
-pub serves : (sc : Scenario) (rows : List (List ℤ)) (r k s : ℕ) (d : SlaveDesc) (before after : List ℤ) (p : Part) → StandsAt sc rows r k s d p → (x : Result Unit FaultCode) → Shows p.model before after x → Serves sc rows r k s d before after p x
+pub serves : (sc : Scenario) (rows : List (List ℤ)) (r k s : ℕ) (d : SlaveDesc) (before after : List ℤ) (p : Part) → PartStandsAt sc rows r k s d p → (x : Result Unit FaultCode) → Shows p.model before after x → Serves sc rows r k s d before after p x
 serves sc rows r k s d before after p h (Ok u) given = (given.0, shown_same sc rows r k s d p h ∙ given.1, given.2, h)
 serves sc rows r k s d before after p h (Err code) given = shown_same sc rows r k s d p h ∙ given

@@ -28,14 +28,14 @@ inputs sc rows s d r k =
     map (λ i. read sc rows r k (wire_into sc.wires s i)) (range_with_len 0 (length d.inputs))
 
 -- the state of slave s at step k of run r, or why it has none
-abbrev pub state_after : Scenario → List (List ℤ) → (s : ℕ) → SlaveDesc → (r k : ℕ) → Result (List ℤ) FaultCode → Result (List ℤ) FaultCode
-state_after sc rows s d r k (Ok x) =
+abbrev pub model_state_after : Scenario → List (List ℤ) → (s : ℕ) → SlaveDesc → (r k : ℕ) → Result (List ℤ) FaultCode → Result (List ℤ) FaultCode
+model_state_after sc rows s d r k (Ok x) =
     model_step d.kind (parameters sc s d r) (map (λ p. p.kind) d.outputs) x (inputs sc rows s d r k) sc.micro
-state_after sc rows s d r k (Err code) = Err code
+model_state_after sc rows s d r k (Err code) = Err code
 
 abbrev pub state : Scenario → List (List ℤ) → (s : ℕ) → SlaveDesc → (r k : ℕ) → Result (List ℤ) FaultCode
 state sc rows s d r zero = Ok (start d.kind (parameters sc s d r))
-state sc rows s d r (suc k) = state_after sc rows s d r k (state sc rows s d r k)
+state sc rows s d r (suc k) = model_state_after sc rows s d r k (state sc rows s d r k)
 
 -- the outputs of a state, where each lies in its type
 abbrev pub shown_of : List DataType → List ℤ → Result (List ℤ) FaultCode

@@ -18,8 +18,8 @@ use Rattle.lockstep.specs.Lockstep.{shown_of, state, shown}
 abbrev pub shows : View → Result (List ℤ) FaultCode
 shows v = shown_of v.types (outputs v.kind v.parameters v.state)
 
-abbrev pub types_of : SlaveDesc → List DataType
-types_of d = map (λ p. p.kind) d.outputs
+abbrev pub types_of_outputs : SlaveDesc → List DataType
+types_of_outputs d = map (λ p. p.kind) d.outputs
 
 -- one step on these inputs, or its fault
 abbrev pub Advances : List ℤ → ℕ → Part → Part → Result Unit FaultCode → Type 0
@@ -39,21 +39,21 @@ Shows v before after r = MatchResult r
     (λ e. shows v ≡ Err e)
 
 -- the part is that of slave s in run r, and stands at step k
-pub record StandsAt (sc : Scenario) (rows : List (List ℤ)) (r k s : ℕ) (d : SlaveDesc) (p : Part) : Type 0 where
+pub record PartStandsAt (sc : Scenario) (rows : List (List ℤ)) (r k s : ℕ) (d : SlaveDesc) (p : Part) : Type 0 where
   pub kind : p.model.kind ≡ d.kind
-  pub types : p.model.types ≡ types_of d
+  pub types : p.model.types ≡ types_of_outputs d
   pub feeds : p.feeds.items ≡ feeds_of sc s (length d.inputs)
   pub parameters : p.model.parameters ≡ parameters sc s d r
   pub state : state sc rows s d r k ≡ Ok p.model.state
 
 pub record AllStand (sc : Scenario) (rows : List (List ℤ)) (r k : ℕ) (parts : List Part) : Type 0 where
   pub count : length parts ≡ length sc.slaves
-  pub each : (j : ℕ) (d : SlaveDesc) (p : Part) → slice_get sc.slaves j ≡ Some d → slice_get parts j ≡ Some p → StandsAt sc rows r k (j + 1) d p
+  pub each : (j : ℕ) (d : SlaveDesc) (p : Part) → slice_get sc.slaves j ≡ Some d → slice_get parts j ≡ Some p → PartStandsAt sc rows r k (j + 1) d p
 
 -- what slave s shows at step k of run r stands behind the row, and it stands there, or its fault
 abbrev pub Serves : (sc : Scenario) (rows : List (List ℤ)) (r k s : ℕ) (d : SlaveDesc) → List ℤ → List ℤ → Part → Result Unit FaultCode → Type 0
 Serves sc rows r k s d before after new x = MatchResult x
-    (λ _. (vs : List ℤ) × (shown sc rows s d r k ≡ Ok vs) × (after ≡ before ++ vs) × StandsAt sc rows r k s d new)
+    (λ _. (vs : List ℤ) × (shown sc rows s d r k ≡ Ok vs) × (after ≡ before ++ vs) × PartStandsAt sc rows r k s d new)
     (λ e. shown sc rows s d r k ≡ Err e)
 
 -- why no row comes

@@ -8,7 +8,7 @@ ghost use Rattle.scenario.specs.Totals.{total_outputs};
 ghost use Rattle.scenario.specs.Sound.{IsScenario};
 ghost use Rattle.lockstep.specs.Cut.{SameRows};
 ghost use Rattle.lockstep.specs.Lockstep.{row_index, row, IsMoment};
-ghost use Rattle.lockstep.specs.Parts.{StandsAt, AllStand, Serves, Halted};
+ghost use Rattle.lockstep.specs.Parts.{PartStandsAt, AllStand, Serves, Halted};
 
 use crate::halts::Halt;
 use crate::parts::{Part, show};
@@ -42,7 +42,7 @@ fn serve(
     requires place { length rows.old.rows ≡ row_index scenario.now.steps at.run at.step }
     requires values { All (λ row. All IsInput row) rows.old.rows }
     requires width { rows.old.width ≡ total_outputs scenario.now.slaves }
-    requires stands { StandsAt scenario.now rows.old.rows at.run (at.step - 1) _slave desc.now part.old }
+    requires stands { PartStandsAt scenario.now rows.old.rows at.run (at.step - 1) _slave desc.now part.old }
     ensures served { IfOk result (Serves scenario.now rows.old.rows at.run at.step _slave desc.now rows.old.begun rows.new.begun part.new) }
     ensures kept { SameRows rows.old rows.new }
 {

@@ -9,7 +9,7 @@ ghost use Rattle.scenario.specs.Sound.{IsScenario, IsSlave};
 ghost use Rattle.fixed_models.specs.Views.{begun, accepts};
 ghost use Rattle.lockstep.specs.Cut.{SameRows};
 ghost use Rattle.lockstep.specs.Feeds.{fed, IsFeed};
-ghost use Rattle.lockstep.specs.Parts.{StandsAt, Advances, Reaches, Shows};
+ghost use Rattle.lockstep.specs.Parts.{PartStandsAt, Advances, Reaches, Shows};
 
 use crate::tables::Table;
 use crate::wiring::{Feed, feeds_of, gather};
@@ -40,7 +40,7 @@ impl Part {
         requires slave { slave_at scenario.now.slaves slave ≡ Some desc.now }
         requires number { IsSlave scenario.now.slaves slave }
         requires desc { IsDesc desc.now }
-        ensures { IfOk result (λ part. (rows : List (List ℤ)) → StandsAt scenario.now rows run 0 slave desc.now part) }
+        ensures { IfOk result (λ part. (rows : List (List ℤ)) → PartStandsAt scenario.now rows run 0 slave desc.now part) }
     {
         let types = types_of(alloc, desc.outputs.as_slice())?;
         let feeds = feeds_of(alloc, scenario, slave, desc.inputs.as_slice().len())?;

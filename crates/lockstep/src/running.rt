@@ -1,8 +1,8 @@
 //! All rows of all runs.
 
-ghost use Rattle.std.specs.Prelude.{◌≡◌, ◌+◌, ◌-◌, ◌*◌, ◌≤◌, [], List, ℤ, length, IfOk, OnOk, IfErr};
+ghost use Rattle.std.specs.Prelude.{◌≡◌, ◌+◌, ◌-◌, ◌*◌, ◌≤◌, [], List, ℤ, IfOk, OnOk, IfErr};
 ghost use Rattle.scenario.specs.Sound.{IsScenario};
-ghost use Rattle.lockstep.specs.Lockstep.{row_index, IsReference};
+ghost use Rattle.lockstep.specs.Lockstep.{IsReference};
 ghost use Rattle.lockstep.specs.Parts.{AllStand};
 ghost use Rattle.lockstep.specs.Filling.{SoFar, StoppedBy};
 

@@ -5,13 +5,13 @@ use Rattle.std.proofs.lemmas.Bool.Decides.{nat_tests}
 use Rattle.log_spec.specs.Messages.{Note}
 use Rattle.log_spec.specs.Channel.{by_ordinal, IsRegularChannel}
 use Rattle.dcp_ends.specs.declared.entries.LogEntry.{LogEntry}
-use Rattle.log_spec.specs.Log.{Parties, IsSlaveOf, Requests, sends_in, requests_sent, Decision}
+use Rattle.log_spec.specs.Log.{Parties, IsSlaveOf, Requests, sends_in, requests_sent, DecidedRequest}
 use Rattle.log_spec.specs.Moves.{Move, Asks, Comes, Tells, Hears, Brings, Turns, Rests, Other, move, decides, with_newest, decided_after, decided_exchanges}
 use Rattle.log_spec.proofs.Channel.{grown_again, grown_next}
 use Rattle.log_spec.proofs.Moves.{asked, requests_by_move}
-use Rattle.lockstep_laws.specs.Steps.{RowEvent, row_event_at, event_asked, Reply, reply_of, Told, told_by, Progress, view_after, view}
+use Rattle.lockstep_laws.specs.Steps.{RowEvent, row_event_at, event_asked, Reply, reply_of, Told, told_by, BenchProgress, view_after, view}
 use Rattle.lockstep_laws.specs.Master.{MasterMay, IsLeast}
-use Rattle.lockstep_laws.specs.Cast.{Slaves}
+use Rattle.lockstep_laws.specs.Cast.{ConversingSlaves}
 use Rattle.lockstep_laws.specs.Runs.{AreSlaves, Behaves}
 use Rattle.lockstep_laws.proofs.Conversation.{earlier, known}
 use Rattle.lockstep_laws.proofs.Local.{IsInTurn, InTurn}
@@ -25,30 +25,30 @@ asked_first [] = None
 asked_first (r ∷ rs) = event_asked r
 
 -- the newest request asks for a row event, and is open
-pub record IsOpen (rs : List Note) (ds : List Decision) : Type 0 where
+pub record IsOpen (rs : List Note) (ds : List DecidedRequest) : Type 0 where
   pub one : length rs ≡ length ds + 1
   pub event : IsEvent (asked_first rs)
 
-abbrev pub UnderWay : List Note → List Decision → Type 0
+abbrev pub UnderWay : List Note → List DecidedRequest → Type 0
 UnderWay rs ds = ((view ds).waiting ≡ true) ⊎ IsOpen rs ds
 
-abbrev pub Alone : ℕ → List Note → List Decision → Type 0
+abbrev pub Alone : ℕ → List Note → List DecidedRequest → Type 0
 Alone steps rs ds = IsOpen rs ds → ((view ds).waiting ≡ false) × (asked_first rs ≡ Some (row_event_at steps (view ds).done))
 
 -- how an entry changes what is done, and whether an event is under way; Least says that no slave has done fewer
-pub record Goes (steps : ℕ) (Least : Type 0) (rs : List Note) (ds : List Decision) (rs' : List Note) (ds' : List Decision) : Type 0 where
+pub record Goes (steps : ℕ) (Least : Type 0) (rs : List Note) (ds : List DecidedRequest) (rs' : List Note) (ds' : List DecidedRequest) : Type 0 where
   pub grows : ((view ds').done ≡ (view ds).done) ⊎ (UnderWay rs ds × ((view ds').done ≡ (view ds).done + 1) × (UnderWay rs' ds' → ⊥))
   pub begins : UnderWay rs' ds' → UnderWay rs ds ⊎ Least
   pub alone : Alone steps rs' ds'
   pub turn : InTurn steps ds → InTurn steps ds'
 
-stays : (steps : ℕ) (Least : Type 0) (rs : List Note) (ds : List Decision) → Alone steps rs ds → Goes steps Least rs ds rs ds
+stays : (steps : ℕ) (Least : Type 0) (rs : List Note) (ds : List DecidedRequest) → Alone steps rs ds → Goes steps Least rs ds rs ds
 stays steps Least rs ds alone = record { grows = inl refl; begins = λ u. inl u; alone = alone; turn = λ i. i }
 
-not_open : (rs : List Note) (ds : List Decision) → length ds ≡ length rs → IsOpen rs ds → ⊥
+not_open : (rs : List Note) (ds : List DecidedRequest) → length ds ≡ length rs → IsOpen rs ds → ⊥
 not_open rs ds closed o = omega (arith, o.one, closed)
 
-asks : (steps : ℕ) (Least : Type 0) (n : Note) (rs : List Note) (ds : List Decision) → length ds ≡ length rs → ((k : RowEvent) → event_asked n ≡ Some k → ((view ds).waiting ≡ false) × (k ≡ row_event_at steps (view ds).done) × Least) → Goes steps Least rs ds (n ∷ rs) ds
+asks : (steps : ℕ) (Least : Type 0) (n : Note) (rs : List Note) (ds : List DecidedRequest) → length ds ≡ length rs → ((k : RowEvent) → event_asked n ≡ Some k → ((view ds).waiting ≡ false) × (k ≡ row_event_at steps (view ds).done) × Least) → Goes steps Least rs ds (n ∷ rs) ds
 asks steps Least n rs ds closed may = record { grows = inl refl; begins = begins; alone = λ o. alone (event_asked n) refl o.event; turn = λ i. i }
   where
     begins : UnderWay (n ∷ rs) ds → UnderWay rs ds ⊎ Least
@@ -64,17 +64,17 @@ asks steps Least n rs ds closed may = record { grows = inl refl; begins = begins
     alone (Some k) e h = let m = may k e in (m.0, e ∙ ap (λ j. Some j) m.1)
 
 -- what a decision tells
-pub record Tells' (steps : ℕ) (q : Option RowEvent) (t : Told) (v : Progress) : Type 0 where
+pub record Tells' (steps : ℕ) (q : Option RowEvent) (t : Told) (v : BenchProgress) : Type 0 where
   pub grows : ((view_after t v).done ≡ v.done) ⊎ (((v.waiting ≡ true) ⊎ IsEvent q) × ((view_after t v).done ≡ v.done + 1) × ((view_after t v).waiting ≡ false))
   pub begins : (view_after t v).waiting ≡ true → (v.waiting ≡ true) ⊎ IsEvent q
   pub turn : IsInTurn steps t v
 
-pub tells : (steps : ℕ) (q : Option RowEvent) (p : Reply) (v : Progress) → (IsEvent q → (v.waiting ≡ false) × (q ≡ Some (row_event_at steps v.done))) → Tells' steps q (told_by q p) v
+pub tells : (steps : ℕ) (q : Option RowEvent) (p : Reply) (v : BenchProgress) → (IsEvent q → (v.waiting ≡ false) × (q ≡ Some (row_event_at steps v.done))) → Tells' steps q (told_by q p) v
 tells steps q p v h = grind arith
 
-decided_one : (steps : ℕ) (Least : Type 0) (a r : Note) (rest : List Note) (ds : List Decision) → length (r ∷ rest) ≡ length ds + 1 → Alone steps (r ∷ rest) ds → Goes steps Least (r ∷ rest) ds (r ∷ rest) (record { request = r; answer = a } ∷ ds)
+decided_one : (steps : ℕ) (Least : Type 0) (a r : Note) (rest : List Note) (ds : List DecidedRequest) → length (r ∷ rest) ≡ length ds + 1 → Alone steps (r ∷ rest) ds → Goes steps Least (r ∷ rest) ds (r ∷ rest) (record { request = r; answer = a } ∷ ds)
 decided_one steps Least a r rest ds one alone =
-    let e : Decision = record { request = r; answer = a } in
+    let e : DecidedRequest = record { request = r; answer = a } in
     let t = tells steps (event_asked r) (reply_of a) (view ds) (λ ev. alone (record { one = one; event = ev })) in
     record {
       grows = grows t.grows;
@@ -90,7 +90,7 @@ decided_one steps Least a r rest ds one alone =
     open' (inl wait) = inl wait
     open' (inr ev) = inr (record { one = one; event = ev })
 
-    never : (v : Progress) → v.waiting ≡ false → (v.waiting ≡ true) ⊎ IsOpen (r ∷ rest) (record { request = r; answer = a } ∷ ds) → ⊥
+    never : (v : BenchProgress) → v.waiting ≡ false → (v.waiting ≡ true) ⊎ IsOpen (r ∷ rest) (record { request = r; answer = a } ∷ ds) → ⊥
     never v wait (inl w) = absurd cc
     never v wait (inr o) = closed o.one
 
@@ -103,7 +103,7 @@ decided_one steps Least a r rest ds one alone =
     begins f (inl wait) = inl (open' (f wait))
     begins f (inr o) = absurd (closed o.one)
 
-hears : (steps : ℕ) (Least : Type 0) (a : Note) (rs : List Note) (ds : List Decision) → length rs ≤ length ds + 1 → Alone steps rs ds → Goes steps Least rs ds rs (if decides a rs ds then with_newest rs a ds else ds)
+hears : (steps : ℕ) (Least : Type 0) (a : Note) (rs : List Note) (ds : List DecidedRequest) → length rs ≤ length ds + 1 → Alone steps rs ds → Goes steps Least rs ds rs (if decides a rs ds then with_newest rs a ds else ds)
 hears steps Least a [] ds le alone = by (decides a [] ds)
   where
     by : (b : Bool) → Goes steps Least [] ds [] (if b then ds else ds)
@@ -118,7 +118,7 @@ hears steps Least a (r ∷ rest) ds le alone = by (decides a (r ∷ rest) ds) re
     by true e = decided_one steps Least a r rest ds (one e) alone
     by false e = stays steps Least (r ∷ rest) ds alone
 
-module _ (w : Parties) (x : Slaves) (s : ℕ) where
+module _ (w : Parties) (x : ConversingSlaves) (s : ℕ) where
   -- a row event was asked here
   abbrev pub Leasts : List LogEntry → Type 0
   Leasts log = (k : RowEvent) × IsLeast w x s k log
@@ -146,17 +146,17 @@ pub record Together (w : Parties) (steps : ℕ) (log : List LogEntry) : Type 0 w
   pub events : (s t : ℕ) → IsSlaveOf w s → IsSlaveOf w t → (view (decided_exchanges w s log)).done ≤ (view (decided_exchanges w t log)).done + 1
   pub under_way : (s t : ℕ) → IsSlaveOf w s → IsSlaveOf w t → UnderWay (requests_sent w s log) (decided_exchanges w s log) → (view (decided_exchanges w s log)).done ≤ (view (decided_exchanges w t log)).done
 
-no_less : (steps : ℕ) (Least : Type 0) (rs : List Note) (ds : List Decision) (rs' : List Note) (ds' : List Decision) → Goes steps Least rs ds rs' ds' → (view ds).done ≤ (view ds').done
+no_less : (steps : ℕ) (Least : Type 0) (rs : List Note) (ds : List DecidedRequest) (rs' : List Note) (ds' : List DecidedRequest) → Goes steps Least rs ds rs' ds' → (view ds).done ≤ (view ds').done
 no_less steps Least rs ds rs' ds' g = let h = g.grows in grind (arith, h)
 
-events_more : (steps : ℕ) (Least : Type 0) (rs : List Note) (ds : List Decision) (rs' : List Note) (ds' : List Decision) (t t' : ℕ) → Goes steps Least rs ds rs' ds' → t ≤ t' → (view ds).done ≤ t + 1 → (UnderWay rs ds → (view ds).done ≤ t) → (view ds').done ≤ t' + 1
+events_more : (steps : ℕ) (Least : Type 0) (rs : List Note) (ds : List DecidedRequest) (rs' : List Note) (ds' : List DecidedRequest) (t t' : ℕ) → Goes steps Least rs ds rs' ds' → t ≤ t' → (view ds).done ≤ t + 1 → (UnderWay rs ds → (view ds).done ≤ t) → (view ds').done ≤ t' + 1
 events_more steps Least rs ds rs' ds' t t' g le h u = by g.grows
   where
     by : ((view ds').done ≡ (view ds).done) ⊎ (UnderWay rs ds × ((view ds').done ≡ (view ds).done + 1) × (UnderWay rs' ds' → ⊥)) → (view ds').done ≤ t' + 1
     by (inl e) = omega (arith, e, le, h)
     by (inr p) = omega (arith, p.1, le, u p.0)
 
-under_way_more : (steps : ℕ) (rs : List Note) (ds : List Decision) (rs' : List Note) (ds' : List Decision) (t t' : ℕ) → Goes steps ((view ds).done ≤ t) rs ds rs' ds' → t ≤ t' → (UnderWay rs ds → (view ds).done ≤ t) → UnderWay rs' ds' → (view ds').done ≤ t'
+under_way_more : (steps : ℕ) (rs : List Note) (ds : List DecidedRequest) (rs' : List Note) (ds' : List DecidedRequest) (t t' : ℕ) → Goes steps ((view ds).done ≤ t) rs ds rs' ds' → t ≤ t' → (UnderWay rs ds → (view ds).done ≤ t) → UnderWay rs' ds' → (view ds').done ≤ t'
 under_way_more steps rs ds rs' ds' t t' g le u now = by g.grows (g.begins now)
   where
     by : ((view ds').done ≡ (view ds).done) ⊎ (UnderWay rs ds × ((view ds').done ≡ (view ds).done + 1) × (UnderWay rs' ds' → ⊥)) → UnderWay rs ds ⊎ ((view ds).done ≤ t) → (view ds').done ≤ t'
@@ -164,14 +164,14 @@ under_way_more steps rs ds rs' ds' t t' g le u now = by g.grows (g.begins now)
     by (inl e) (inr b) = omega (arith, e, le, b)
     by (inr p) b = absurd (p.2 now)
 
-weaker : (steps : ℕ) (L M : Type 0) (rs : List Note) (ds : List Decision) (rs' : List Note) (ds' : List Decision) → (L → M) → Goes steps L rs ds rs' ds' → Goes steps M rs ds rs' ds'
+weaker : (steps : ℕ) (L M : Type 0) (rs : List Note) (ds : List DecidedRequest) (rs' : List Note) (ds' : List DecidedRequest) → (L → M) → Goes steps L rs ds rs' ds' → Goes steps M rs ds rs' ds'
 weaker steps L M rs ds rs' ds' f g = record { grows = g.grows; begins = λ u. by (g.begins u); alone = g.alone; turn = g.turn }
   where
     by : UnderWay rs ds ⊎ L → UnderWay rs ds ⊎ M
     by (inl u) = inl u
     by (inr l) = inr (f l)
 
-module _ (w : Parties) (x : Slaves) (ok : AreSlaves w x) where
+module _ (w : Parties) (x : ConversingSlaves) (ok : AreSlaves w x) where
   pub goes : (e : LogEntry) (log : List LogEntry) → Behaves w x (e ∷ log) → (s : ℕ) → IsSlaveOf w s → Alone x.steps (requests_sent w s log) (decided_exchanges w s log) → Goes x.steps (Leasts w x s log) (requests_sent w s log) (decided_exchanges w s log) (requests_sent w s (e ∷ log)) (decided_exchanges w s (e ∷ log))
   goes e log b s is alone =
       let k = known w x ok s is log (earlier w x ok e log b) in

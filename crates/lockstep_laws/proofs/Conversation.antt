@@ -11,13 +11,13 @@ use Rattle.dcp_ends.specs.declared.entries.LogEntry.TheVariants.{Sent}
 use Rattle.log_spec.specs.Log.{Parties, IsSlaveOf, same, role_heard, Requests, Answers, sent_in, sends_in, requests_sent}
 use Rattle.log_spec.specs.Moves.{Move, Asks, Comes, Tells, Hears, Brings, Turns, Rests, Other, sent_move, move, decided_exchanges}
 use Rattle.log_spec.proofs.Moves.{same_is, same_self, asked, Came, MoveMay, honest_move, requests_by_move, answers_by_move, comes_in}
-use Rattle.lockstep_laws.specs.Slaves.{Post, Desk, IsNoRequest, AskNothing, IsFirst, SlaveMay}
+use Rattle.lockstep_laws.specs.Slaves.{Post, Desk, IsNoRequest, AskNothing, IsFirstPost, SlaveMay}
 use Rattle.lockstep_laws.specs.Master.{MasterMay}
-use Rattle.lockstep_laws.specs.Cast.{Slaves}
+use Rattle.lockstep_laws.specs.Cast.{ConversingSlaves}
 use Rattle.lockstep_laws.specs.Runs.{AreSlaves, Behaves}
 use Rattle.lockstep_laws.proofs.Talk.{Known, Arrives, AskMay, step}
 
-module _ (w : Parties) (x : Slaves) (ok : AreSlaves w x) where
+module _ (w : Parties) (x : ConversingSlaves) (ok : AreSlaves w x) where
   pub earlier : (e : LogEntry) (log : List LogEntry) → Behaves w x (e ∷ log) → Behaves w x log
   earlier e log b = record { honest = b.honest.1; hosted = b.hosted.1; master = b.master.1; asks = b.asks.1; slaves = λ s is. (b.slaves s is).1 }
 
@@ -26,7 +26,7 @@ module _ (w : Parties) (x : Slaves) (ok : AreSlaves w x) where
   drop_later (e ∷ later) log b = drop_later later log (earlier e (later ++ log) b)
 
   -- ---- only the master asks
-  no_first : (owed : List Post) (to : Address) (bytes : List ℕ) (receiver : ℕ) (n : Note) → IsFirst owed to bytes → AskNothing w owed → role_heard w bytes ≡ Request receiver n → ⊥
+  no_first : (owed : List Post) (to : Address) (bytes : List ℕ) (receiver : ℕ) (n : Note) → IsFirstPost owed to bytes → AskNothing w owed → role_heard w bytes ≡ Request receiver n → ⊥
   no_first [] to bytes receiver n f no' e = f
   no_first (p ∷ ps) to bytes receiver n f no' e =
       let P : Role → Type 0 = IsNoRequest in

@@ -9,12 +9,12 @@ use Rattle.log_spec.specs.Messages.{Note, Role, Request, Answer, Value, Else}
 use Rattle.log_spec.specs.Channel.{by_ordinal, at_ordinal}
 use Rattle.dcp_ends.specs.declared.entries.LogEntry.{LogEntry}
 use Rattle.dcp_ends.specs.declared.entries.LogEntry.TheVariants.{Sent, Got, Idle, Turn}
-use Rattle.log_spec.specs.Log.{Parties, IsSlaveOf, same, role_heard, Requests, sent_in, sends_in, requests_sent, Decision}
+use Rattle.log_spec.specs.Log.{Parties, IsSlaveOf, same, role_heard, Requests, sent_in, sends_in, requests_sent, DecidedRequest}
 use Rattle.log_spec.specs.Moves.{Move, Asks, Comes, Tells, Hears, Brings, Turns, Rests, Other, sent_move, got_move, move, decides, has_newest_number, with_newest, decided_after, decided_exchanges}
 use Rattle.log_spec.proofs.Channel.{at_below}
 use Rattle.log_spec.proofs.Moves.{same_is, same_self, asked, requests_by_move}
-use Rattle.lockstep_laws.specs.Slaves.{Desk, Handles, Serves}
-use Rattle.lockstep_laws.specs.Cast.{Slaves}
+use Rattle.lockstep_laws.specs.Slaves.{Desk, Handles, ServesNote}
+use Rattle.lockstep_laws.specs.Cast.{ConversingSlaves}
 use Rattle.lockstep_laws.specs.Runs.{AreSlaves, Behaves}
 use Rattle.lockstep_laws.specs.Deciding.{IsHeard, IsDeciding}
 use Rattle.lockstep_laws.specs.Laws.{TakenInOrder, DecidedByGiven, DecidedAsServed}
@@ -22,13 +22,13 @@ use Rattle.lockstep_laws.proofs.Talk.{Talk, Behind, last_of, requests_of, taken_
 use Rattle.lockstep_laws.proofs.Conversation.{earlier, drop_later, known, KnownAt}
 
 -- the list grows by an answer alone
-grows_by : (mv : Move) (rs : List Note) (ds : List Decision) → length ds < length (decided_after mv rs ds) → (b : Note) × (mv ≡ Hears b) × (decides b rs ds ≡ true)
+grows_by : (mv : Move) (rs : List Note) (ds : List DecidedRequest) → length ds < length (decided_after mv rs ds) → (b : Note) × (mv ≡ Hears b) × (decides b rs ds ≡ true)
 grows_by (Asks n) rs ds h = absurd (omega arith)
 grows_by (Comes from receiver n) rs ds h = absurd (omega arith)
 grows_by (Tells to bytes) rs ds h = absurd (omega arith)
 grows_by (Hears b) rs ds h = (b, refl, grown b rs ds h)
   where
-    grown : (b : Note) (rs : List Note) (ds : List Decision) → length ds < length (if decides b rs ds then with_newest rs b ds else ds) → decides b rs ds ≡ true
+    grown : (b : Note) (rs : List Note) (ds : List DecidedRequest) → length ds < length (if decides b rs ds then with_newest rs b ds else ds) → decides b rs ds ≡ true
     grown b rs ds h = grind (arith, nat_tests)
 grows_by (Brings from id n) rs ds h = absurd (omega arith)
 grows_by Turns rs ds h = absurd (omega arith)
@@ -82,14 +82,14 @@ module _ (w : Parties) (s : ℕ) where
   heard_part : (a : Note) (b c d f : Bool) → b ≡ false → c ≡ true → d ≡ true → f ≡ true → (if b then Rests else (if (c && d) && f then Hears a else Other)) ≡ Hears a
   heard_part a b c d f p q r t = grind arith
 
-newest_number : (o : ℕ) (a r : Note) (rs rest : List Note) (ds : List Decision) → rs ≡ r ∷ rest → r.number ≡ length rest % 65536 → length rs ≡ o + 1 → decides a rs ds ≡ true → a.number ≡ o % 65536
+newest_number : (o : ℕ) (a r : Note) (rs rest : List Note) (ds : List DecidedRequest) → rs ≡ r ∷ rest → r.number ≡ length rest % 65536 → length rs ≡ o + 1 → decides a rs ds ≡ true → a.number ≡ o % 65536
 newest_number o a r rs rest ds is num l d = grind (arith, nat_tests)
 
 -- no more is decided than was asked
-at_most : (accepts : Note → Bool) (rs sent : List Note) (ds served : List Decision) (owed : List Note) → length (requests_of served) ≡ length served → Talk accepts rs sent ds served owed → length ds ≤ length rs
+at_most : (accepts : Note → Bool) (rs sent : List Note) (ds served : List DecidedRequest) (owed : List Note) → length (requests_of served) ≡ length served → Talk accepts rs sent ds served owed → length ds ≤ length rs
 at_most accepts rs sent ds served owed l t = let p = t.taken in let q = t.decided in most rs ds served l p q
   where
-    most : (rs : List Note) (ds served : List Decision) → length (requests_of served) ≡ length served → Behind (requests_of served) rs → Behind ds served → length ds ≤ length rs
+    most : (rs : List Note) (ds served : List DecidedRequest) → length (requests_of served) ≡ length served → Behind (requests_of served) rs → Behind ds served → length ds ≤ length rs
     most rs ds served l p q = grind arith
 
 one_asked : (k : Option Note) (ns : List Note) → length (by_ordinal ns) ≤ length (by_ordinal (cons_option k ns))
@@ -97,19 +97,19 @@ one_asked None ns = omega arith
 one_asked (Some n) ns = grind (arith, nat_tests)
 
 -- the list of exchanges keeps what it has
-added : (y new : Decision) (o : ℕ) (es es' : List Decision) → es' ≡ new ∷ es → o < length es → at_ordinal es o ≡ Some y → at_ordinal es' o ≡ Some y
+added : (y new : DecidedRequest) (o : ℕ) (es es' : List DecidedRequest) → es' ≡ new ∷ es → o < length es → at_ordinal es o ≡ Some y → at_ordinal es' o ≡ Some y
 added y new o es es' e lt at = grind (arith, nat_tests)
 
-same_list : (y : Decision) (o : ℕ) (es es' : List Decision) → es' ≡ es → at_ordinal es o ≡ Some y → at_ordinal es' o ≡ Some y
-same_list y o es es' e at = let P : List Decision → Type 0 = λ l. at_ordinal l o ≡ Some y in subst P (sym e) at
+same_list : (y : DecidedRequest) (o : ℕ) (es es' : List DecidedRequest) → es' ≡ es → at_ordinal es o ≡ Some y → at_ordinal es' o ≡ Some y
+same_list y o es es' e at = let P : List DecidedRequest → Type 0 = λ l. at_ordinal l o ≡ Some y in subst P (sym e) at
 
-handles_keeps : (w : Parties) (accepts : Note → Bool) (n : Note) (d d' : Desk) (o : ℕ) (y : Decision) → Handles w accepts n d d' → at_ordinal d.served o ≡ Some y → at_ordinal d'.served o ≡ Some y
+handles_keeps : (w : Parties) (accepts : Note → Bool) (n : Note) (d d' : Desk) (o : ℕ) (y : DecidedRequest) → Handles w accepts n d d' → at_ordinal d.served o ≡ Some y → at_ordinal d'.served o ≡ Some y
 handles_keeps w accepts n d d' o y (inl h) at = same_list y o d.served d'.served h.served at
 handles_keeps w accepts n d d' o y (inr (inl h)) at = added y (record { request = n; answer = h.answer }) o d.served d'.served h.served (at_below d.served o y at) at
 handles_keeps w accepts n d d' o y (inr (inr (inl h))) at = same_list y o d.served d'.served h.served at
 handles_keeps w accepts n d d' o y (inr (inr (inr h))) at = same_list y o d.served d'.served h.served at
 
-keeps : (w : Parties) (accepts : Note → Bool) (mv : Move) (d d' : Desk) (o : ℕ) (y : Decision) → Serves w accepts mv d d' → at_ordinal d.served o ≡ Some y → at_ordinal d'.served o ≡ Some y
+keeps : (w : Parties) (accepts : Note → Bool) (mv : Move) (d d' : Desk) (o : ℕ) (y : DecidedRequest) → ServesNote w accepts mv d d' → at_ordinal d.served o ≡ Some y → at_ordinal d'.served o ≡ Some y
 keeps w accepts (Asks n) d d' o y s at = same_list y o d.served d'.served (ap (λ z. z.served) s) at
 keeps w accepts (Comes from receiver n) d d' o y s at = handles_keeps w accepts n d d' o y s at
 keeps w accepts (Tells to bytes) d d' o y s at = same_list y o d.served d'.served s.0 at
@@ -120,16 +120,16 @@ keeps w accepts Rests d d' o y s at = same_list y o d.served d'.served s.served 
 keeps w accepts Other d d' o y s at = same_list y o d.served d'.served (ap (λ z. z.served) s) at
 
 -- the newest decided exchange is the slave's
-decided_here : (a r : Note) (o : ℕ) (rs rest : List Note) (ds served : List Decision) → rs ≡ r ∷ rest → length rs ≡ o + 1 → length ds ≡ o → has_newest_number a rs ≡ true → Behind (if decides a rs ds then with_newest rs a ds else ds) served
+decided_here : (a r : Note) (o : ℕ) (rs rest : List Note) (ds served : List DecidedRequest) → rs ≡ r ∷ rest → length rs ≡ o + 1 → length ds ≡ o → has_newest_number a rs ≡ true → Behind (if decides a rs ds then with_newest rs a ds else ds) served
     → at_ordinal served o ≡ Some (record { request = r; answer = a })
 decided_here a r o rs rest ds served is l d num b = grind (arith, nat_tests)
 
 has_number : (a r : Note) (rs rest : List Note) (o : ℕ) → rs ≡ r ∷ rest → r.number ≡ length rest % 65536 → length rs ≡ o + 1 → a.number ≡ o % 65536 → has_newest_number a rs ≡ true
 has_number a r rs rest o is num l h = grind (arith, nat_tests)
 
-module _ (w : Parties) (x : Slaves) (ok : AreSlaves w x) where
+module _ (w : Parties) (x : ConversingSlaves) (ok : AreSlaves w x) where
   -- the served exchanges only grow
-  pub kept : (s : ℕ) → IsSlaveOf w s → (later log : List LogEntry) → Behaves w x (later ++ log) → (o : ℕ) (y : Decision) → at_ordinal (x.desk s log).served o ≡ Some y → at_ordinal (x.desk s (later ++ log)).served o ≡ Some y
+  pub kept : (s : ℕ) → IsSlaveOf w s → (later log : List LogEntry) → Behaves w x (later ++ log) → (o : ℕ) (y : DecidedRequest) → at_ordinal (x.desk s log).served o ≡ Some y → at_ordinal (x.desk s (later ++ log)).served o ≡ Some y
   kept s is [] log b o y at = at
   kept s is (e ∷ later) log b o y at =
       let g = (ok.each s is).goes e (later ++ log) (b.slaves s is).0 in
@@ -184,7 +184,7 @@ module _ (w : Parties) (x : Slaves) (ok : AreSlaves w x) where
         by false e = heard_part w s a false (same w.master w.master) (same (w.slave s) (w.slave s)) (s == s) refl (same_self w.master) (same_self (w.slave s)) (eq-eqb s s refl)
 
     at_heard : (log : List LogEntry) (bytes : List ℕ) (o : ℕ) (a : Note) → Behaves w x (Got w.master (w.slave s) bytes ∷ log) → role_heard w bytes ≡ Answer s a → length (requests_sent w s log) ≡ o + 1 → a.number ≡ o % 65536 → ((b : Note) → IsHeard w s o b log → ⊥)
-        → (y : Decision) × (at_ordinal (x.desk s (Got w.master (w.slave s) bytes ∷ log)).served o ≡ Some y) × (y.answer ≡ a)
+        → (y : DecidedRequest) × (at_ordinal (x.desk s (Got w.master (w.slave s) bytes ∷ log)).served o ≡ Some y) × (y.answer ≡ a)
     at_heard log bytes o a h r asked' num first =
         let e = Got w.master (w.slave s) bytes in
         let b = earlier w x ok e log h in
@@ -200,7 +200,7 @@ module _ (w : Parties) (x : Slaves) (ok : AreSlaves w x) where
         fewer (inl lt) = let g = heard_before log (earlier w x ok (Got w.master (w.slave s) bytes) log h) o asked' lt in absurd (first g.0 g.1)
         fewer (inr le) = le
 
-    pub decided_by_given : (log : List LogEntry) → Behaves w x log → (o : ℕ) (a : Note) → IsDeciding w s o a log → (e : Decision) × (at_ordinal (x.desk s log).served o ≡ Some e) × (e.answer ≡ a)
+    pub decided_by_given : (log : List LogEntry) → Behaves w x log → (o : ℕ) (a : Note) → IsDeciding w s o a log → (e : DecidedRequest) × (at_ordinal (x.desk s log).served o ≡ Some e) × (e.answer ≡ a)
     decided_by_given log b o a d =
         let e = Got w.master (w.slave s) d.heard.bytes in
         let P : List LogEntry → Type 0 = Behaves w x in
@@ -214,11 +214,11 @@ in_order : {A : Type 0} (xs ys : List A) → Behind xs ys → (later : List A) �
 in_order xs ys (inl e) = ([], sym e)
 in_order xs ys (inr p) = (p.0 ∷ [], p.1)
 
-pub taken : (w : Parties) (x : Slaves) → AreSlaves w x → (later log : List LogEntry) → Behaves w x (later ++ log) → TakenInOrder w x log
+pub taken : (w : Parties) (x : ConversingSlaves) → AreSlaves w x → (later log : List LogEntry) → Behaves w x (later ++ log) → TakenInOrder w x log
 taken w x ok later log b s is = let k = known w x ok s is log (drop_later w x ok later log b) in in_order (requests_of (x.desk s log).served) (requests_sent w s log) k.talk.taken
 
-pub served : (w : Parties) (x : Slaves) → AreSlaves w x → (later log : List LogEntry) → Behaves w x (later ++ log) → DecidedAsServed w x log
+pub served : (w : Parties) (x : ConversingSlaves) → AreSlaves w x → (later log : List LogEntry) → Behaves w x (later ++ log) → DecidedAsServed w x log
 served w x ok later log b s is = let k = known w x ok s is log (drop_later w x ok later log b) in in_order (decided_exchanges w s log) (x.desk s log).served k.talk.decided
 
-pub deciding : (w : Parties) (x : Slaves) → AreSlaves w x → (later log : List LogEntry) → Behaves w x (later ++ log) → DecidedByGiven w x log
+pub deciding : (w : Parties) (x : ConversingSlaves) → AreSlaves w x → (later log : List LogEntry) → Behaves w x (later ++ log) → DecidedByGiven w x log
 deciding w x ok later log b s is = decided_by_given w x ok s is log (drop_later w x ok later log b)

@@ -7,10 +7,10 @@ use Rattle.dcp_ends.specs.declared.entries.LogEntry.TheVariants.{Sent, Got, Idle
 use Rattle.log_spec.specs.Log.{role_heard, Parties, IsSlaveOf, requests_sent}
 use Rattle.log_spec.specs.Moves.{Move, Asks, Comes, Tells, Hears, Brings, Turns, Rests, Other, move, decided_exchanges}
 use Rattle.lockstep_laws.specs.Steps.{RowEvent, row_event_at, event_asked, run_after, view}
-use Rattle.lockstep_laws.specs.Cast.{Slaves}
+use Rattle.lockstep_laws.specs.Cast.{ConversingSlaves}
 
 -- a row event is asked of s when none is under way there and no slave has done fewer; it is the one that comes next, all slaves are set up for its run, and there is such a run
-pub record IsLeast (w : Parties) (x : Slaves) (s : ℕ) (k : RowEvent) (log : List LogEntry) : Type 0 where
+pub record IsLeast (w : Parties) (x : ConversingSlaves) (s : ℕ) (k : RowEvent) (log : List LogEntry) : Type 0 where
   pub free : (view (decided_exchanges w s log)).waiting ≡ false
   pub next : k ≡ row_event_at x.steps (view (decided_exchanges w s log)).done
   pub least : (t : ℕ) → IsSlaveOf w t → (view (decided_exchanges w s log)).done ≤ (view (decided_exchanges w t log)).done
@@ -18,7 +18,7 @@ pub record IsLeast (w : Parties) (x : Slaves) (s : ℕ) (k : RowEvent) (log : Li
   pub within : run_after x.steps (view (decided_exchanges w s log)).done ≤ x.runs
 
 -- the next request, once the one before is decided: the first is a register that the slave accepts, each may be asked after what was decided, and a row event waits for all slaves
-pub record IsNew (w : Parties) (x : Slaves) (s : ℕ) (n : Note) (log : List LogEntry) : Type 0 where
+pub record IsNewRequest (w : Parties) (x : ConversingSlaves) (s : ℕ) (n : Note) (log : List LogEntry) : Type 0 where
   pub closed : length (decided_exchanges w s log) ≡ length (requests_sent w s log)
   pub number : n.number ≡ length (requests_sent w s log) % 65536
   pub first : requests_sent w s log ≡ [] → x.accepts s n ≡ true
@@ -26,8 +26,8 @@ pub record IsNew (w : Parties) (x : Slaves) (s : ℕ) (n : Note) (log : List Log
   pub barrier : (k : RowEvent) → event_asked n ≡ Some k → IsLeast w x s k log
 
 -- the newest request is sent again, or the next one
-abbrev pub MasterMay : Parties → Slaves → ℕ → Move → List LogEntry → Type 0
-MasterMay w x s (Asks n) log = Repeats (requests_sent w s log) n ⊎ IsNew w x s n log
+abbrev pub MasterMay : Parties → ConversingSlaves → ℕ → Move → List LogEntry → Type 0
+MasterMay w x s (Asks n) log = Repeats (requests_sent w s log) n ⊎ IsNewRequest w x s n log
 MasterMay w x s (Comes from receiver n) log = Unit {0}
 MasterMay w x s (Tells to bytes) log = Unit {0}
 MasterMay w x s (Hears n) log = Unit {0}
@@ -36,7 +36,7 @@ MasterMay w x s Turns log = Unit {0}
 MasterMay w x s Rests log = Unit {0}
 MasterMay w x s Other log = Unit {0}
 
-abbrev pub MasterConverses : Parties → Slaves → List LogEntry → Type 0
+abbrev pub MasterConverses : Parties → ConversingSlaves → List LogEntry → Type 0
 MasterConverses w x [] = Unit {0}
 MasterConverses w x (e ∷ log) = ((s : ℕ) → IsSlaveOf w s → MasterMay w x s (move w s e) log) × MasterConverses w x log
 

@@ -4,7 +4,7 @@ use Rattle.std.specs.Prelude.{◌≡◌, ℕ, ◌+◌, ◌/◌, ◌%◌, ◌==�
 use Rattle.pdu_layout.specs.Fields.FieldValue.{Number}
 use Rattle.pdu_layout.specs.Fields.{FieldValue}
 use Rattle.log_spec.specs.Messages.{Note, between}
-use Rattle.log_spec.specs.Log.{Decision}
+use Rattle.log_spec.specs.Log.{DecidedRequest}
 
 pub data RowEvent : Type 0 where
   Show : RowEvent
@@ -58,24 +58,24 @@ told_by (Some Restart) Accepted = Does
 told_by None AtRest = Rested
 told_by _ _ = Nothing
 
-abbrev pub told_of : Decision → Told
+abbrev pub told_of : DecidedRequest → Told
 told_of e = told_by (event_asked e.request) (reply_of e.answer)
 
 -- what exchanges tell of a slave: how many events are done, and whether one is under way
-pub record Progress : Type 0 where
+pub record BenchProgress : Type 0 where
   pub done : ℕ
   pub waiting : Bool
 
-abbrev pub events_counted : Progress → ℕ
+abbrev pub events_counted : BenchProgress → ℕ
 events_counted v = if v.waiting then v.done + 1 else v.done
 
-abbrev pub view_after : Told → Progress → Progress
+abbrev pub view_after : Told → BenchProgress → BenchProgress
 view_after (Begins k) v = record { done = events_counted v; waiting = true }
 view_after Does v = record { done = events_counted v + 1; waiting = false }
 view_after Rested v = record { done = events_counted v; waiting = false }
 view_after Nothing v = v
 
-abbrev pub view : List Decision → Progress
+abbrev pub view : List DecidedRequest → BenchProgress
 view [] = record { done = 0; waiting = false }
 view (e ∷ es) = view_after (told_of e) (view es)
 
@@ -102,7 +102,7 @@ pub record Idles (b c : Bench) : Type 0 where
   pub resets : c.resets ≡ b.resets
   pub steps : c.steps ≡ b.steps
 
-pub record Starts (k : RowEvent) (b c : Bench) : Type 0 where
+pub record BenchStarts (k : RowEvent) (b c : Bench) : Type 0 where
   pub free : b.busy ≡ None
   pub sound : b.faulty ≡ false
   pub events : c.events ≡ b.events
@@ -126,13 +126,13 @@ pub record TellsRest (b c : Bench) : Type 0 where
   pub idles : Idles b c
 
 abbrev pub TakesOn : Told → Bench → Bench → Type 0
-TakesOn (Begins k) b c = Starts k b c
+TakesOn (Begins k) b c = BenchStarts k b c
 TakesOn Does b c = Restarts b c
 TakesOn Rested b c = TellsRest b c
 TakesOn Nothing b c = Idles b c
 
 -- a turn: nothing happens, the event under way is done, or the slave has a fault from now on
-pub record Shows (b c : Bench) : Type 0 where
+pub record BenchShows (b c : Bench) : Type 0 where
   pub under_way : b.busy ≡ Some Show
   pub events : c.events ≡ b.events + 1
   pub busy : c.busy ≡ None
@@ -148,7 +148,7 @@ pub record StepsOn (b c : Bench) : Type 0 where
   pub resets : c.resets ≡ b.resets
   pub steps : c.steps ≡ b.steps + 1
 
-pub record Fails (b c : Bench) : Type 0 where
+pub record BenchFails (b c : Bench) : Type 0 where
   pub events : c.events ≡ b.events
   pub busy : c.busy ≡ None
   pub faulty : c.faulty ≡ true
@@ -156,4 +156,4 @@ pub record Fails (b c : Bench) : Type 0 where
   pub steps : c.steps ≡ b.steps
 
 abbrev pub HasTurn : Bench → Bench → Type 0
-HasTurn b c = Idles b c ⊎ (Shows b c ⊎ (StepsOn b c ⊎ Fails b c))
+HasTurn b c = Idles b c ⊎ (BenchShows b c ⊎ (StepsOn b c ⊎ BenchFails b c))

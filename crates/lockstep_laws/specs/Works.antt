@@ -1,15 +1,15 @@
 -- How a slave goes on with its row events.
 use Rattle.std.specs.Prelude.{◌≡◌, ℕ, false, ◌⊎◌, None, List, [], ◌∷◌}
 use Rattle.dcp_ends.specs.declared.entries.LogEntry.{LogEntry}
-use Rattle.log_spec.specs.Log.{Parties, Decision}
+use Rattle.log_spec.specs.Log.{Parties, DecidedRequest}
 use Rattle.log_spec.specs.Moves.{Move, Asks, Comes, Tells, Hears, Brings, Turns, Rests, Other, move}
 use Rattle.lockstep_laws.specs.Slaves.{Desk, SlaveMay}
 use Rattle.lockstep_laws.specs.Steps.{Bench, Idles, TakesOn, HasTurn, told_of}
 
 -- by what it took: nothing, or the newest exchange
-abbrev pub Works : Move → (es es' : List Decision) → Bench → Bench → Type 0
+abbrev pub Works : Move → (es es' : List DecidedRequest) → Bench → Bench → Type 0
 Works (Asks n) es es' b c = c ≡ b
-Works (Comes from receiver n) es es' b c = ((es' ≡ es) × Idles b c) ⊎ ((x : Decision) × (es' ≡ x ∷ es) × TakesOn (told_of x) b c)
+Works (Comes from receiver n) es es' b c = ((es' ≡ es) × Idles b c) ⊎ ((x : DecidedRequest) × (es' ≡ x ∷ es) × TakesOn (told_of x) b c)
 Works (Tells to bytes) es es' b c = c ≡ b
 Works (Hears n) es es' b c = c ≡ b
 Works (Brings from id n) es es' b c = Idles b c

@@ -66,7 +66,7 @@ abbrev pub values_sent : Parties → ℕ → List LogEntry → List Note
 values_sent w id log = by_ordinal (sends_in w (Values id) log)
 
 -- a request, and the answer to it
-pub record Decision : Type 0 where
+pub record DecidedRequest : Type 0 where
   pub request : Note
   pub answer : Note
 

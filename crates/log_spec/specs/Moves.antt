@@ -4,7 +4,7 @@ use Rattle.dcp_types.specs.declared.addresses.Address.{Address}
 use Rattle.log_spec.specs.Messages.{Note, Role, Request, Answer, Value, Else}
 use Rattle.dcp_ends.specs.declared.entries.LogEntry.{LogEntry}
 use Rattle.dcp_ends.specs.declared.entries.LogEntry.TheVariants.{Sent, Got, Idle, Turn}
-use Rattle.log_spec.specs.Log.{Parties, same, role_heard, requests_sent, Decision}
+use Rattle.log_spec.specs.Log.{Parties, same, role_heard, requests_sent, DecidedRequest}
 
 pub data Move : Type 0 where
   -- the master sends s a request
@@ -47,14 +47,14 @@ has_newest_number a [] = false
 has_newest_number a (r ∷ rs) = a.number == r.number
 
 -- the newest request is open, and this is an answer to it
-abbrev pub decides : Note → List Note → List Decision → Bool
+abbrev pub decides : Note → List Note → List DecidedRequest → Bool
 decides a rs ds = nat_lt (length ds) (length rs) && has_newest_number a rs
 
-abbrev pub with_newest : List Note → Note → List Decision → List Decision
+abbrev pub with_newest : List Note → Note → List DecidedRequest → List DecidedRequest
 with_newest [] a ds = ds
 with_newest (r ∷ rs) a ds = record { request = r; answer = a } ∷ ds
 
-abbrev pub decided_after : Move → List Note → List Decision → List Decision
+abbrev pub decided_after : Move → List Note → List DecidedRequest → List DecidedRequest
 decided_after (Asks n) rs ds = ds
 decided_after (Comes from receiver n) rs ds = ds
 decided_after (Tells to bytes) rs ds = ds
@@ -65,6 +65,6 @@ decided_after Rests rs ds = ds
 decided_after Other rs ds = ds
 
 -- the requests to s that are decided, each with its deciding answer, the newest first
-abbrev pub decided_exchanges : Parties → ℕ → List LogEntry → List Decision
+abbrev pub decided_exchanges : Parties → ℕ → List LogEntry → List DecidedRequest
 decided_exchanges w s [] = []
 decided_exchanges w s (e ∷ log) = decided_after (move w s e) (requests_sent w s log) (decided_exchanges w s log)

@@ -10,39 +10,39 @@ use Rattle.master_spec.specs.declared.tasks.Task.{Task}
 use Rattle.master_spec.specs.declared.setups.Slave.{Slave}
 use Rattle.master_spec.specs.Jobs.{Job}
 use Rattle.master_spec.specs.Marks.{Mark, Begun}
-use Rattle.master_spec.specs.Conversation.{reaction, after, messages_after}
+use Rattle.master_spec.specs.Conversation.{reaction, marks_after, messages_after}
 use Rattle.master_spec.specs.Course.{marked, sends_after}
 use Rattle.master_spec.specs.Course as course
 use Rattle.master_core.specs.declared.records.Talk.{Talk}
 use Rattle.master_core.specs.declared.stages.Stage.{Stage}
-use Rattle.master_core.specs.Stages.{job_at, task_in, list_in}
+use Rattle.master_core.specs.Stages.{job_at, part_task, list_in}
 use Rattle.master_core.specs.Askable.{IsJobAskable}
 use Rattle.master_core.specs.Slots.{sends_to}
-use Rattle.master_core.specs.Talking.{StandsAt, Now, at_stage}
+use Rattle.master_core.specs.Talking.{TalkStandsAt, Now, at_stage}
 use Rattle.master_core.proofs.Spelled.{job_askable}
 use Rattle.master_core.proofs.Carried.{begun_carried}
 use Rattle.master_core.proofs.Cleared.{can_begin, sent_after}
 
-job_made : (steps : ℕ) (stage : Stage) (t : Talk) (talk : course.Talk) (task : Task) (list : List Cfg) → t.slave ≡ talk.slave → task ≡ task_in steps t.slave.script.uuid stage.run stage.part → list ≡ list_in t.slave.script stage.run stage.part
+job_made : (steps : ℕ) (stage : Stage) (t : Talk) (talk : course.CourseTalk) (task : Task) (list : List Cfg) → t.slave ≡ talk.slave → task ≡ part_task steps t.slave.script.uuid stage.run stage.part → list ≡ list_in t.slave.script stage.run stage.part
     → record { task = task; list = list } ≡ job_at steps stage talk.slave.script
 job_made steps stage t talk task list slave is lists =
     ap (λ (x : Task). record { task = x; list = list }) is
-    ∙ ap (λ (x : List Cfg). record { task = task_in steps t.slave.script.uuid stage.run stage.part; list = x }) lists
+    ∙ ap (λ (x : List Cfg). record { task = part_task steps t.slave.script.uuid stage.run stage.part; list = x }) lists
     ∙ ap (λ (x : Slave). job_at steps stage x.script) slave
 
-pub begin_stands : (limits : Limits) (now : Now) (t new : Talk) (talk : course.Talk) (c : Conversation) (steps : ℕ) (stage : Stage) (task : Task) (list : List Cfg) → StandsAt limits now t talk
-    → task ≡ task_in steps t.slave.script.uuid stage.run stage.part → list ≡ list_in t.slave.script stage.run stage.part → Stands c (after t.conversation.limits (Begun (record { task = task; list = list })) talk.marks)
+pub begin_stands : (limits : Limits) (now : Now) (t new : Talk) (talk : course.CourseTalk) (c : Conversation) (steps : ℕ) (stage : Stage) (task : Task) (list : List Cfg) → TalkStandsAt limits now t talk
+    → task ≡ part_task steps t.slave.script.uuid stage.run stage.part → list ≡ list_in t.slave.script stage.run stage.part → Stands c (marks_after t.conversation.limits (Begun (record { task = task; list = list })) talk.marks)
     → (c.id ≡ t.conversation.id) × (c.limits ≡ t.conversation.limits) → new.conversation ≡ record c { is_due = false } → new.slave ≡ t.slave
-    → StandsAt limits (at_stage steps stage) new (marked limits talk (Some (Begun (job_at steps stage talk.slave.script))))
+    → TalkStandsAt limits (at_stage steps stage) new (marked limits talk (Some (Begun (job_at steps stage talk.slave.script))))
 begin_stands limits now t new talk c steps stage task list s is lists stands given cleared slave =
     let e = job_made steps stage t talk task list s.slave is lists in
     let back : job_at steps stage talk.slave.script ≡ job_at steps stage t.slave.script = ap (λ (x : Slave). job_at steps stage x.script) (sym s.slave) in
-    let there : Stands c (after t.conversation.limits (Begun (job_at steps stage talk.slave.script)) talk.marks) = subst (λ (j : Job). Stands c (after t.conversation.limits (Begun j) talk.marks)) e stands in
+    let there : Stands c (marks_after t.conversation.limits (Begun (job_at steps stage talk.slave.script)) talk.marks) = subst (λ (j : Job). Stands c (marks_after t.conversation.limits (Begun j) talk.marks)) e stands in
     let asks = subst IsJobAskable (sym back) (job_askable steps stage.run stage.part t.slave s.script) in
     begun_carried limits now (at_stage steps stage) t new talk c (job_at steps stage talk.slave.script) s there given cleared slave asks (ap (λ (j : Job). Some j) back)
 
-pub begin_sends : (limits : Limits) (now : Now) (t : Talk) (talk : course.Talk) (c : Conversation) (steps : ℕ) (stage : Stage) (task : Task) (list : List Cfg) (out new : List Send) → StandsAt limits now t talk
-    → task ≡ task_in steps t.slave.script.uuid stage.run stage.part → list ≡ list_in t.slave.script stage.run stage.part
+pub begin_sends : (limits : Limits) (now : Now) (t : Talk) (talk : course.CourseTalk) (c : Conversation) (steps : ℕ) (stage : Stage) (task : Task) (list : List Cfg) (out new : List Send) → TalkStandsAt limits now t talk
+    → task ≡ part_task steps t.slave.script.uuid stage.run stage.part → list ≡ list_in t.slave.script stage.run stage.part
     → (CanSend t.conversation.id (Begun (record { task = task; list = list }) ∷ talk.marks) (reaction t.conversation.limits (Begun (record { task = task; list = list })) talk.marks)
     → due_of c ≡ messages_after t.conversation.limits t.conversation.id (Begun (record { task = task; list = list })) talk.marks)
     → new ≡ out ++ flat_map (sends_to t.slave.address) (due_of c) → new ≡ out ++ sends_after limits talk (Some (Begun (job_at steps stage talk.slave.script)))

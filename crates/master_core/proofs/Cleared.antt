@@ -15,7 +15,7 @@ use Rattle.conversation.specs.Standing.{Stands, CanSend, CanSendAfter}
 use Rattle.master_core.specs.declared.records.Talk.{Talk}
 use Rattle.master_core.specs.Askable.{IsJobAskable, IsPresentAskable}
 use Rattle.master_core.specs.Slots.{sends_to}
-use Rattle.master_core.specs.Talking.{StandsAt, Now}
+use Rattle.master_core.specs.Talking.{TalkStandsAt, Now}
 use Rattle.master_core.proofs.Sendable.{IsHeard, OnMark, sendable, can_send, all_sent, heard_fine, heard_job}
 
 cleared : (c : Conversation) (marks : List Mark) → Stands c marks → Stands (record c { is_due = false }) marks
@@ -45,23 +45,23 @@ clear_stands c d marks e s = subst (λ (x : Conversation). Stands x marks) (sym 
 
 -- ---- what is due goes out
 
-small_id : (limits : Limits) (now : Now) (t : Talk) (talk : course.Talk) → StandsAt limits now t talk → t.conversation.id < 256
+small_id : (limits : Limits) (now : Now) (t : Talk) (talk : course.CourseTalk) → TalkStandsAt limits now t talk → t.conversation.id < 256
 small_id limits now t talk s = subst (λ (n : ℕ). n < 256) (sym s.id) s.script.id
 
-pub can_after : (limits : Limits) (now : Now) (t : Talk) (talk : course.Talk) (m : Option Mark) → StandsAt limits now t talk → OnMark IsHeard m → CanSendAfter t.conversation.limits t.conversation.id m talk.marks
+pub can_after : (limits : Limits) (now : Now) (t : Talk) (talk : course.CourseTalk) (m : Option Mark) → TalkStandsAt limits now t talk → OnMark IsHeard m → CanSendAfter t.conversation.limits t.conversation.id m talk.marks
 can_after limits now t talk None s heard = tt
 can_after limits now t talk (Some m) s heard =
     let asks = subst IsPresentAskable (sym (heard_job m talk.marks heard)) s.jobs in
     can_send t.conversation.id (m ∷ talk.marks) (reaction t.conversation.limits m talk.marks) (small_id limits now t talk s)
     (sendable t.conversation.limits m talk.marks asks (heard_fine m heard) s.latest_is)
 
-pub can_begin : (limits : Limits) (now : Now) (t : Talk) (talk : course.Talk) (job : Job) → StandsAt limits now t talk → IsJobAskable job
+pub can_begin : (limits : Limits) (now : Now) (t : Talk) (talk : course.CourseTalk) (job : Job) → TalkStandsAt limits now t talk → IsJobAskable job
     → CanSend t.conversation.id (Begun job ∷ talk.marks) (reaction t.conversation.limits (Begun job) talk.marks)
 can_begin limits now t talk job s asks =
     can_send t.conversation.id (Begun job ∷ talk.marks) (reaction t.conversation.limits (Begun job) talk.marks) (small_id limits now t talk s)
     (sendable t.conversation.limits (Begun job) talk.marks asks asks s.latest_is)
 
-pub sent_after : (limits : Limits) (now : Now) (t : Talk) (talk : course.Talk) (m : Option Mark) (due : List (List ℕ)) → StandsAt limits now t talk → CanSendAfter t.conversation.limits t.conversation.id m talk.marks
+pub sent_after : (limits : Limits) (now : Now) (t : Talk) (talk : course.CourseTalk) (m : Option Mark) (due : List (List ℕ)) → TalkStandsAt limits now t talk → CanSendAfter t.conversation.limits t.conversation.id m talk.marks
     → due ≡ messages_if t.conversation.limits t.conversation.id m talk.marks → flat_map (sends_to t.slave.address) due ≡ sends_after limits talk m
 sent_after limits now t talk None due s can e = ap (λ (l : List (List ℕ)). flat_map (sends_to t.slave.address) l) e
 sent_after limits now t talk (Some m) due s can e =

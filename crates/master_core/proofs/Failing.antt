@@ -6,7 +6,7 @@ use Rattle.master_spec.specs.declared.causes.Verdict.TheVariants.{Going, Passed,
 use Rattle.master_spec.specs.declared.reports.Report.{Report}
 use Rattle.master_spec.specs.declared.setups.Slave.{Slave}
 use Rattle.master_spec.specs.Marks.{verdict_of}
-use Rattle.master_spec.specs.Course.{Talk as Said, failed, failed_by}
+use Rattle.master_spec.specs.Course.{CourseTalk as Said, failed, failed_by}
 use Rattle.master_core.specs.declared.records.Talk.{Talk}
 use Rattle.master_core.specs.Each.{Each}
 use Rattle.master_core.proofs.Eachs.{each_at, length_each}

@@ -15,15 +15,15 @@ use Rattle.master_core.specs.Standing.{HasRows, IsBehind, lines_of}
 use Rattle.master_core.proofs.Phases.{first_rest}
 use Rattle.dcp_types.specs.declared.limits.Limits.{Limits}
 use Rattle.master_spec.specs.declared.setups.Slave.{Slave}
-use Rattle.master_spec.specs.Course.{fresh}
+use Rattle.master_spec.specs.Course.{fresh_talk}
 use Rattle.master_core.specs.declared.records.Talk.{Talk}
 use Rattle.master_core.specs.declared.stages.Schedule.{Schedule}
 use Rattle.master_core.specs.Each.{Each}
 use Rattle.master_core.specs.Askable.{IsScriptAskable}
-use Rattle.master_core.specs.Talking.{StandsAt, IsFresh, now_in, slave_in}
+use Rattle.master_core.specs.Talking.{TalkStandsAt, IsFreshTalk, now_in, slave_talked_to}
 
-pub fresh_stand : (limits : Limits) (s : Schedule) (ts : List Talk) → AllByRecursion (λ t. IsFresh limits t) ts → AllByRecursion (λ slave. IsScriptAskable slave) (map slave_in ts)
-    → Each (StandsAt limits (now_in 0 s)) ts (map fresh (map slave_in ts))
+pub fresh_stand : (limits : Limits) (s : Schedule) (ts : List Talk) → AllByRecursion (λ t. IsFreshTalk limits t) ts → AllByRecursion (λ slave. IsScriptAskable slave) (map slave_talked_to ts)
+    → Each (TalkStandsAt limits (now_in 0 s)) ts (map fresh_talk (map slave_talked_to ts))
 fresh_stand limits s [] f a = tt
 fresh_stand limits s (t ∷ ts) f a = (
   record {
@@ -44,8 +44,8 @@ length_slaves : (sc : Scenario) (s : ℕ) (ds : List SlaveDesc) → length (slav
 length_slaves sc s [] = refl
 length_slaves sc s (d ∷ ds) = omega (arith, length_slaves sc (s + 1) ds)
 
-pub slaves_few : (sc : Scenario) (ts : List Talk) → map slave_in ts ≡ slaves_from sc 1 sc.slaves → length ts ≡ length sc.slaves
-slaves_few sc ts e = sym (length-map ts slave_in) ∙ ap (λ (l : List Slave). length l) e ∙ length_slaves sc 1 sc.slaves
+pub slaves_few : (sc : Scenario) (ts : List Talk) → map slave_talked_to ts ≡ slaves_from sc 1 sc.slaves → length ts ≡ length sc.slaves
+slaves_few sc ts e = sym (length-map ts slave_talked_to) ∙ ap (λ (l : List Slave). length l) e ∙ length_slaves sc 1 sc.slaves
 
 pub first_behind : (s : Schedule) → s.stage ≡ first_stage → IsBehind 0 s
 first_behind s e = λ script. ap (λ (x : Stage). rest s.steps s.runs script x.run x.part) e ∙ sym (first_rest s.steps s.runs script)

@@ -11,7 +11,7 @@ use Rattle.dcp_ends.specs.Logs.{same_address}
 use Rattle.pdu_layout.specs.declared.messages.Cfg.{Cfg}
 use Rattle.conversation.specs.declared.records.Conversation.{Conversation}
 use Rattle.conversation.specs.Standing.{Stands, CanSendAfter, HasList, is_list_of, due_of}
-use Rattle.conversation.specs.Hearing.{IsWith, taken}
+use Rattle.conversation.specs.Hearing.{IsWith, answer_taken}
 use Rattle.master_spec.specs.declared.setups.Slave.{Slave}
 use Rattle.master_spec.specs.Jobs.{Job}
 use Rattle.master_spec.specs.News.{News, news_of}
@@ -23,7 +23,7 @@ use Rattle.master_core.specs.declared.records.Talk.{Talk}
 use Rattle.master_core.specs.declared.stages.Schedule.{Schedule}
 use Rattle.master_core.specs.Stages.{list_in}
 use Rattle.master_core.specs.Slots.{sends_to}
-use Rattle.master_core.specs.Talking.{StandsAt, Now, IsNow, HasKept}
+use Rattle.master_core.specs.Talking.{TalkStandsAt, Now, IsNow, HasKept}
 use Rattle.master_core.proofs.Sendable.{IsHeard, OnMark, mark_heard}
 use Rattle.master_core.proofs.Carried.{heard_carried, kept_by}
 use Rattle.master_core.proofs.Cleared.{can_after, sent_after}
@@ -33,10 +33,10 @@ use Rattle.master_core.proofs.Payloads.{size_few}
 pub small_taken : {R : Type 0} (bytes : R → List ℕ) (o : Option R) (types : List DataType) (size : ℕ) → IfSome o (λ r. length (bytes r) ≡ size) → size ≡ payload_size types → length types ≤ 8 → IfSome o (λ r. length (bytes r) ≤ 64)
 small_taken bytes o types size sized is few = IfSome_then o sized (λ r e. omega (arith, e, is, few, size_few types))
 
-with_slave : (limits : Limits) (now : Now) (t : Talk) (talk : course.Talk) (size : ℕ) → StandsAt limits now t talk → size ≡ payload_size t.slave.types → IsWith t.conversation talk.slave size
+with_slave : (limits : Limits) (now : Now) (t : Talk) (talk : course.CourseTalk) (size : ℕ) → TalkStandsAt limits now t talk → size ≡ payload_size t.slave.types → IsWith t.conversation talk.slave size
 with_slave limits now t talk size s is = record { id = ap (λ (x : Slave). x.id) (sym s.slave) ∙ sym s.id; size_is = ap (λ (x : Slave). payload_size x.types) (sym s.slave) ∙ sym is }
 
-has_list : (limits : Limits) (now : Now) (t : Talk) (talk : course.Talk) (schedule : Schedule) (list : List Cfg) → StandsAt limits now t talk → IsNow schedule now → list ≡ list_in t.slave.script schedule.stage.run schedule.stage.part
+has_list : (limits : Limits) (now : Now) (t : Talk) (talk : course.CourseTalk) (schedule : Schedule) (list : List Cfg) → TalkStandsAt limits now t talk → IsNow schedule now → list ≡ list_in t.slave.script schedule.stage.run schedule.stage.part
     → HasList talk.marks list
 has_list limits now t talk schedule list s fit is =
     subst (λ (o : Option Job). is_list_of o list) (sym s.job) (subst (λ (l : List Cfg). is_list_of (now t.slave) l) (sym is) (fit t.slave))
@@ -46,14 +46,14 @@ pub record Heard {R : Type 0} (bytes : R → List ℕ) (t : Talk) (c : Conversat
   pub stands : (marks : List Mark) (slave : Slave) → Stands t.conversation marks → HasList marks list → IsWith t.conversation slave size → Stands c (extended t.conversation.limits (mark_for slave marks news) marks)
   pub due : (marks : List Mark) (slave : Slave) → Stands t.conversation marks → HasList marks list → IsWith t.conversation slave size → CanSendAfter t.conversation.limits t.conversation.id (mark_for slave marks news) marks
       → due_of c ≡ messages_if t.conversation.limits t.conversation.id (mark_for slave marks news) marks
-  pub taken_is : (marks : List Mark) (slave : Slave) → Stands t.conversation marks → IsWith t.conversation slave size → option_map bytes o ≡ taken (mark_for slave marks news) marks
+  pub taken_is : (marks : List Mark) (slave : Slave) → Stands t.conversation marks → IsWith t.conversation slave size → option_map bytes o ≡ answer_taken (mark_for slave marks news) marks
   pub sized : IfSome o (λ r. length (bytes r) ≡ size)
   pub given : (c.id ≡ t.conversation.id) × (c.limits ≡ t.conversation.limits)
 
-pub heard_stands : {R : Type 0} (bytes : R → List ℕ) (limits : Limits) (now : Now) (t new : Talk) (talk : course.Talk) (c : Conversation) (o : Option R) (schedule : Schedule) (size : ℕ) (list : List Cfg) (news : News)
-    → StandsAt limits now t talk → IsNow schedule now → Heard bytes t c o size list news → size ≡ payload_size t.slave.types → list ≡ list_in t.slave.script schedule.stage.run schedule.stage.part
+pub heard_stands : {R : Type 0} (bytes : R → List ℕ) (limits : Limits) (now : Now) (t new : Talk) (talk : course.CourseTalk) (c : Conversation) (o : Option R) (schedule : Schedule) (size : ℕ) (list : List Cfg) (news : News)
+    → TalkStandsAt limits now t talk → IsNow schedule now → Heard bytes t c o size list news → size ≡ payload_size t.slave.types → list ≡ list_in t.slave.script schedule.stage.run schedule.stage.part
     → MatchOption o (new.outputs ≡ t.outputs) (λ r. take (length (bytes r)) new.outputs ≡ bytes r) → new.conversation ≡ record c { is_due = false } → new.slave ≡ t.slave
-    → StandsAt limits now new (marked limits talk (mark_for talk.slave talk.marks news))
+    → TalkStandsAt limits now new (marked limits talk (mark_for talk.slave talk.marks news))
 heard_stands bytes limits now t new talk c o schedule size list news s fit h is lists room cleared slave =
     let with_it = with_slave limits now t talk size s is in
     let m = mark_for talk.slave talk.marks news in
@@ -62,8 +62,8 @@ heard_stands bytes limits now t new talk c o schedule size list news s fit h is 
     heard_carried limits now t new talk c m s (h.stands talk.marks talk.slave s.stands (has_list limits now t talk schedule list s fit lists) with_it) h.given cleared slave heard
     (kept_by bytes o t.slave.types t.outputs new.outputs m talk.marks (h.taken_is talk.marks talk.slave s.stands with_it) room sized heard s.outputs)
 
-pub heard_sends : {R : Type 0} (bytes : R → List ℕ) (limits : Limits) (now : Now) (t : Talk) (talk : course.Talk) (c : Conversation) (o : Option R) (schedule : Schedule) (size : ℕ) (list : List Cfg) (news : News) (out new : List Send)
-    → StandsAt limits now t talk → IsNow schedule now → Heard bytes t c o size list news → size ≡ payload_size t.slave.types → list ≡ list_in t.slave.script schedule.stage.run schedule.stage.part
+pub heard_sends : {R : Type 0} (bytes : R → List ℕ) (limits : Limits) (now : Now) (t : Talk) (talk : course.CourseTalk) (c : Conversation) (o : Option R) (schedule : Schedule) (size : ℕ) (list : List Cfg) (news : News) (out new : List Send)
+    → TalkStandsAt limits now t talk → IsNow schedule now → Heard bytes t c o size list news → size ≡ payload_size t.slave.types → list ≡ list_in t.slave.script schedule.stage.run schedule.stage.part
     → new ≡ out ++ flat_map (sends_to t.slave.address) (due_of c) → new ≡ out ++ sends_after limits talk (mark_for talk.slave talk.marks news)
 heard_sends bytes limits now t talk c o schedule size list news out new s fit h is lists sends =
     let with_it = with_slave limits now t talk size s is in
@@ -75,18 +75,18 @@ heard_sends bytes limits now t talk c o schedule size list news out new s fit h 
 
 -- ---- by the sender
 
-abbrev gram_by : Bool → course.Talk → List ℕ → Option Mark
+abbrev gram_by : Bool → course.CourseTalk → List ℕ → Option Mark
 gram_by b talk bytes = if b then mark_for talk.slave talk.marks (news_of bytes) else None
 
-gram_is : (limits : Limits) (now : Now) (t : Talk) (talk : course.Talk) (from : Address) (bytes : List ℕ) (b : Bool) → StandsAt limits now t talk → same_address from t.slave.address ≡ b
+gram_is : (limits : Limits) (now : Now) (t : Talk) (talk : course.CourseTalk) (from : Address) (bytes : List ℕ) (b : Bool) → TalkStandsAt limits now t talk → same_address from t.slave.address ≡ b
     → gram_by b talk bytes ≡ mark_of_gram talk from bytes
 gram_is limits now t talk from bytes b s e =
     ap (λ (x : Bool). gram_by x talk bytes) (sym e ∙ ap (λ (x : Slave). same_address from x.address) s.slave)
 
-pub from_it : (limits : Limits) (now : Now) (t : Talk) (talk : course.Talk) (from : Address) (bytes : List ℕ) → StandsAt limits now t talk → same_address from t.slave.address ≡ true
+pub from_it : (limits : Limits) (now : Now) (t : Talk) (talk : course.CourseTalk) (from : Address) (bytes : List ℕ) → TalkStandsAt limits now t talk → same_address from t.slave.address ≡ true
     → mark_for talk.slave talk.marks (news_of bytes) ≡ mark_of_gram talk from bytes
 from_it limits now t talk from bytes s e = gram_is limits now t talk from bytes true s e
 
-pub not_from_it : (limits : Limits) (now : Now) (t : Talk) (talk : course.Talk) (from : Address) (bytes : List ℕ) → StandsAt limits now t talk → same_address from t.slave.address ≡ false
+pub not_from_it : (limits : Limits) (now : Now) (t : Talk) (talk : course.CourseTalk) (from : Address) (bytes : List ℕ) → TalkStandsAt limits now t talk → same_address from t.slave.address ≡ false
     → None ≡ mark_of_gram talk from bytes
 not_from_it limits now t talk from bytes s e = gram_is limits now t talk from bytes false s e

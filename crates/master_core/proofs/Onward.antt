@@ -16,7 +16,7 @@ use Rattle.master_spec.specs.declared.setups.Slave.{Slave}
 use Rattle.master_spec.specs.Jobs.{Job, jobs}
 use Rattle.master_spec.specs.Marks.{Mark, Begun}
 use Rattle.master_spec.proofs.Phases.{phases_counted}
-use Rattle.master_spec.specs.Course.{Talk as Said, Course, marked, sends_after, begun, begun_with, with_next, with_report, decided, phases, failed, counted, still}
+use Rattle.master_spec.specs.Course.{CourseTalk as Said, Course, marked, sends_after, task_begun, begun_with, with_next, with_report, decided, phases, failed, counted_rows, still}
 use Rattle.master_core.specs.declared.records.MasterCore.{MasterCore}
 use Rattle.master_core.specs.declared.records.Talk.{Talk}
 use Rattle.master_core.specs.declared.rows.Rows.{Rows}
@@ -27,8 +27,8 @@ use Rattle.master_core.specs.Stages.{job_at, next_in, first_stage}
 use Rattle.master_core.specs.Rest.{rest, rest_of}
 use Rattle.master_core.specs.Each.{Each}
 use Rattle.master_core.specs.Scheduled.{IsAfter}
-use Rattle.master_core.specs.Talking.{StandsAt, Now, IsNow, now_in, at_stage, slave_in, outputs_width}
-use Rattle.master_core.specs.Standing.{Stand, StandsWith, HasRows, IsBehind, Meets, lines_of, setup_of}
+use Rattle.master_core.specs.Talking.{TalkStandsAt, Now, IsNow, now_in, at_stage, slave_talked_to, outputs_width}
+use Rattle.master_core.specs.Standing.{Stand, StandsWith, HasRows, IsBehind, Meets, lines_of, core_setup}
 use Rattle.master_core.proofs.Phases.{next_rest}
 
 -- ---- slaves that stay
@@ -37,18 +37,18 @@ total : List Slave → ℕ
 total [] = 0
 total (slave ∷ slaves) = length slave.types + total slaves
 
-width_total : (ts : List Talk) → outputs_width ts ≡ total (map slave_in ts)
+width_total : (ts : List Talk) → outputs_width ts ≡ total (map slave_talked_to ts)
 unfolding total
 width_total [] = refl
 width_total (t ∷ ts) = ap (λ n. length t.slave.types + n) (width_total ts)
 
-pub same_width : (xs ys : List Talk) → map slave_in xs ≡ map slave_in ys → outputs_width xs ≡ outputs_width ys
+pub same_width : (xs ys : List Talk) → map slave_talked_to xs ≡ map slave_talked_to ys → outputs_width xs ≡ outputs_width ys
 same_width xs ys e = width_total xs ∙ ap total e ∙ sym (width_total ys)
 
-pub same_count : (xs ys : List Talk) → map slave_in xs ≡ map slave_in ys → length xs ≡ length ys
-same_count xs ys e = sym (length-map xs slave_in) ∙ ap (λ (l : List Slave). length l) e ∙ length-map ys slave_in
+pub same_count : (xs ys : List Talk) → map slave_talked_to xs ≡ map slave_talked_to ys → length xs ≡ length ys
+same_count xs ys e = sym (length-map xs slave_talked_to) ∙ ap (λ (l : List Slave). length l) e ∙ length-map ys slave_talked_to
 
-pub rows_stay : (lines : ℕ) (xs ys : List Talk) (r : Rows) (rows : List (List ℤ)) → map slave_in xs ≡ map slave_in ys → HasRows (outputs_width ys) lines r rows → HasRows (outputs_width xs) lines r rows
+pub rows_stay : (lines : ℕ) (xs ys : List Talk) (r : Rows) (rows : List (List ℤ)) → map slave_talked_to xs ≡ map slave_talked_to ys → HasRows (outputs_width ys) lines r rows → HasRows (outputs_width xs) lines r rows
 rows_stay lines xs ys r rows e h = subst (λ (n : ℕ). HasRows n lines r rows) (sym (same_width xs ys e)) h
 
 -- ---- the jobs that are left
@@ -91,7 +91,7 @@ next_phase done s b = omega (arith, done_few done s b, phases_few s)
 
 -- ---- the next phase begins
 
-begun_is : (setup : Setup) (p : ℕ) (s : Schedule) (talk : Said) → setup.steps ≡ s.steps → setup.runs ≡ s.runs → IsBehind p s → begun setup (p + 1) talk ≡ Some (Begun (job_at s.steps s.stage talk.slave.script))
+begun_is : (setup : Setup) (p : ℕ) (s : Schedule) (talk : Said) → setup.steps ≡ s.steps → setup.runs ≡ s.runs → IsBehind p s → task_begun setup (p + 1) talk ≡ Some (Begun (job_at s.steps s.stage talk.slave.script))
 begun_is setup p s talk steps runs b =
     ap (λ (n : ℕ). begun_with (slice_get (jobs n setup.runs talk.slave.script) (p + 1 - 1))) steps
     ∙ ap (λ (n : ℕ). begun_with (slice_get (jobs s.steps n talk.slave.script) (p + 1 - 1))) runs
@@ -108,8 +108,8 @@ flat_same {B = B} f g (x ∷ xs) h = ap (λ (y : List B). y ++ flat_map f xs) (h
 
 -- the parts after the begin
 pub begun_stands : (now : Now) (limits : Limits) (phase : ℕ) (ts new : List Talk) (s : Schedule) (rows : Rows) (report : Option Report) (setup : Setup) (c : Course) → Stand now limits phase ts s rows report c → IsBehind c.phase s
-    → setup.steps ≡ s.steps → setup.runs ≡ s.runs → map slave_in new ≡ map slave_in ts
-    → Each (StandsAt limits (at_stage s.steps s.stage)) new (map (λ talk. marked limits talk (Some (Begun (job_at s.steps s.stage talk.slave.script)))) c.talks) → setup.limits ≡ limits
+    → setup.steps ≡ s.steps → setup.runs ≡ s.runs → map slave_talked_to new ≡ map slave_talked_to ts
+    → Each (TalkStandsAt limits (at_stage s.steps s.stage)) new (map (λ talk. marked limits talk (Some (Begun (job_at s.steps s.stage talk.slave.script)))) c.talks) → setup.limits ≡ limits
     → StandsWith limits (min (phase + 1) 4294967295) new s rows report (with_next setup c)
 begun_stands now limits phase ts new s rows report setup c h b steps runs slaves each same = record {
   parts = record {
@@ -117,9 +117,9 @@ begun_stands now limits phase ts new s rows report setup c h b steps runs slaves
     some = omega (arith, h.some, same_count new ts slaves);
     talks_stand =
         let f : Said → Said = λ talk. marked limits talk (Some (Begun (job_at s.steps s.stage talk.slave.script))) in
-        let g : Said → Said = λ talk. marked setup.limits talk (begun setup (c.phase + 1) talk) in
-        let e : map f c.talks ≡ map g c.talks = map_same f g c.talks (λ talk. ap (λ (m : Option Mark). marked limits talk m) (sym (begun_is setup c.phase s talk steps runs b)) ∙ ap (λ (l : Limits). marked l talk (begun setup (c.phase + 1) talk)) (sym same)) in
-        subst (λ (n : ℕ). Each (StandsAt limits (now_in n s)) new (map g c.talks)) (sym (add-one c.phase)) (subst (λ (l : List Said). Each (StandsAt limits (at_stage s.steps s.stage)) new l) e each);
+        let g : Said → Said = λ talk. marked setup.limits talk (task_begun setup (c.phase + 1) talk) in
+        let e : map f c.talks ≡ map g c.talks = map_same f g c.talks (λ talk. ap (λ (m : Option Mark). marked limits talk m) (sym (begun_is setup c.phase s talk steps runs b)) ∙ ap (λ (l : Limits). marked l talk (task_begun setup (c.phase + 1) talk)) (sym same)) in
+        subst (λ (n : ℕ). Each (TalkStandsAt limits (now_in n s)) new (map g c.talks)) (sym (add-one c.phase)) (subst (λ (l : List Said). Each (TalkStandsAt limits (at_stage s.steps s.stage)) new l) e each);
     rows_are = rows_stay (lines_of s) new ts rows c.rows slaves h.rows_are;
     report_is = h.report_is;
   };
@@ -131,8 +131,8 @@ pub begun_sent : (limits : Limits) (s : Schedule) (setup : Setup) (c : Course) (
     → new ≡ out ++ flat_map (λ talk. sends_after limits talk (Some (Begun (job_at s.steps s.stage talk.slave.script)))) c.talks → new ≡ (with_next setup c).sent
 begun_sent limits s setup c out new b steps runs same before sends =
     let f : Said → List Send = λ talk. sends_after limits talk (Some (Begun (job_at s.steps s.stage talk.slave.script))) in
-    let g : Said → List Send = λ talk. sends_after setup.limits talk (begun setup (c.phase + 1) talk) in
-    let e : flat_map f c.talks ≡ flat_map g c.talks = flat_same f g c.talks (λ talk. ap (λ (m : Option Mark). sends_after limits talk m) (sym (begun_is setup c.phase s talk steps runs b)) ∙ ap (λ (l : Limits). sends_after l talk (begun setup (c.phase + 1) talk)) (sym same)) in
+    let g : Said → List Send = λ talk. sends_after setup.limits talk (task_begun setup (c.phase + 1) talk) in
+    let e : flat_map f c.talks ≡ flat_map g c.talks = flat_same f g c.talks (λ talk. ap (λ (m : Option Mark). sends_after limits talk m) (sym (begun_is setup c.phase s talk steps runs b)) ∙ ap (λ (l : Limits). sends_after l talk (task_begun setup (c.phase + 1) talk)) (sym same)) in
     sends ∙ ap (λ (l : List Send). l ++ flat_map f c.talks) before ∙ ap (λ (l : List Send). c.sent ++ l) e
 
 -- ---- the report, or the next phase
@@ -211,8 +211,8 @@ meets_as m x y e h = subst (λ (z : Course). Meets m z) e h
 
 -- ---- all conversations get a mark that begins no phase
 
-pub marked_stands : (limits : Limits) (phase : ℕ) (ts new : List Talk) (s : Schedule) (rows : Rows) (report : Option Report) (c : Course) (said : List Said) (sent : List Send) → StandsWith limits phase ts s rows report c → map slave_in new ≡ map slave_in ts
-    → Each (StandsAt limits (now_in c.phase s)) new said → StandsWith limits phase new s rows report (record { phase = c.phase; talks = said; rows = c.rows; report = c.report; sent = sent })
+pub marked_stands : (limits : Limits) (phase : ℕ) (ts new : List Talk) (s : Schedule) (rows : Rows) (report : Option Report) (c : Course) (said : List Said) (sent : List Send) → StandsWith limits phase ts s rows report c → map slave_talked_to new ≡ map slave_talked_to ts
+    → Each (TalkStandsAt limits (now_in c.phase s)) new said → StandsWith limits phase new s rows report (record { phase = c.phase; talks = said; rows = c.rows; report = c.report; sent = sent })
 marked_stands limits phase ts new s rows report c said sent h slaves each = record {
   parts = record {
     phase_is = h.parts.phase_is;
@@ -228,7 +228,7 @@ marked_stands limits phase ts new s rows report c said sent h slaves each = reco
 -- ---- the rows are counted
 
 pub counted_stands : (limits : Limits) (phase : ℕ) (ts : List Talk) (s : Schedule) (rows new : Rows) (report : Option Report) (c : Course) → StandsWith limits phase ts s rows report c
-    → HasRows (outputs_width ts) (lines_of s) new (counted c.talks c.rows) → StandsWith limits phase ts s new report (record { phase = c.phase; talks = c.talks; rows = counted c.talks c.rows; report = c.report; sent = c.sent })
+    → HasRows (outputs_width ts) (lines_of s) new (counted_rows c.talks c.rows) → StandsWith limits phase ts s new report (record { phase = c.phase; talks = c.talks; rows = counted_rows c.talks c.rows; report = c.report; sent = c.sent })
 counted_stands limits phase ts s rows new report c h r = record {
   parts = record { phase_is = h.parts.phase_is; some = h.parts.some; talks_stand = h.parts.talks_stand; rows_are = r; report_is = h.parts.report_is };
   first = h.first;

@@ -9,8 +9,8 @@ use Rattle.std.proofs.Math.Nat.{suc-mul}
 use Rattle.master_spec.specs.declared.setups.Slave.{Slave}
 use Rattle.master_core.specs.declared.records.Talk.{Talk}
 use Rattle.master_core.specs.declared.rows.Rows.{Rows}
-use Rattle.master_core.specs.Columns.{outputs_for, value_in_row, value_at, column_in}
-use Rattle.master_core.specs.Talking.{slave_in, outputs_width}
+use Rattle.master_core.specs.Columns.{outputs_for, value_in_row, column_value, column_in}
+use Rattle.master_core.specs.Talking.{slave_talked_to, outputs_width}
 use Rattle.master_core.specs.Standing.{HasRows}
 
 -- ---- a place in a list
@@ -110,7 +110,7 @@ column_few (slave ∷ slaves) id port column e = by (slave.id == id) (λ c f. co
     by true f e = let p = own_port (length slave.types) port column (nat_lt port (length slave.types)) refl e in omega (arith, p.0, p.1)
     by false f e = let q = found_in (length slave.types) (column_in slaves id port) column e in omega (arith, q.2, f q.0 q.1)
 
-width_total : (ts : List Talk) → outputs_width ts ≡ total (map slave_in ts)
+width_total : (ts : List Talk) → outputs_width ts ≡ total (map slave_talked_to ts)
 unfolding total
 width_total [] = refl
 width_total (t ∷ ts) = ap (λ n. length t.slave.types + n) (width_total ts)
@@ -133,15 +133,15 @@ value_in_rows ts lines r rows k column true t h few =
     ∙ flat_at (outputs_width ts) rows k column (recursion_from_All (λ (row : List ℤ). length row ≡ outputs_width ts) rows h.each) few
 value_in_rows ts lines r rows k column false t h few = let l = ltb-false k r.counted t in get_past rows k column (omega (arith, l, h.counted_are))
 
-pub value_there : (ts : List Talk) (lines : ℕ) (r : Rows) (rows : List (List ℤ)) (k id port column : ℕ) → HasRows (outputs_width ts) lines r rows → Some column ≡ column_in (map slave_in ts) id port
-    → (if nat_lt k r.counted then slice_get r.values.items (k * r.width + column) else None) ≡ value_at (map slave_in ts) rows k id port
+pub value_there : (ts : List Talk) (lines : ℕ) (r : Rows) (rows : List (List ℤ)) (k id port column : ℕ) → HasRows (outputs_width ts) lines r rows → Some column ≡ column_in (map slave_talked_to ts) id port
+    → (if nat_lt k r.counted then slice_get r.values.items (k * r.width + column) else None) ≡ column_value (map slave_talked_to ts) rows k id port
 value_there ts lines r rows k id port column h e =
-    let few : column < outputs_width ts = omega (arith, column_few (map slave_in ts) id port column (sym e), width_total ts) in
-    value_in_rows ts lines r rows k column (nat_lt k r.counted) refl h few ∙ value_by (slice_get rows k) (map slave_in ts) id port column (sym e)
+    let few : column < outputs_width ts = omega (arith, column_few (map slave_talked_to ts) id port column (sym e), width_total ts) in
+    value_in_rows ts lines r rows k column (nat_lt k r.counted) refl h few ∙ value_by (slice_get rows k) (map slave_talked_to ts) id port column (sym e)
 
 missing_by : (o : Option (List ℤ)) (slaves : List Slave) (id port : ℕ) → column_in slaves id port ≡ None → None ≡ value_in_row slaves o id port
 missing_by None slaves id port e = refl
 missing_by (Some row) slaves id port e = sym (column_missing slaves id port row e)
 
-pub value_missing : (slaves : List Slave) (rows : List (List ℤ)) (k id port : ℕ) → None ≡ column_in slaves id port → None ≡ value_at slaves rows k id port
+pub value_missing : (slaves : List Slave) (rows : List (List ℤ)) (k id port : ℕ) → None ≡ column_in slaves id port → None ≡ column_value slaves rows k id port
 value_missing slaves rows k id port e = missing_by (slice_get rows k) slaves id port (sym e)

@@ -32,8 +32,8 @@ use Rattle.scenario.specs.Sound.{IsScenario, IsAddress, IsEvery, IsSetting}
 use Rattle.scenario.specs.Wiring.{interval, q_of, every_between}
 use Rattle.plan_spec.specs.declared.links.DataLink.{DataLink}
 use Rattle.plan_spec.specs.declared.pairs.Pair.{Pair}
-use Rattle.plan_spec.specs.Links.{is_wire, is_wired, pairs_from, positions, wire_links, links_from, wired_pairs, wire_link}
-use Rattle.plan_spec.specs.Setup.{settings_of, set_parameter, told_interval, numbered, input_at, output_at, incoming, outgoing, watched, setup_list, adjust_list, net_info, address_at, address_in}
+use Rattle.plan_spec.specs.Links.{is_wire, is_wired_pair, pairs_from, positions, wire_links, links_from, wired_pairs, wire_link}
+use Rattle.plan_spec.specs.Setup.{settings_of, set_parameter, told_interval, numbered, input_at, output_at, incoming, outgoing, watched, setup_list, adjust_list, net_info, address_at, source_address}
 use Rattle.config_plan.proofs.More.{filter_few, grid_few, pairs_few}
 use Rattle.master_spec.specs.declared.requests.Request.TheVariants.{Configure}
 use Rattle.master_spec.specs.declared.setups.Slave.{Slave}
@@ -127,7 +127,7 @@ at_all P [] (suc i) x a e = absurd (cc)
 at_all P (y ∷ xs) zero x a e = let s : y ≡ x = cc in subst P s a.0
 at_all P (y ∷ xs) (suc i) x a e = at_all P xs i x a.1 e
 
-address_fits : (sc : Scenario) (o : Option SlaveDesc) → IsAddress sc.master → ((d : SlaveDesc) → o ≡ Some d → IsDesc d) → ((address_in sc o).port < 65536) × ((address_in sc o).ip < 2 ^ 32)
+address_fits : (sc : Scenario) (o : Option SlaveDesc) → IsAddress sc.master → ((d : SlaveDesc) → o ≡ Some d → IsDesc d) → ((source_address sc o).port < 65536) × ((source_address sc o).ip < 2 ^ 32)
 address_fits sc None m h = (omega (arith, m.port.1), m.ip)
 address_fits sc (Some d) m h = let x = h d refl in (omega (arith, x.port.1), x.ip)
 
@@ -205,7 +205,7 @@ watched_all sc s d h desc small =
 
 wire_links_all : (sc : Scenario) → IsScenario sc → AllByRecursion (λ l. IsLink l) (wire_links sc)
 wire_links_all sc h =
-    let few : length (wired_pairs sc) ≤ 256 = pairs_few (is_wired sc.wires) 1 (length sc.slaves) 1 (length sc.slaves) h.few_slaves.1 h.few_slaves.1 in
+    let few : length (wired_pairs sc) ≤ 256 = pairs_few (is_wired_pair sc.wires) 1 (length sc.slaves) 1 (length sc.slaves) h.few_slaves.1 h.few_slaves.1 in
     let every = recursion_from_All (λ (e : Every). e.q ≤ 1000) sc.every (λ i d l. (h.every i d l).q.1) in
     links_all sc 17 (wired_pairs sc) every (omega (arith, few))
 

@@ -22,10 +22,10 @@ use Rattle.master_spec.specs.declared.reactions.Reaction.TheVariants.{Wait, Ask,
 use Rattle.master_spec.specs.declared.reactions.Awaited.{Awaited}
 use Rattle.master_spec.specs.declared.reactions.Awaited.TheVariants.{TheAnswer, TheState, TheInputs, TheOutputs, TheOthers}
 use Rattle.master_spec.specs.Jobs.{Job, asked_by}
-use Rattle.master_spec.specs.News.{News, Answers, Hints, Brings, Nothing, pdu_of, bytes_of}
-use Rattle.master_spec.specs.Marks.{Mark, Begun, Asked, Again, Answered, Hinted, Brought, Turned, Ended, job_of, latest, open_in, open_request, asked, newest_number, configured, is_passed, has_ended, is_missing, refusals, is_hinted, is_reached, is_sending, is_answer, turns_since, sendings}
+use Rattle.master_spec.specs.News.{News, Answers, Hints, Brings, Nothing, pdu_of, request_bytes}
+use Rattle.master_spec.specs.Marks.{Mark, Begun, Asked, Again, Answered, Hinted, Brought, Turned, Ended, job_of, latest, open_in, open_request, asked, newest_number, settings_answered, is_passed, conversation_ended, is_missing, refusals, is_hinted, is_reached, is_sending, is_answer, turns_since, sendings}
 use Rattle.master_spec.specs.Conversation.{reaction, reaction_in, on_mark, on_answer, on_nack, on_missing, on_acknowledged, await_state, on_state, on_other_state, on_passing, on_turn, on_silence, on_rest, on_hint, first_of, configuration_at, awaited, awaited_by, awaited_after, awaited_after_state, messages_of, messages_if, again_bytes, answer_mark, if_open, unexpected, is_error, is_state, is_late}
-use Rattle.master_spec.specs.Tasks.{target_of, passing_of, asks_step, step_of, is_by_end, is_at_once}
+use Rattle.master_spec.specs.Tasks.{target_of, passing_of, asks_step, task_step, is_by_end, is_at_once}
 use Rattle.master_spec.specs.Course.{mark_for, send_to, payload_size}
 use Rattle.master_spec.specs.declared.setups.Slave.{Slave}
 use Rattle.conversation.specs.Askable.{IsSpelled}
@@ -58,7 +58,7 @@ ask_error number id hn hi = (_, record { kinds = U16 ∷ U8 ∷ []; listed = ref
 nack_sends : (limits : Limits) (job : Job) (request : Request) (code : ℕ) (marks : List Mark) → Sendable marks (on_nack limits job request code marks)
 nack_sends limits job request code marks =
     either marks (is_missing code && asks_step request) (on_missing limits job marks) (GiveUp (causes.Refused (newest_number marks) code))
-    (either marks (nat_le limits.step_tries (refusals marks)) (GiveUp (causes.InputsMissing (newest_number marks) (step_of job.task))) Wait tt tt) tt
+    (either marks (nat_le limits.step_tries (refusals marks)) (GiveUp (causes.InputsMissing (newest_number marks) (task_step job.task))) Wait tt tt) tt
 
 await_sends : (marks : List Mark) → Sendable marks (await_state marks)
 await_sends marks = either marks (is_hinted marks) (Ask AskState) Wait ask_state tt
@@ -86,7 +86,7 @@ answer_sends limits job (Change state body) (Nack code) older marks j = nack_sen
 answer_sends limits job (Configure body) (Nack code) older marks j = nack_sends limits job (Configure body) code marks
 answer_sends limits job AskState (Nack code) older marks j = nack_sends limits job AskState code marks
 answer_sends limits job AskError (Nack code) older marks j = nack_sends limits job AskError code marks
-answer_sends limits job (Configure body) Ack older marks j = listed marks job.list (configured marks) j.list
+answer_sends limits job (Configure body) Ack older marks j = listed marks job.list (settings_answered marks) j.list
 answer_sends limits job (Change state body) Ack older marks j = acknowledged_sends job marks
 answer_sends limits job AskState Ack older marks j = tt
 answer_sends limits job AskError Ack older marks j = tt
@@ -150,7 +150,7 @@ turn_by limits job TheAnswer settled marks w =
     (either marks (nat_le limits.tries (sendings marks)) (GiveUp (causes.NoAnswer (newest_number marks))) Repeat tt w) tt
 turn_by limits job TheState settled marks w = either marks (nat_le limits.watch_turns (turns_since is_answer marks)) (Ask AskState) Wait ask_state tt
 turn_by limits job (TheInputs request) settled marks w = either marks (nat_le limits.retry_turns (turns_since is_answer marks)) (Ask request) Wait w tt
-turn_by limits job TheOutputs settled marks w = either marks (nat_le limits.data_turns (turns_since is_answer marks)) (GiveUp (causes.DataMissing (step_of job.task))) Wait tt tt
+turn_by limits job TheOutputs settled marks w = either marks (nat_le limits.data_turns (turns_since is_answer marks)) (GiveUp (causes.DataMissing (task_step job.task))) Wait tt tt
 turn_by limits job TheOthers settled marks w =
     either marks (is_by_end job.task || settled) Wait (if nat_le limits.watch_turns (turns_since is_answer marks) then Ask AskState else Wait) tt
     (either marks (nat_le limits.watch_turns (turns_since is_answer marks)) (Ask AskState) Wait ask_state tt)
@@ -192,7 +192,7 @@ mark_sends limits job (Ended cause) older h fine l = tt
 
 in_sends : (limits : Limits) (o : Option Job) (m : Mark) (older : List Mark) → IsPresentAskable o → IsFine m → IsLatestAskable (latest older) → Sendable (m ∷ older) (reaction_in limits o m older (m ∷ older))
 in_sends limits None m older p fine l = tt
-in_sends limits (Some job) m older p fine l = either (m ∷ older) (has_ended older) Wait (on_mark limits job m older (m ∷ older)) tt (mark_sends limits job m older p fine l)
+in_sends limits (Some job) m older p fine l = either (m ∷ older) (conversation_ended older) Wait (on_mark limits job m older (m ∷ older)) tt (mark_sends limits job m older p fine l)
 
 pub sendable : (limits : Limits) (m : Mark) (older : List Mark) → IsPresentAskable (job_of (m ∷ older)) → IsFine m → IsLatestAskable (latest older) → Sendable (m ∷ older) (reaction limits m older)
 unfolding reaction
@@ -209,8 +209,8 @@ can_send id marks (GiveUp cause) h s = tt
 
 -- ---- what is sent has bytes
 
-sent_whole : (to : Address) (number id : ℕ) (request : Request) → IsSpelled number id request → sends_to to (bytes_of number id request) ++ [] ≡ send_to to (bytes_of number id request) ∷ []
-unfolding bytes_of
+sent_whole : (to : Address) (number id : ℕ) (request : Request) → IsSpelled number id request → sends_to to (request_bytes number id request) ++ [] ≡ send_to to (request_bytes number id request) ∷ []
+unfolding request_bytes
 sent_whole to number id request s =
     let e = sym s.1.bytes ∙ spelled_is _ _ s.1 in
     subst (λ (b : List ℕ). sends_to to b ++ [] ≡ send_to to b ∷ []) e refl

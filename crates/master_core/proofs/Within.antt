@@ -5,17 +5,17 @@ use Rattle.std.proofs.lemmas.Bool.{and_parts, leb-true, ltb-true}
 use Rattle.std.proofs.lemmas.Bool.Decides.{nat_tests}
 use Rattle.std.proofs.Math.Nat.{mul-le-mul_right, suc-mul}
 use Rattle.lockstep.specs.Lockstep.{row_index}
-use Rattle.master_spec.specs.Tasks.{row_of}
+use Rattle.master_spec.specs.Tasks.{task_row}
 use Rattle.master_core.specs.declared.stages.Part.{Part}
 use Rattle.master_core.specs.declared.stages.Part.TheVariants as parts
 use Rattle.master_core.specs.declared.stages.Stage.{Stage}
-use Rattle.master_core.specs.Stages.{task_in, row_in, next_in, after_step, is_within, IsWithin}
+use Rattle.master_core.specs.Stages.{part_task, part_row, next_in, after_step, is_part_within, IsWithin}
 
 step_within : (steps k : ℕ) → (nat_le 1 k && nat_le k steps) ≡ true → (1 ≤ k) × (k ≤ steps)
 step_within steps k e = let p = and_parts (nat_le 1 k) (nat_le k steps) e in (leb-true 1 k p.0, leb-true k steps p.1)
 
 -- the step of a stage is one of those of its run
-pub within_is : (steps runs run : ℕ) (part : Part) → is_within steps runs run part ≡ true → IsWithin steps part
+pub within_is : (steps runs run : ℕ) (part : Part) → is_part_within steps runs run part ≡ true → IsWithin steps part
 within_is steps runs run (parts.Step k) e = step_within steps k e
 within_is steps runs run (parts.Outputs k) e = step_within steps k e
 within_is steps runs run parts.Register e = tt
@@ -30,7 +30,7 @@ within_is steps runs run parts.Reset e = tt
 within_is steps runs run parts.Adjust e = tt
 within_is steps runs run parts.Deregister e = tt
 
-pub row_task : (steps uuid run : ℕ) (part : Part) → row_of (task_in steps uuid run part) ≡ row_in steps run part
+pub row_task : (steps uuid run : ℕ) (part : Part) → task_row (part_task steps uuid run part) ≡ part_row steps run part
 row_task steps uuid run (parts.Step k) = refl
 row_task steps uuid run (parts.Outputs k) = refl
 row_task steps uuid run parts.Register = refl
@@ -56,7 +56,7 @@ some_row : (a b n : ℕ) → Some a ≡ Some b → a < n → b < n
 some_row a b n e h = let s : a ≡ b = cc in omega (arith, s, h)
 
 -- a row is one of those of all runs
-pub row_below : (steps runs run : ℕ) (part : Part) (row : ℕ) → 1 ≤ run → run ≤ runs → is_within steps runs run part ≡ true → row_in steps run part ≡ Some row → row < runs * (steps + 1)
+pub row_below : (steps runs run : ℕ) (part : Part) (row : ℕ) → 1 ≤ run → run ≤ runs → is_part_within steps runs run part ≡ true → part_row steps run part ≡ Some row → row < runs * (steps + 1)
 row_below steps runs run parts.FirstOutputs row low high w e = some_row _ row (runs * (steps + 1)) e (place_below steps runs run 0 low high (omega arith))
 row_below steps runs run (parts.Outputs k) row low high w e = some_row _ row (runs * (steps + 1)) e (place_below steps runs run k low high (step_within steps k w).1)
 row_below steps runs run (parts.Step k) row low high w e = absurd (cc)
@@ -76,9 +76,9 @@ row_below steps runs run parts.Deregister row low high w e = absurd (cc)
 pub record IsInside (steps runs : ℕ) (stage : Stage) : Type 0 where
   pub first : 1 ≤ stage.run
   pub last : stage.run ≤ runs
-  pub within : is_within steps runs stage.run stage.part ≡ true
+  pub within : is_part_within steps runs stage.run stage.part ≡ true
 
-inside : (steps runs run : ℕ) (part : Part) (stage : Stage) → 1 ≤ run → run ≤ runs → is_within steps runs run part ≡ true → Some (record { run = run; part = part }) ≡ Some stage → IsInside steps runs stage
+inside : (steps runs run : ℕ) (part : Part) (stage : Stage) → 1 ≤ run → run ≤ runs → is_part_within steps runs run part ≡ true → Some (record { run = run; part = part }) ≡ Some stage → IsInside steps runs stage
 inside steps runs run part stage low high w e =
     let s : record { run = run; part = part } ≡ stage = cc in
     subst (λ (x : Stage). IsInside steps runs x) s (record { first = low; last = high; within = w })
@@ -94,7 +94,7 @@ stop_after : (steps runs run : ℕ) (stage : Stage) (b : Bool) → nat_lt run ru
 stop_after steps runs run stage true t low high e = inside steps runs run parts.Reset stage low high t e
 stop_after steps runs run stage false t low high e = inside steps runs run parts.Deregister stage low high refl e
 
-pub next_inside : (steps runs run : ℕ) (part : Part) (stage : Stage) → 1 ≤ run → run ≤ runs → is_within steps runs run part ≡ true → next_in steps runs run part ≡ Some stage → IsInside steps runs stage
+pub next_inside : (steps runs run : ℕ) (part : Part) (stage : Stage) → 1 ≤ run → run ≤ runs → is_part_within steps runs run part ≡ true → next_in steps runs run part ≡ Some stage → IsInside steps runs stage
 next_inside steps runs run parts.Register stage low high w e = inside steps runs run parts.Setup stage low high refl e
 next_inside steps runs run parts.Setup stage low high w e = inside steps runs run parts.Prepare stage low high refl e
 next_inside steps runs run parts.Prepare stage low high w e = inside steps runs run parts.Configure stage low high refl e

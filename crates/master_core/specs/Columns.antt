@@ -13,8 +13,8 @@ value_in_row slaves None id port = None
 value_in_row slaves (Some row) id port = slice_get (outputs_for slaves id row) port
 
 -- the value in row k, where there is such a row, slave and port
-abbrev pub value_at : List Slave → List (List ℤ) → (k id port : ℕ) → Option ℤ
-value_at slaves rows k id port = value_in_row slaves (slice_get rows k) id port
+abbrev pub column_value : List Slave → List (List ℤ) → (k id port : ℕ) → Option ℤ
+column_value slaves rows k id port = value_in_row slaves (slice_get rows k) id port
 
 -- where it stands in its row
 abbrev pub column_in : List Slave → (id port : ℕ) → Option ℕ

@@ -8,11 +8,11 @@ abbrev pub send_in : Slot → Send
 send_in s = record { to = s.to; bytes = take s.length s.bytes }
 
 -- a message has so many bytes
-pub record IsSized (bytes : List ℕ) : Type 0 where
+pub record IsSlotSized (bytes : List ℕ) : Type 0 where
   pub low : 1 ≤ length bytes
   pub high : length bytes ≤ 1024
 
-pub record IsFilled (s : Slot) : Type 0 where
+pub record IsFilledSlot (s : Slot) : Type 0 where
   pub low : 1 ≤ s.length
   pub high : s.length ≤ 1024
 

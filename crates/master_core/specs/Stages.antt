@@ -11,20 +11,20 @@ use Rattle.master_core.specs.declared.stages.Part.TheVariants as parts
 use Rattle.master_core.specs.declared.stages.Stage.{Stage}
 
 -- the task of a slave with this identity
-abbrev pub task_in : (steps uuid run : ℕ) → Part → Task
-task_in steps uuid run parts.Register = tasks.Register uuid
-task_in steps uuid run parts.Setup = tasks.Setup
-task_in steps uuid run parts.Prepare = tasks.Prepare
-task_in steps uuid run parts.Configure = tasks.Configure
-task_in steps uuid run parts.Initialize = tasks.Initialize
-task_in steps uuid run parts.FirstOutputs = tasks.FirstOutputs (row_index steps run 0)
-task_in steps uuid run parts.Run = tasks.Run
-task_in steps uuid run (parts.Step k) = tasks.Step k
-task_in steps uuid run (parts.Outputs k) = tasks.Outputs k (row_index steps run k)
-task_in steps uuid run parts.Stop = tasks.Stop
-task_in steps uuid run parts.Reset = tasks.Reset
-task_in steps uuid run parts.Adjust = tasks.Adjust
-task_in steps uuid run parts.Deregister = tasks.Deregister
+abbrev pub part_task : (steps uuid run : ℕ) → Part → Task
+part_task steps uuid run parts.Register = tasks.Register uuid
+part_task steps uuid run parts.Setup = tasks.Setup
+part_task steps uuid run parts.Prepare = tasks.Prepare
+part_task steps uuid run parts.Configure = tasks.Configure
+part_task steps uuid run parts.Initialize = tasks.Initialize
+part_task steps uuid run parts.FirstOutputs = tasks.FirstOutputs (row_index steps run 0)
+part_task steps uuid run parts.Run = tasks.Run
+part_task steps uuid run (parts.Step k) = tasks.Step k
+part_task steps uuid run (parts.Outputs k) = tasks.Outputs k (row_index steps run k)
+part_task steps uuid run parts.Stop = tasks.Stop
+part_task steps uuid run parts.Reset = tasks.Reset
+part_task steps uuid run parts.Adjust = tasks.Adjust
+part_task steps uuid run parts.Deregister = tasks.Deregister
 
 -- the list that goes with it
 abbrev pub list_in : Script → (run : ℕ) → Part → List Cfg
@@ -43,23 +43,23 @@ list_in script run parts.Adjust = slice_index_or script.adjusts (run - 1) []
 list_in script run parts.Deregister = []
 
 -- the row of its outputs, counted over all runs
-abbrev pub row_in : (steps run : ℕ) → Part → Option ℕ
-row_in steps run parts.Register = None
-row_in steps run parts.Setup = None
-row_in steps run parts.Prepare = None
-row_in steps run parts.Configure = None
-row_in steps run parts.Initialize = None
-row_in steps run parts.FirstOutputs = Some (row_index steps run 0)
-row_in steps run parts.Run = None
-row_in steps run (parts.Step k) = None
-row_in steps run (parts.Outputs k) = Some (row_index steps run k)
-row_in steps run parts.Stop = None
-row_in steps run parts.Reset = None
-row_in steps run parts.Adjust = None
-row_in steps run parts.Deregister = None
+abbrev pub part_row : (steps run : ℕ) → Part → Option ℕ
+part_row steps run parts.Register = None
+part_row steps run parts.Setup = None
+part_row steps run parts.Prepare = None
+part_row steps run parts.Configure = None
+part_row steps run parts.Initialize = None
+part_row steps run parts.FirstOutputs = Some (row_index steps run 0)
+part_row steps run parts.Run = None
+part_row steps run (parts.Step k) = None
+part_row steps run (parts.Outputs k) = Some (row_index steps run k)
+part_row steps run parts.Stop = None
+part_row steps run parts.Reset = None
+part_row steps run parts.Adjust = None
+part_row steps run parts.Deregister = None
 
 abbrev pub job_at : (steps : ℕ) → Stage → Script → Job
-job_at steps stage script = record { task = task_in steps script.uuid stage.run stage.part; list = list_in script stage.run stage.part }
+job_at steps stage script = record { task = part_task steps script.uuid stage.run stage.part; list = list_in script stage.run stage.part }
 
 -- the first phase
 abbrev pub first_stage : Stage
@@ -95,17 +95,17 @@ IsWithin steps (parts.Outputs k) = (1 ≤ k) × (k ≤ steps)
 IsWithin steps _ = Unit {0}
 
 -- a step is one of those of the run, and a reset comes between two runs
-abbrev pub is_within : (steps runs run : ℕ) → Part → Bool
-is_within steps runs run (parts.Step k) = nat_le 1 k && nat_le k steps
-is_within steps runs run (parts.Outputs k) = nat_le 1 k && nat_le k steps
-is_within steps runs run parts.Reset = nat_lt run runs
-is_within steps runs run parts.Adjust = nat_lt run runs
-is_within steps runs run parts.Register = true
-is_within steps runs run parts.Setup = true
-is_within steps runs run parts.Prepare = true
-is_within steps runs run parts.Configure = true
-is_within steps runs run parts.Initialize = true
-is_within steps runs run parts.FirstOutputs = true
-is_within steps runs run parts.Run = true
-is_within steps runs run parts.Stop = true
-is_within steps runs run parts.Deregister = true
+abbrev pub is_part_within : (steps runs run : ℕ) → Part → Bool
+is_part_within steps runs run (parts.Step k) = nat_le 1 k && nat_le k steps
+is_part_within steps runs run (parts.Outputs k) = nat_le 1 k && nat_le k steps
+is_part_within steps runs run parts.Reset = nat_lt run runs
+is_part_within steps runs run parts.Adjust = nat_lt run runs
+is_part_within steps runs run parts.Register = true
+is_part_within steps runs run parts.Setup = true
+is_part_within steps runs run parts.Prepare = true
+is_part_within steps runs run parts.Configure = true
+is_part_within steps runs run parts.Initialize = true
+is_part_within steps runs run parts.FirstOutputs = true
+is_part_within steps runs run parts.Run = true
+is_part_within steps runs run parts.Stop = true
+is_part_within steps runs run parts.Deregister = true

@@ -8,24 +8,24 @@ use Rattle.master_spec.specs.declared.setups.Script.{Script}
 use Rattle.dcp_types.specs.declared.limits.Limits.{Limits}
 use Rattle.master_spec.specs.declared.reports.Report.{Report}
 use Rattle.master_core.specs.declared.records.Talk.{Talk}
-use Rattle.master_spec.specs.Course.{Course, course, counted, turns, marked, sends_after, mark_of_gram, is_settled, has_passed, row_now, Talk as Said}
+use Rattle.master_spec.specs.Course.{Course, course, counted_rows, master_turns, marked, sends_after, mark_of_gram, is_settled, has_passed, row_now, CourseTalk as Said}
 use Rattle.master_spec.specs.Marks.{Turned}
 use Rattle.master_spec.specs.Jobs.{jobs}
-use Rattle.master_spec.specs.Rules.{rules_from}
+use Rattle.master_spec.specs.Rules.{master_rules_from}
 use Rattle.master_core.specs.declared.records.MasterCore.{MasterCore}
 use Rattle.master_core.specs.declared.rows.Rows.{Rows}
 use Rattle.master_core.specs.declared.stages.Schedule.{Schedule}
 use Rattle.master_core.specs.Stages.{first_stage}
 use Rattle.master_core.specs.Rest.{rest}
 use Rattle.master_core.specs.Each.{Each}
-use Rattle.master_core.specs.Talking.{StandsAt, Now, now_in, slave_in, outputs_width}
+use Rattle.master_core.specs.Talking.{TalkStandsAt, Now, now_in, slave_talked_to, outputs_width}
 
 -- what the master was given
-abbrev pub setup_of : MasterCore → Setup
-setup_of m = record { address = m.address; limits = m.limits; steps = m.schedule.steps; runs = m.schedule.runs; slaves = map slave_in m.talks.items }
+abbrev pub core_setup : MasterCore → Setup
+core_setup m = record { address = m.address; limits = m.limits; steps = m.schedule.steps; runs = m.schedule.runs; slaves = map slave_talked_to m.talks.items }
 
 abbrev pub rules_of : MasterCore → Rules
-rules_of m = rules_from (setup_of m)
+rules_of m = master_rules_from (core_setup m)
 
 -- so many phases are behind the schedule: from its stage on come the jobs that are left
 abbrev pub IsBehind : ℕ → Schedule → Type 0
@@ -47,7 +47,7 @@ lines_of s = s.runs * (s.steps + 1)
 pub record Stand (now : Now) (limits : Limits) (phase : ℕ) (talks : List Talk) (schedule : Schedule) (rows : Rows) (report : Option Report) (c : Course) : Type 0 where
   pub phase_is : phase ≡ c.phase
   pub some : 1 ≤ length talks
-  pub talks_stand : Each (StandsAt limits now) talks c.talks
+  pub talks_stand : Each (TalkStandsAt limits now) talks c.talks
   pub rows_are : HasRows (outputs_width talks) (lines_of schedule) rows c.rows
   pub report_is : report ≡ c.report
 
@@ -70,12 +70,12 @@ pub record Meets (m : MasterCore) (c : Course) : Type 0 where
 
 -- the master after these events, the oldest first
 pub record StandsAfter (m : MasterCore) (events : List Event) : Type 0 where
-  pub stands : StandsFor m (course (setup_of m) (reverse events))
-  pub turns_are : m.turns ≡ min (turns (setup_of m) (reverse events)) (2 ^ 64 - 1)
+  pub stands : StandsFor m (course (core_setup m) (reverse events))
+  pub turns_are : m.turns ≡ min (master_turns (core_setup m) (reverse events)) (2 ^ 64 - 1)
 
 -- the course once a row has been counted, where one is due
 abbrev pub with_counted : Course → Course
-with_counted c = record { phase = c.phase; talks = c.talks; rows = counted c.talks c.rows; report = c.report; sent = c.sent }
+with_counted c = record { phase = c.phase; talks = c.talks; rows = counted_rows c.talks c.rows; report = c.report; sent = c.sent }
 
 -- the course once all conversations have had their turn
 abbrev pub with_talks_turned : Setup → Course → Course

@@ -3,7 +3,7 @@ use Rattle.std.specs.Prelude.{◌≡◌, ℕ, ◌+◌, zero, suc, Option, Some, 
 use Rattle.dcp_types.specs.declared.data_types.DataType.{DataType}
 use Rattle.dcp_types.specs.declared.limits.Limits.{Limits}
 use Rattle.conversation.specs.declared.records.Conversation.{Conversation}
-use Rattle.conversation.specs.Standing.{Stands, row_in, is_list_of}
+use Rattle.conversation.specs.Standing.{Stands, job_row, is_list_of}
 use Rattle.master_spec.specs.declared.setups.Slave.{Slave}
 use Rattle.master_spec.specs.Jobs.{Job}
 use Rattle.master_spec.specs.Marks.{Mark, job_of, latest, kept}
@@ -31,20 +31,20 @@ now_in (suc phase) s slave = at_stage s.steps s.stage slave
 abbrev pub IsNow : Schedule → Now → Type 0
 IsNow s now = (slave : Slave) → is_list_of (now slave) (list_in slave.script s.stage.run s.stage.part)
 
-abbrev pub slave_in : Talk → Slave
-slave_in t = t.slave
+abbrev pub slave_talked_to : Talk → Slave
+slave_talked_to t = t.slave
 
 -- nothing has happened in the conversation
-pub record IsFresh (limits : Limits) (t : Talk) : Type 0 where
+pub record IsFreshTalk (limits : Limits) (t : Talk) : Type 0 where
   pub stands : Stands t.conversation []
   pub id : t.conversation.id ≡ t.slave.id
   pub limits_are : t.conversation.limits ≡ limits
 
 -- the outputs that were kept for the present row stand in the room for them
 abbrev pub HasKept : List DataType → List ℕ → List Mark → Type 0
-HasKept types room marks = (row : ℕ) (payload : List ℕ) → row_in (job_of marks) ≡ Some row → kept row marks ≡ Some payload → take (payload_size types) room ≡ payload
+HasKept types room marks = (row : ℕ) (payload : List ℕ) → job_row (job_of marks) ≡ Some row → kept row marks ≡ Some payload → take (payload_size types) room ≡ payload
 
-pub record StandsAt (limits : Limits) (now : Now) (t : Talk) (talk : course.Talk) : Type 0 where
+pub record TalkStandsAt (limits : Limits) (now : Now) (t : Talk) (talk : course.CourseTalk) : Type 0 where
   pub slave : t.slave ≡ talk.slave
   pub stands : Stands t.conversation talk.marks
   pub id : t.conversation.id ≡ t.slave.id

@@ -1,7 +1,6 @@
 //! The master as an end of the protocol.
 
 ghost use Rattle.std.specs.Prelude.{◌≡◌, []};
-ghost use Rattle.master_core.specs.Standing.{Meets, StandsFor};
 
 use crate::records::MasterCore;
 use dcp_ends::End;
@@ -9,11 +8,11 @@ use dcp_types::Address;
 
 impl End for MasterCore {
     ghost use Rattle.master_spec.specs.declared.setups.Setup.{Setup};
-    ghost use Rattle.master_core.specs.Standing.{StandsAfter, rules_of, setup_of};
+    ghost use Rattle.master_core.specs.Standing.{StandsAfter, rules_of, core_setup};
 
     ghost Made = { Setup };
 
-    ghost made = { setup_of };
+    ghost made = { core_setup };
 
     ghost stands = { StandsAfter };
 

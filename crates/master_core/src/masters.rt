@@ -7,13 +7,13 @@ ghost use Rattle.scenario.specs.Sound.{IsScenario};
 ghost use Rattle.plan_spec.specs.Plans.{plan_of};
 ghost use Rattle.master_spec.specs.Course as course;
 ghost use Rattle.master_spec.specs.Course.{Course};
-ghost use Rattle.master_spec.specs.Rules.{master_rules, rules_from};
+ghost use Rattle.master_spec.specs.Rules.{master_rules, master_rules_from};
 ghost use Rattle.master_spec.specs.Setup.{setup_from};
-ghost use Rattle.master_core.specs.Columns.{value_at};
+ghost use Rattle.master_core.specs.Columns.{column_value};
 ghost use Rattle.master_core.specs.Talking.{Now};
-ghost use Rattle.master_core.specs.Standing.{StandsIn, StandsFor, StandsAfter, Meets, IsBehind, setup_of, is_row_due, with_counted, with_talks_turned, with_gram_heard};
+ghost use Rattle.master_core.specs.Standing.{StandsIn, StandsFor, StandsAfter, Meets, IsBehind, core_setup, is_row_due, with_counted, with_talks_turned, with_gram_heard};
 
-use crate::outbox::Outbox;
+use crate::outbox::MasterOutbox;
 use crate::records::MasterCore;
 use crate::rows::Rows;
 use crate::setups::talks_of;
@@ -35,14 +35,14 @@ impl MasterCore {
         requires sound { IsScenario scenario.now }
         requires plan { plan.now ≡ plan_of scenario.now }
         ensures stands { IfOk result (λ m. StandsAfter m []) }
-        ensures rules { IfOk result (λ m. rules_from (setup_of m) ≡ master_rules scenario.now) }
-        ensures made { IfOk result (λ m. setup_of m ≡ setup_from scenario.now) }
+        ensures rules { IfOk result (λ m. master_rules_from (core_setup m) ≡ master_rules scenario.now) }
+        ensures made { IfOk result (λ m. core_setup m ≡ setup_from scenario.now) }
         ensures quiet { IfOk result (λ m. m.out ≡ []) }
     {
         let talks = talks_of(alloc, scenario, plan)?;
         let lines = scenario.runs as usize * (scenario.steps as usize + 1);
         let rows = Rows::new(alloc, width_of(&talks), lines)?;
-        let out = Outbox::new(alloc)?;
+        let out = MasterOutbox::new(alloc)?;
         Ok(MasterCore {
             address: scenario.master,
             limits: scenario.limits,
@@ -58,7 +58,7 @@ impl MasterCore {
 
     /// How many rows are whole.
     pub fn rows(&self) -> u32
-        ensures { (events : List Event) → StandsAfter self.now events → result ≡ length (course.course (setup_of self.now) (reverse events)).rows }
+        ensures { (events : List Event) → StandsAfter self.now events → result ≡ length (course.course (core_setup self.now) (reverse events)).rows }
     {
         self.rows.counted
     }
@@ -66,7 +66,7 @@ impl MasterCore {
     /// The value of a port in row k, which counts over all runs; slaves count from 1, ports from 0. None
     /// where there is no such row, slave or port.
     pub fn row(&self, k: u32, slave: u8, port: u8) -> Option<i128>
-        ensures { (events : List Event) → StandsAfter self.now events → result ≡ value_at (setup_of self.now).slaves (course.course (setup_of self.now) (reverse events)).rows k slave port }
+        ensures { (events : List Event) → StandsAfter self.now events → result ≡ column_value (core_setup self.now).slaves (course.course (core_setup self.now) (reverse events)).rows k slave port }
     {
         match column(&self.talks, slave, port) {
             Some(column) => self.rows.value(k, column),
@@ -76,14 +76,14 @@ impl MasterCore {
 
     /// How the run ended, once it has.
     pub fn report(&self) -> Option<Report>
-        ensures { (events : List Event) → StandsAfter self.now events → result ≡ (course.course (setup_of self.now) (reverse events)).report }
+        ensures { (events : List Event) → StandsAfter self.now events → result ≡ (course.course (core_setup self.now) (reverse events)).report }
     {
         self.report
     }
 
     /// How many turns began without a report.
     pub fn turns(&self) -> u64
-        ensures { (events : List Event) → StandsAfter self.now events → result ≡ min (course.turns (setup_of self.now) (reverse events)) (2 ^ 64 - 1) }
+        ensures { (events : List Event) → StandsAfter self.now events → result ≡ min (course.master_turns (core_setup self.now) (reverse events)) (2 ^ 64 - 1) }
     {
         self.turns
     }
@@ -91,7 +91,7 @@ impl MasterCore {
     /// A row counts once all have passed its phase together.
     fn count_row(&mut self)
         ensures meets { (c : Course) → Meets self.old c → Meets self.new (with_counted c) }
-        ensures setup { setup_of self.new ≡ setup_of self.old }
+        ensures setup { core_setup self.new ≡ core_setup self.old }
         ensures turns { self.new.turns ≡ self.old.turns }
         ensures out { self.new.out ≡ self.old.out }
     {
@@ -114,8 +114,8 @@ impl MasterCore {
     /// The present phase begins for all.
     fn begin_phase(&mut self)
         requires { length self.old.out ≤ 16 }
-        ensures meets { (now : Now) (c : Course) → StandsIn now self.old c → IsBehind c.phase self.old.schedule → self.old.out ≡ c.sent → Meets self.new (course.with_next (setup_of self.old) c) }
-        ensures setup { setup_of self.new ≡ setup_of self.old }
+        ensures meets { (now : Now) (c : Course) → StandsIn now self.old c → IsBehind c.phase self.old.schedule → self.old.out ≡ c.sent → Meets self.new (course.with_next (core_setup self.old) c) }
+        ensures setup { core_setup self.new ≡ core_setup self.old }
         ensures turns { self.new.turns ≡ self.old.turns }
     {
         self.phase = self.phase.saturating_add(1);
@@ -125,8 +125,8 @@ impl MasterCore {
     /// The next phase, or the report after the last one.
     fn go_on(&mut self)
         requires { length self.old.out ≤ 16 }
-        ensures meets { (c : Course) → Meets self.old c → 1 ≤ c.phase → Meets self.new (course.decided (setup_of self.old) c None) }
-        ensures setup { setup_of self.new ≡ setup_of self.old }
+        ensures meets { (c : Course) → Meets self.old c → 1 ≤ c.phase → Meets self.new (course.decided (core_setup self.old) c None) }
+        ensures setup { core_setup self.new ≡ core_setup self.old }
         ensures turns { self.new.turns ≡ self.old.turns }
     {
         match self.schedule.advanced() {
@@ -145,8 +145,8 @@ impl MasterCore {
     /// The report, or the next phase.
     fn decide(&mut self)
         requires { length self.old.out ≤ 16 }
-        ensures meets { (c : Course) → Meets self.old c → 1 ≤ c.phase → Meets self.new (course.decided (setup_of self.old) c (course.failed c.phase c.talks)) }
-        ensures setup { setup_of self.new ≡ setup_of self.old }
+        ensures meets { (c : Course) → Meets self.old c → 1 ≤ c.phase → Meets self.new (course.decided (core_setup self.old) c (course.failed c.phase c.talks)) }
+        ensures setup { core_setup self.new ≡ core_setup self.old }
         ensures turns { self.new.turns ≡ self.old.turns }
     {
         match first_failed(&self.talks, self.phase) {
@@ -158,8 +158,8 @@ impl MasterCore {
     /// All conversations have their turn.
     fn turn_talks(&mut self)
         requires { self.old.out ≡ [] }
-        ensures meets { (c : Course) → StandsFor self.old c → Meets self.new (with_talks_turned (setup_of self.old) c) }
-        ensures setup { setup_of self.new ≡ setup_of self.old }
+        ensures meets { (c : Course) → StandsFor self.old c → Meets self.new (with_talks_turned (core_setup self.old) c) }
+        ensures setup { core_setup self.new ≡ core_setup self.old }
         ensures turns { self.new.turns ≡ self.old.turns }
         ensures room { length self.new.out ≤ 16 }
     {
@@ -170,8 +170,8 @@ impl MasterCore {
     /// A turn after the first.
     fn later_turn(&mut self)
         requires { self.old.out ≡ [] }
-        ensures meets { (c : Course) → StandsFor self.old c → 1 ≤ c.phase → Meets self.new (course.turned (setup_of self.old) (course.with_turns (setup_of self.old) (list_all course.is_settled c.talks) c)) }
-        ensures setup { setup_of self.new ≡ setup_of self.old }
+        ensures meets { (c : Course) → StandsFor self.old c → 1 ≤ c.phase → Meets self.new (course.course_turned (core_setup self.old) (course.with_turns (core_setup self.old) (list_all course.is_settled c.talks) c)) }
+        ensures setup { core_setup self.new ≡ core_setup self.old }
         ensures turns { self.new.turns ≡ self.old.turns }
     {
         self.turn_talks();
@@ -184,8 +184,8 @@ impl MasterCore {
     /// A turn before the report.
     pub(crate) fn take_turn(&mut self)
         requires { self.old.out ≡ [] }
-        ensures meets { (c : Course) → StandsFor self.old c → Meets self.new (course.after_turn (setup_of self.old) c) }
-        ensures setup { setup_of self.new ≡ setup_of self.old }
+        ensures meets { (c : Course) → StandsFor self.old c → Meets self.new (course.course_after_turn (core_setup self.old) c) }
+        ensures setup { core_setup self.new ≡ core_setup self.old }
         ensures turns { self.new.turns ≡ self.old.turns }
     {
         if self.phase == 0 {
@@ -198,8 +198,8 @@ impl MasterCore {
     /// All conversations are offered a datagram.
     fn hear(&mut self, from: Address, bytes: &[u8])
         requires { self.old.out ≡ [] }
-        ensures meets { (c : Course) → StandsFor self.old c → Meets self.new (with_gram_heard (setup_of self.old) from bytes.now c) }
-        ensures setup { setup_of self.new ≡ setup_of self.old }
+        ensures meets { (c : Course) → StandsFor self.old c → Meets self.new (with_gram_heard (core_setup self.old) from bytes.now c) }
+        ensures setup { core_setup self.new ≡ core_setup self.old }
         ensures turns { self.new.turns ≡ self.old.turns }
     {
         hear_all(&mut self.talks, &self.schedule, from, bytes, &mut self.out);
@@ -208,8 +208,8 @@ impl MasterCore {
     /// A datagram before the report.
     pub(crate) fn take_gram(&mut self, from: Address, bytes: &[u8])
         requires { self.old.out ≡ [] }
-        ensures meets { (c : Course) → StandsFor self.old c → Meets self.new (course.after_gram (setup_of self.old) from bytes.now c) }
-        ensures setup { setup_of self.new ≡ setup_of self.old }
+        ensures meets { (c : Course) → StandsFor self.old c → Meets self.new (course.after_gram (core_setup self.old) from bytes.now c) }
+        ensures setup { core_setup self.new ≡ core_setup self.old }
         ensures turns { self.new.turns ≡ self.old.turns }
     {
         self.hear(from, bytes);

@@ -2,7 +2,7 @@
 
 ghost use Rattle.std.specs.Prelude.{◌≡◌, ◌≤◌, false, length};
 
-use crate::outbox::Outbox;
+use crate::outbox::MasterOutbox;
 use crate::rows::Rows;
 use crate::stages::Schedule;
 use conversation::Conversation;
@@ -37,6 +37,6 @@ pub struct MasterCore {
     pub(crate) rows: Rows,
     pub(crate) report: Option<Report>,
     pub(crate) turns: u64,
-    pub(crate) out: Outbox,
+    pub(crate) out: MasterOutbox,
     ghost few: { length talks.items ≤ 16 },
 }

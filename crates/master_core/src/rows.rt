@@ -1,7 +1,7 @@
 //! The rows that came: the outputs of all slaves, by slave and then by port.
 
 ghost use Rattle.std.specs.Prelude.{◌≡◌, ◌≤◌, ◌<◌, ◌+◌, ◌*◌, ◌++◌, ◌∷◌, [], length, IfOk, nat_lt, if◌then◌else◌, None, slice_get, vec_capacity};
-ghost use Rattle.master_spec.specs.Course.{values_in, payload_size};
+ghost use Rattle.master_spec.specs.Course.{values_in};
 
 use dcp_types::{DataType, OutOfMemory, get_value};
 use std::alloc::Global;

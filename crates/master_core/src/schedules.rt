@@ -1,6 +1,6 @@
 //! All phases of all runs, and the present one.
 
-ghost use Rattle.std.specs.Prelude.{◌≡◌, ◌≤◌, true, None, MatchOption};
+ghost use Rattle.std.specs.Prelude.{◌≡◌, ◌≤◌, None, MatchOption};
 ghost use Rattle.master_core.specs.Stages as specs;
 ghost use Rattle.master_core.specs.Scheduled.{IsAfter};
 
@@ -40,14 +40,14 @@ impl Schedule {
 
     /// The row whose outputs the present phase brings, counted over all runs.
     pub fn row(&self) -> Option<u32>
-        ensures { result ≡ specs.row_in self.now.steps self.now.stage.run self.now.stage.part }
+        ensures { result ≡ specs.part_row self.now.steps self.now.stage.run self.now.stage.part }
     {
         self.stage.row(self.steps)
     }
 
     /// The task of a slave with this identity in the present phase.
     pub fn task(&self, uuid: u128) -> Task
-        ensures { result ≡ specs.task_in self.now.steps uuid self.now.stage.run self.now.stage.part }
+        ensures { result ≡ specs.part_task self.now.steps uuid self.now.stage.run self.now.stage.part }
     {
         self.stage.task(self.steps, uuid)
     }

@@ -6,7 +6,7 @@ ghost use Rattle.plan_spec.specs.Plans.{plan_of};
 ghost use Rattle.plan_spec.specs.Setup.{adjust_list};
 ghost use Rattle.master_spec.specs.Setup as specs;
 ghost use Rattle.scenario.specs.Sound.{IsScenario};
-ghost use Rattle.master_core.specs.Talking.{IsFresh, slave_in};
+ghost use Rattle.master_core.specs.Talking.{IsFreshTalk, slave_talked_to};
 
 use crate::records::Talk;
 use config_plan::Plan;
@@ -88,8 +88,8 @@ pub(crate) fn talks_of(
 ) -> Result<Vec<Talk>, OutOfMemory>
     requires sound { IsScenario scenario.now }
     requires plan { plan.now ≡ plan_of scenario.now }
-    ensures slaves { IfOk result (λ talks. map slave_in talks.items ≡ specs.slaves_from scenario.now 1 scenario.now.slaves) }
-    ensures fresh { IfOk result (λ talks. All (λ t. IsFresh scenario.now.limits t) talks.items) }
+    ensures slaves { IfOk result (λ talks. map slave_talked_to talks.items ≡ specs.slaves_from scenario.now 1 scenario.now.slaves) }
+    ensures fresh { IfOk result (λ talks. All (λ t. IsFreshTalk scenario.now.limits t) talks.items) }
 {
     let mut talks = Vec::new(alloc);
     let mut id = 1;

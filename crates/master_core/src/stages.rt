@@ -43,7 +43,7 @@ pub(crate) struct Schedule {
     ghost few_runs: { runs ≤ 100 },
     ghost first: { 1 ≤ stage.run },
     ghost last: { stage.run ≤ runs },
-    ghost within: { specs.is_within steps runs stage.run stage.part ≡ true },
+    ghost within: { specs.is_part_within steps runs stage.run stage.part ≡ true },
 }
 
 impl Stage {
@@ -97,7 +97,7 @@ impl Stage {
         requires run { (1 ≤ self.run) × (self.run ≤ 100) }
         requires steps { steps ≤ 100000 }
         requires part { specs.IsWithin steps self.part }
-        ensures { result ≡ specs.row_in steps self.run self.part }
+        ensures { result ≡ specs.part_row steps self.run self.part }
     {
         match self.part {
             Part::FirstOutputs => Some(first_row(self.run, steps)),
@@ -111,7 +111,7 @@ impl Stage {
         requires run { (1 ≤ self.run) × (self.run ≤ 100) }
         requires steps { steps ≤ 100000 }
         requires part { specs.IsWithin steps self.part }
-        ensures { result ≡ specs.task_in steps uuid self.run self.part }
+        ensures { result ≡ specs.part_task steps uuid self.run self.part }
     {
         let first = first_row(self.run, steps);
         match self.part {

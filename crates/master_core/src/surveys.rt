@@ -4,11 +4,11 @@ ghost use Rattle.std.specs.Prelude.{◌≡◌, ◌<◌, ◌≤◌, ◌+◌, ◌+
 ghost use Rattle.std.specs.List.{list_all, flat_map};
 ghost use Rattle.dcp_types.specs.declared.limits.Limits.{Limits};
 ghost use Rattle.master_spec.specs.Marks.{verdict_of};
-ghost use Rattle.master_spec.specs.Course.{Talk as Said, is_settled, has_passed, is_quiet, is_settled_as, is_passed_as};
+ghost use Rattle.master_spec.specs.Course.{CourseTalk as Said, is_settled, has_passed, is_quiet, is_settled_as, is_passed_as};
 ghost use Rattle.master_spec.specs.Course as course;
 ghost use Rattle.master_core.specs.Each.{Each};
 ghost use Rattle.master_core.specs.Columns.{column_in};
-ghost use Rattle.master_core.specs.Talking.{StandsAt, Now, slave_in, values_kept, outputs_width};
+ghost use Rattle.master_core.specs.Talking.{TalkStandsAt, Now, slave_talked_to, values_kept, outputs_width};
 ghost use Rattle.master_spec.specs.declared.setups.Slave.{Slave};
 
 use crate::records::Talk;
@@ -53,27 +53,27 @@ fn failed_by(phase: u32, slave: u8, verdict: Verdict) -> Option<Report>
 impl Talk {
     /// It has passed or ended.
     fn is_settled(&self) -> bool
-        ensures { (limits : Limits) (now : Now) (talk : Said) → StandsAt limits now self.now talk → result ≡ is_settled talk }
+        ensures { (limits : Limits) (now : Now) (talk : Said) → TalkStandsAt limits now self.now talk → result ≡ is_settled talk }
     {
         is_settled_as(self.conversation.verdict())
     }
 
     fn has_passed(&self) -> bool
-        ensures { (limits : Limits) (now : Now) (talk : Said) → StandsAt limits now self.now talk → result ≡ has_passed talk }
+        ensures { (limits : Limits) (now : Now) (talk : Said) → TalkStandsAt limits now self.now talk → result ≡ has_passed talk }
     {
         is_passed_as(self.conversation.verdict())
     }
 
     /// It has ended, or has passed with no request open.
     fn is_quiet(&self) -> bool
-        ensures { (limits : Limits) (now : Now) (talk : Said) → StandsAt limits now self.now talk → result ≡ is_quiet talk }
+        ensures { (limits : Limits) (now : Now) (talk : Said) → TalkStandsAt limits now self.now talk → result ≡ is_quiet talk }
     {
         self.is_settled() && !(self.has_passed() && self.conversation.waits_for_answer())
     }
 
     /// The report, where it has ended.
     fn failed(&self, phase: u32) -> Option<Report>
-        ensures { (limits : Limits) (now : Now) (talk : Said) → StandsAt limits now self.now talk → result ≡ course.failed_by phase talk.slave (verdict_of talk.marks) None }
+        ensures { (limits : Limits) (now : Now) (talk : Said) → TalkStandsAt limits now self.now talk → result ≡ course.failed_by phase talk.slave (verdict_of talk.marks) None }
     {
         failed_by(phase, self.slave.id, self.conversation.verdict())
     }
@@ -81,7 +81,7 @@ impl Talk {
 
 /// None is going.
 pub(crate) fn are_settled(talks: &[Talk]) -> bool
-    ensures { (limits : Limits) (now : Now) (said : List Said) → Each (StandsAt limits now) talks.now said → result ≡ list_all is_settled said }
+    ensures { (limits : Limits) (now : Now) (said : List Said) → Each (TalkStandsAt limits now) talks.now said → result ≡ list_all is_settled said }
 {
     for talk in talks {
         if !talk.is_settled() {
@@ -93,7 +93,7 @@ pub(crate) fn are_settled(talks: &[Talk]) -> bool
 
 /// None is going, and none that passed waits for an answer.
 pub(crate) fn are_quiet(talks: &[Talk]) -> bool
-    ensures { (limits : Limits) (now : Now) (said : List Said) → Each (StandsAt limits now) talks.now said → result ≡ list_all is_quiet said }
+    ensures { (limits : Limits) (now : Now) (said : List Said) → Each (TalkStandsAt limits now) talks.now said → result ≡ list_all is_quiet said }
 {
     for talk in talks {
         if !talk.is_quiet() {
@@ -104,7 +104,7 @@ pub(crate) fn are_quiet(talks: &[Talk]) -> bool
 }
 
 pub(crate) fn have_passed(talks: &[Talk]) -> bool
-    ensures { (limits : Limits) (now : Now) (said : List Said) → Each (StandsAt limits now) talks.now said → result ≡ list_all has_passed said }
+    ensures { (limits : Limits) (now : Now) (said : List Said) → Each (TalkStandsAt limits now) talks.now said → result ≡ list_all has_passed said }
 {
     for talk in talks {
         if !talk.has_passed() {
@@ -116,7 +116,7 @@ pub(crate) fn have_passed(talks: &[Talk]) -> bool
 
 /// The report of the first that has ended, if one has.
 pub(crate) fn first_failed(talks: &[Talk], phase: u32) -> Option<Report>
-    ensures { (limits : Limits) (now : Now) (said : List Said) → Each (StandsAt limits now) talks.now said → result ≡ course.failed phase said }
+    ensures { (limits : Limits) (now : Now) (said : List Said) → Each (TalkStandsAt limits now) talks.now said → result ≡ course.failed phase said }
 {
     for talk in talks {
         if let Some(report) = talk.failed(phase) {
@@ -152,7 +152,7 @@ pub(crate) fn width_of(talks: &[Talk]) -> usize
 /// Where the value of a port stands in a row; none where there is no such slave or port.
 pub(crate) fn column(talks: &[Talk], slave: u8, port: u8) -> Option<usize>
     requires { length talks.now ≤ 16 }
-    ensures column { result ≡ column_in (map slave_in talks.now) slave port }
+    ensures column { result ≡ column_in (map slave_talked_to talks.now) slave port }
     ensures few { IfSome result (λ column. column < 128) }
 {
     let mut first = 0;

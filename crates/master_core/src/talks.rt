@@ -11,9 +11,9 @@ ghost use Rattle.dcp_ends.specs.Logs.{same_address};
 ghost use Rattle.master_spec.specs.News.{news_of};
 ghost use Rattle.master_core.specs.Stages as stages;
 ghost use Rattle.master_core.specs.Slots.{sends_to};
-ghost use Rattle.master_core.specs.Talking.{StandsAt, IsFresh, IsNow, Now, at_stage};
+ghost use Rattle.master_core.specs.Talking.{TalkStandsAt, IsFreshTalk, IsNow, Now, at_stage};
 
-use crate::outbox::Outbox;
+use crate::outbox::MasterOutbox;
 use crate::records::Talk;
 use crate::sizes::payload_size;
 use crate::stages::Schedule;
@@ -28,7 +28,7 @@ fn same_address(a: Address, b: Address) -> bool
 }
 
 /// What is due to a slave goes out.
-fn send_due(conversation: &mut Conversation, to: Address, out: &mut Outbox)
+fn send_due(conversation: &mut Conversation, to: Address, out: &mut MasterOutbox)
     requires { length out.old < 32 }
     ensures cleared { conversation.new ≡ record conversation.old { is_due = false } }
     ensures sends { out.new ≡ out.old ++ flat_map (sends_to to) (due_of conversation.old) }
@@ -57,7 +57,7 @@ impl Talk {
         requires few { length slave.types ≤ 8 }
         requires limits { IsLimits limits }
         ensures slave { result.slave ≡ slave }
-        ensures fresh { IsFresh limits result }
+        ensures fresh { IsFreshTalk limits result }
     {
         let conversation = Conversation::new(slave.id, limits);
         Talk {
@@ -68,10 +68,10 @@ impl Talk {
     }
 
     /// The slave begins the present phase.
-    pub fn begin(&mut self, schedule: &Schedule, out: &mut Outbox)
+    pub fn begin(&mut self, schedule: &Schedule, out: &mut MasterOutbox)
         requires { length out.old < 32 }
-        ensures stands { (limits : Limits) (now : Now) (talk : course.Talk) → StandsAt limits now self.old talk → StandsAt limits (at_stage schedule.now.steps schedule.now.stage) self.new (course.marked limits talk (Some (Begun (stages.job_at schedule.now.steps schedule.now.stage talk.slave.script)))) }
-        ensures sends { (limits : Limits) (now : Now) (talk : course.Talk) → StandsAt limits now self.old talk → out.new ≡ out.old ++ course.sends_after limits talk (Some (Begun (stages.job_at schedule.now.steps schedule.now.stage talk.slave.script))) }
+        ensures stands { (limits : Limits) (now : Now) (talk : course.CourseTalk) → TalkStandsAt limits now self.old talk → TalkStandsAt limits (at_stage schedule.now.steps schedule.now.stage) self.new (course.marked limits talk (Some (Begun (stages.job_at schedule.now.steps schedule.now.stage talk.slave.script)))) }
+        ensures sends { (limits : Limits) (now : Now) (talk : course.CourseTalk) → TalkStandsAt limits now self.old talk → out.new ≡ out.old ++ course.sends_after limits talk (Some (Begun (stages.job_at schedule.now.steps schedule.now.stage talk.slave.script))) }
         ensures room { length out.new ≤ length out.old + 1 }
         ensures slave { self.new.slave ≡ self.old.slave }
     {
@@ -82,10 +82,10 @@ impl Talk {
     }
 
     /// The master has its turn. `settled` tells that no slave was going when it began.
-    pub fn turn(&mut self, settled: bool, out: &mut Outbox)
+    pub fn turn(&mut self, settled: bool, out: &mut MasterOutbox)
         requires { length out.old < 32 }
-        ensures stands { (limits : Limits) (now : Now) (talk : course.Talk) → StandsAt limits now self.old talk → StandsAt limits now self.new (course.marked limits talk (Some (Turned settled))) }
-        ensures sends { (limits : Limits) (now : Now) (talk : course.Talk) → StandsAt limits now self.old talk → out.new ≡ out.old ++ course.sends_after limits talk (Some (Turned settled)) }
+        ensures stands { (limits : Limits) (now : Now) (talk : course.CourseTalk) → TalkStandsAt limits now self.old talk → TalkStandsAt limits now self.new (course.marked limits talk (Some (Turned settled))) }
+        ensures sends { (limits : Limits) (now : Now) (talk : course.CourseTalk) → TalkStandsAt limits now self.old talk → out.new ≡ out.old ++ course.sends_after limits talk (Some (Turned settled)) }
         ensures room { length out.new ≤ length out.old + 1 }
         ensures slave { self.new.slave ≡ self.old.slave }
     {
@@ -94,10 +94,10 @@ impl Talk {
     }
 
     /// A datagram has come from the slave.
-    fn take(&mut self, schedule: &Schedule, bytes: &[u8], out: &mut Outbox)
+    fn take(&mut self, schedule: &Schedule, bytes: &[u8], out: &mut MasterOutbox)
         requires { length out.old < 32 }
-        ensures stands { (limits : Limits) (now : Now) (talk : course.Talk) → StandsAt limits now self.old talk → IsNow schedule.now now → StandsAt limits now self.new (course.marked limits talk (course.mark_for talk.slave talk.marks (news_of bytes.now))) }
-        ensures sends { (limits : Limits) (now : Now) (talk : course.Talk) → StandsAt limits now self.old talk → IsNow schedule.now now → out.new ≡ out.old ++ course.sends_after limits talk (course.mark_for talk.slave talk.marks (news_of bytes.now)) }
+        ensures stands { (limits : Limits) (now : Now) (talk : course.CourseTalk) → TalkStandsAt limits now self.old talk → IsNow schedule.now now → TalkStandsAt limits now self.new (course.marked limits talk (course.mark_for talk.slave talk.marks (news_of bytes.now))) }
+        ensures sends { (limits : Limits) (now : Now) (talk : course.CourseTalk) → TalkStandsAt limits now self.old talk → IsNow schedule.now now → out.new ≡ out.old ++ course.sends_after limits talk (course.mark_for talk.slave talk.marks (news_of bytes.now)) }
         ensures room { length out.new ≤ length out.old + 1 }
         ensures slave { self.new.slave ≡ self.old.slave }
     {
@@ -109,10 +109,10 @@ impl Talk {
     }
 
     /// A datagram has come. It concerns the slave where it comes from its address.
-    pub fn hear(&mut self, schedule: &Schedule, from: Address, bytes: &[u8], out: &mut Outbox)
+    pub fn hear(&mut self, schedule: &Schedule, from: Address, bytes: &[u8], out: &mut MasterOutbox)
         requires { length out.old < 32 }
-        ensures stands { (limits : Limits) (now : Now) (talk : course.Talk) → StandsAt limits now self.old talk → IsNow schedule.now now → StandsAt limits now self.new (course.marked limits talk (course.mark_of_gram talk from bytes.now)) }
-        ensures sends { (limits : Limits) (now : Now) (talk : course.Talk) → StandsAt limits now self.old talk → IsNow schedule.now now → out.new ≡ out.old ++ course.sends_after limits talk (course.mark_of_gram talk from bytes.now) }
+        ensures stands { (limits : Limits) (now : Now) (talk : course.CourseTalk) → TalkStandsAt limits now self.old talk → IsNow schedule.now now → TalkStandsAt limits now self.new (course.marked limits talk (course.mark_of_gram talk from bytes.now)) }
+        ensures sends { (limits : Limits) (now : Now) (talk : course.CourseTalk) → TalkStandsAt limits now self.old talk → IsNow schedule.now now → out.new ≡ out.old ++ course.sends_after limits talk (course.mark_of_gram talk from bytes.now) }
         ensures room { length out.new ≤ length out.old + 1 }
         ensures slave { self.new.slave ≡ self.old.slave }
     {

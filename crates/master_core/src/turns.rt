@@ -4,23 +4,23 @@ ghost use Rattle.std.specs.Prelude.{◌≡◌, ◌≤◌, ◌+◌, ◌++◌, ℕ
 ghost use Rattle.std.specs.List.{flat_map};
 ghost use Rattle.dcp_types.specs.declared.limits.Limits.{Limits};
 ghost use Rattle.master_spec.specs.Marks.{Turned, Begun};
-ghost use Rattle.master_spec.specs.Course.{Talk as Said, marked, sends_after, mark_of_gram};
+ghost use Rattle.master_spec.specs.Course.{CourseTalk as Said, marked, sends_after, mark_of_gram};
 ghost use Rattle.master_core.specs.Stages.{job_at};
 ghost use Rattle.master_core.specs.Each.{Each};
-ghost use Rattle.master_core.specs.Talking.{StandsAt, Now, at_stage, IsNow, slave_in};
+ghost use Rattle.master_core.specs.Talking.{TalkStandsAt, Now, at_stage, IsNow, slave_talked_to};
 
-use crate::outbox::Outbox;
+use crate::outbox::MasterOutbox;
 use crate::records::Talk;
 use crate::stages::Schedule;
 use dcp_types::Address;
 
 /// All begin the present phase.
-pub(crate) fn begin_all(talks: &mut Vec<Talk>, schedule: &Schedule, out: &mut Outbox)
+pub(crate) fn begin_all(talks: &mut Vec<Talk>, schedule: &Schedule, out: &mut MasterOutbox)
     requires { length out.old + length talks.old.items ≤ 32 }
-    ensures stands { (limits : Limits) (now : Now) (said : List Said) → Each (StandsAt limits now) talks.old.items said → Each (StandsAt limits (at_stage schedule.now.steps schedule.now.stage)) talks.new.items (map (λ talk. marked limits talk (Some (Begun (job_at schedule.now.steps schedule.now.stage talk.slave.script)))) said) }
-    ensures sends { (limits : Limits) (now : Now) (said : List Said) → Each (StandsAt limits now) talks.old.items said → out.new ≡ out.old ++ flat_map (λ talk. sends_after limits talk (Some (Begun (job_at schedule.now.steps schedule.now.stage talk.slave.script)))) said }
+    ensures stands { (limits : Limits) (now : Now) (said : List Said) → Each (TalkStandsAt limits now) talks.old.items said → Each (TalkStandsAt limits (at_stage schedule.now.steps schedule.now.stage)) talks.new.items (map (λ talk. marked limits talk (Some (Begun (job_at schedule.now.steps schedule.now.stage talk.slave.script)))) said) }
+    ensures sends { (limits : Limits) (now : Now) (said : List Said) → Each (TalkStandsAt limits now) talks.old.items said → out.new ≡ out.old ++ flat_map (λ talk. sends_after limits talk (Some (Begun (job_at schedule.now.steps schedule.now.stage talk.slave.script)))) said }
     ensures room { length out.new ≤ length out.old + length talks.old.items }
-    ensures slaves { map slave_in talks.new.items ≡ map slave_in talks.old.items }
+    ensures slaves { map slave_talked_to talks.new.items ≡ map slave_talked_to talks.old.items }
 {
     for talk in talks.iter_mut() {
         talk.begin(schedule, out);
@@ -28,12 +28,12 @@ pub(crate) fn begin_all(talks: &mut Vec<Talk>, schedule: &Schedule, out: &mut Ou
 }
 
 /// All have their turn. `settled` tells that none was going when the master's turn began.
-pub(crate) fn turn_all(talks: &mut Vec<Talk>, settled: bool, out: &mut Outbox)
+pub(crate) fn turn_all(talks: &mut Vec<Talk>, settled: bool, out: &mut MasterOutbox)
     requires { length out.old + length talks.old.items ≤ 32 }
-    ensures stands { (limits : Limits) (now : Now) (said : List Said) → Each (StandsAt limits now) talks.old.items said → Each (StandsAt limits now) talks.new.items (map (λ talk. marked limits talk (Some (Turned settled))) said) }
-    ensures sends { (limits : Limits) (now : Now) (said : List Said) → Each (StandsAt limits now) talks.old.items said → out.new ≡ out.old ++ flat_map (λ talk. sends_after limits talk (Some (Turned settled))) said }
+    ensures stands { (limits : Limits) (now : Now) (said : List Said) → Each (TalkStandsAt limits now) talks.old.items said → Each (TalkStandsAt limits now) talks.new.items (map (λ talk. marked limits talk (Some (Turned settled))) said) }
+    ensures sends { (limits : Limits) (now : Now) (said : List Said) → Each (TalkStandsAt limits now) talks.old.items said → out.new ≡ out.old ++ flat_map (λ talk. sends_after limits talk (Some (Turned settled))) said }
     ensures room { length out.new ≤ length out.old + length talks.old.items }
-    ensures slaves { map slave_in talks.new.items ≡ map slave_in talks.old.items }
+    ensures slaves { map slave_talked_to talks.new.items ≡ map slave_talked_to talks.old.items }
 {
     for talk in talks.iter_mut() {
         talk.turn(settled, out);
@@ -46,13 +46,13 @@ pub(crate) fn hear_all(
     schedule: &Schedule,
     from: Address,
     bytes: &[u8],
-    out: &mut Outbox,
+    out: &mut MasterOutbox,
 )
     requires { length out.old + length talks.old.items ≤ 32 }
-    ensures stands { (limits : Limits) (now : Now) (said : List Said) → Each (StandsAt limits now) talks.old.items said → IsNow schedule.now now → Each (StandsAt limits now) talks.new.items (map (λ talk. marked limits talk (mark_of_gram talk from bytes.now)) said) }
-    ensures sends { (limits : Limits) (now : Now) (said : List Said) → Each (StandsAt limits now) talks.old.items said → IsNow schedule.now now → out.new ≡ out.old ++ flat_map (λ talk. sends_after limits talk (mark_of_gram talk from bytes.now)) said }
+    ensures stands { (limits : Limits) (now : Now) (said : List Said) → Each (TalkStandsAt limits now) talks.old.items said → IsNow schedule.now now → Each (TalkStandsAt limits now) talks.new.items (map (λ talk. marked limits talk (mark_of_gram talk from bytes.now)) said) }
+    ensures sends { (limits : Limits) (now : Now) (said : List Said) → Each (TalkStandsAt limits now) talks.old.items said → IsNow schedule.now now → out.new ≡ out.old ++ flat_map (λ talk. sends_after limits talk (mark_of_gram talk from bytes.now)) said }
     ensures room { length out.new ≤ length out.old + length talks.old.items }
-    ensures slaves { map slave_in talks.new.items ≡ map slave_in talks.old.items }
+    ensures slaves { map slave_talked_to talks.new.items ≡ map slave_talked_to talks.old.items }
 {
     for talk in talks.iter_mut() {
         talk.hear(schedule, from, bytes, out);

@@ -18,7 +18,7 @@ use Rattle.master_spec.specs.declared.setups.Setup.{Setup}
 use Rattle.master_spec.specs.declared.requests.Answer as heard
 use Rattle.master_spec.specs.News.{News, Answers, Hints, Brings as Values, Nothing, news_in, news_of}
 use Rattle.master_spec.specs.Requests.{Asking, Decision, asking_in, with_asking, decided_by, with_news, asks}
-use Rattle.index_laws.specs.Runs.{owed, IsFirst, where_it_is, IsRun}
+use Rattle.index_laws.specs.Runs.{owed, IsFirstSend, where_it_is, IsRun}
 use Rattle.index_laws.specs.Laws.{AreHeard}
 use Rattle.index_laws.specs.Index.{again_at}
 use Rattle.phase_laws.specs.Laws.{AreDecided, AreOneByOne}
@@ -32,29 +32,29 @@ use Rattle.master_hears.specs.Laws.{IsAnswerAs, IsDecision, AreDecisions, Decisi
 use Rattle.master_hears.proofs.Reading.{answers_heard}
 
 -- ---- one conversation
-as_many : (id : ℕ) (bs : List Asking) (ds : List logs.Decision) → AreDecided bs → AreDecisions id bs ds → length ds ≡ length bs
+as_many : (id : ℕ) (bs : List Asking) (ds : List logs.DecidedRequest) → AreDecided bs → AreDecisions id bs ds → length ds ≡ length bs
 as_many id [] ds a h = ap length h
 as_many id (b ∷ bs) ds a h = by (λ es k. as_many id bs es a.1 k) b.decision a.0 ds h
   where
-    by : ((es : List logs.Decision) → AreDecisions id bs es → length es ≡ length bs) → (o : Option Decision) → is_some o ≡ true → (ds : List logs.Decision) → IsDecision id b o (AreDecisions id bs) ds → length ds ≡ suc (length bs)
+    by : ((es : List logs.DecidedRequest) → AreDecisions id bs es → length es ≡ length bs) → (o : Option Decision) → is_some o ≡ true → (ds : List logs.DecidedRequest) → IsDecision id b o (AreDecisions id bs) ds → length ds ≡ suc (length bs)
     by f None e ds h = absurd cc
     by f (Some d) e [] h = absurd h
     by f (Some d) e (x ∷ ds) h = ap (λ (n : ℕ). suc n) (f ds (h.1).1)
 
-again_told : (id n : ℕ) (bs : List Asking) (ds : List logs.Decision) → AreDecisions id bs ds → AreDecisions id (again_at n bs) ds
+again_told : (id n : ℕ) (bs : List Asking) (ds : List logs.DecidedRequest) → AreDecisions id bs ds → AreDecisions id (again_at n bs) ds
 again_told id n [] ds h = h
 again_told id n (b ∷ bs) ds h = h
 
-unheard : (a : Note) (r : Note) (rs : List Note) (ds : List logs.Decision) → (a.number == r.number) ≡ false → (if decides a (r ∷ rs) ds then with_newest (r ∷ rs) a ds else ds) ≡ ds
+unheard : (a : Note) (r : Note) (rs : List Note) (ds : List logs.DecidedRequest) → (a.number == r.number) ≡ false → (if decides a (r ∷ rs) ds then with_newest (r ∷ rs) a ds else ds) ≡ ds
 unheard a r rs ds e = grind (arith, nat_tests)
 
-full : (a : Note) (rs : List Note) (ds : List logs.Decision) → length ds ≡ length rs → (if decides a rs ds then with_newest rs a ds else ds) ≡ ds
+full : (a : Note) (rs : List Note) (ds : List logs.DecidedRequest) → length ds ≡ length rs → (if decides a rs ds then with_newest rs a ds else ds) ≡ ds
 full a rs ds e = grind (arith, nat_tests)
 
-opened : (a : Note) (r : Note) (rs : List Note) (ds : List logs.Decision) → (a.number == r.number) ≡ true → length ds ≡ length rs → (if decides a (r ∷ rs) ds then with_newest (r ∷ rs) a ds else ds) ≡ record { request = r; answer = a } ∷ ds
+opened : (a : Note) (r : Note) (rs : List Note) (ds : List logs.DecidedRequest) → (a.number == r.number) ≡ true → length ds ≡ length rs → (if decides a (r ∷ rs) ds then with_newest (r ∷ rs) a ds else ds) ≡ record { request = r; answer = a } ∷ ds
 opened a r rs ds e l = grind (arith, nat_tests)
 
-none_asked : (a : Note) (ds : List logs.Decision) → (if decides a [] ds then with_newest [] a ds else ds) ≡ ds
+none_asked : (a : Note) (ds : List logs.DecidedRequest) → (if decides a [] ds then with_newest [] a ds else ds) ≡ ds
 none_asked a ds = by (decides a [] ds)
   where
     by : (b : Bool) → (if b then with_newest [] a ds else ds) ≡ ds
@@ -62,7 +62,7 @@ none_asked a ds = by (decides a [] ds)
     by false = refl
 
 module _ (id n : ℕ) (a : Note) (answer : heard.Answer) (is : IsAnswerAs id a answer) where
-  hearing : (bs : List Asking) (ds : List logs.Decision) → AreOneByOne bs → AreDecisions id bs ds
+  hearing : (bs : List Asking) (ds : List logs.DecidedRequest) → AreOneByOne bs → AreDecisions id bs ds
       → AreDecisions id (with_news id n (Answers a.number id answer) bs) (if decides a (map (note_of id) bs) ds then with_newest (map (note_of id) bs) a ds else ds)
   hearing [] ds o h = none_asked a ds ∙ h
   hearing (b ∷ bs) ds o h = by (id == id) (eq-eqb id id refl) (a.number == b.number) refl b.decision h refl
@@ -73,13 +73,13 @@ module _ (id n : ℕ) (a : Note) (answer : heard.Answer) (is : IsAnswerAs id a a
       rs : List Note
       rs = map (note_of id) bs
 
-      after : List logs.Decision
+      after : List logs.DecidedRequest
       after = if decides a (note_of id b ∷ rs) ds then with_newest (note_of id b ∷ rs) a ds else ds
 
-      P : List logs.Decision → Type 0
+      P : List logs.DecidedRequest → Type 0
       P z = AreDecisions id (b ∷ bs) z
 
-      Q : Option Decision → List logs.Decision → Type 0
+      Q : Option Decision → List logs.DecidedRequest → Type 0
       Q x z = IsDecision id b (decided_by x (record { place = n; answer = answer })) (AreDecisions id bs) z
 
       whole : (d : Decision) → b.decision ≡ Some d → length ds ≡ length (note_of id b ∷ rs)
@@ -91,18 +91,18 @@ module _ (id n : ℕ) (a : Note) (answer : heard.Answer) (is : IsAnswerAs id a a
       by true z false p x k e = subst P (sym (unheard a (note_of id b) rs ds p)) h
       by true z true p (Some d) k e =
           let R : Option Decision → Type 0 = λ y. Q y (if decides a (note_of id b ∷ rs) ds then with_newest (note_of id b ∷ rs) a ds else ds) in
-          let S : List logs.Decision → Type 0 = λ y. Q (Some d) y in
+          let S : List logs.DecidedRequest → Type 0 = λ y. Q (Some d) y in
           subst R (sym e) (subst S (sym (full a (note_of id b ∷ rs) ds (whole d e))) k)
       by true z true p None k e =
           let R : Option Decision → Type 0 = λ y. Q y (if decides a (note_of id b ∷ rs) ds then with_newest (note_of id b ∷ rs) a ds else ds) in
-          let S : List logs.Decision → Type 0 = λ y. Q None y in
+          let S : List logs.DecidedRequest → Type 0 = λ y. Q None y in
           let l : length ds ≡ length rs = as_many id bs ds (o.1).0 k ∙ sym (long id bs) in
           subst R (sym e) (subst S (sym (opened a (note_of id b) rs ds p l)) (refl, (is, k)))
 
 -- ---- what a datagram is to the conversation
 -- it is no answer that counts
 pub record IsQuiet (id : ℕ) (news : News) (mv : Move) : Type 0 where
-  pub decides : (rs : List Note) (ds : List logs.Decision) → decided_after mv rs ds ≡ ds
+  pub decides : (rs : List Note) (ds : List logs.DecidedRequest) → decided_after mv rs ds ≡ ds
   pub tells : (n : ℕ) (bs : List Asking) → with_news id n news bs ≡ bs
 
 pub record IsLoud (id : ℕ) (news : News) (mv : Move) : Type 0 where
@@ -112,7 +112,7 @@ pub record IsLoud (id : ℕ) (news : News) (mv : Move) : Type 0 where
   pub news_is : news ≡ Answers note.number id answer
   pub is : IsAnswerAs id note answer
 
-no_hear : (w : Parties) (s : ℕ) (at from : Address) (k : Role) → (same at w.master && same from (w.slave s)) ≡ false → (rs : List Note) (ds : List logs.Decision) → decided_after (got_move w s at from k) rs ds ≡ ds
+no_hear : (w : Parties) (s : ℕ) (at from : Address) (k : Role) → (same at w.master && same from (w.slave s)) ≡ false → (rs : List Note) (ds : List logs.DecidedRequest) → decided_after (got_move w s at from k) rs ds ≡ ds
 no_hear w s at from (Request receiver n) e rs ds = by (same at (w.slave s))
   where
     by : (b : Bool) → decided_after (if b then Comes from receiver n else Other) rs ds ≡ ds
@@ -180,17 +180,17 @@ module _ (setup : Setup) (h : AreHeard setup) (w : Parties) (ps : ArePartiesOf s
       by : (k : Role) → role_read (message_in bytes) ≡ k → P (role_heard w bytes)
       by (Request receiver n) e = here (Request receiver n) e (inl (record { decides = λ rs ds. go rs ds (same at (w.slave s)); tells = silent (Request receiver n) e (λ sender m z. cc) }))
         where
-          go : (rs : List Note) (ds : List logs.Decision) (b : Bool) → decided_after (if b then Comes from receiver n else Other) rs ds ≡ ds
+          go : (rs : List Note) (ds : List logs.DecidedRequest) (b : Bool) → decided_after (if b then Comes from receiver n else Other) rs ds ≡ ds
           go rs ds true = refl
           go rs ds false = refl
       by (Value id n) e = here (Value id n) e (inl (record { decides = λ rs ds. go rs ds (same at (w.slave s)); tells = silent (Value id n) e (λ sender m z. cc) }))
         where
-          go : (rs : List Note) (ds : List logs.Decision) (b : Bool) → decided_after (if b then Brings from id n else Other) rs ds ≡ ds
+          go : (rs : List Note) (ds : List logs.DecidedRequest) (b : Bool) → decided_after (if b then Brings from id n else Other) rs ds ≡ ds
           go rs ds true = refl
           go rs ds false = refl
       by Else e = here Else e (inl (record { decides = λ rs ds. go rs ds (same at (w.slave s)); tells = silent Else e (λ sender m z. cc) }))
         where
-          go : (rs : List Note) (ds : List logs.Decision) (b : Bool) → decided_after (if b then Rests else Other) rs ds ≡ ds
+          go : (rs : List Note) (ds : List logs.DecidedRequest) (b : Bool) → decided_after (if b then Rests else Other) rs ds ≡ ds
           go rs ds true = refl
           go rs ds false = refl
       by (Answer sender n) e = here (Answer sender n) e (mine (sender == s) refl)
@@ -210,7 +210,7 @@ module _ (setup : Setup) (h : AreHeard setup) (w : Parties) (ps : ArePartiesOf s
           loud : (b c d f : Bool) → b ≡ false → c ≡ true → d ≡ true → f ≡ true → (if b then Rests else (if (c && d) && f then Hears n else Other)) ≡ Hears n
           loud b c d f k l m o = grind arith
 
-          quiet : (b c : Bool) (rs : List Note) (ds : List logs.Decision) (f : Bool) → f ≡ false → decided_after (if b then Rests else (if c && f then Hears n else Other)) rs ds ≡ ds
+          quiet : (b c : Bool) (rs : List Note) (ds : List logs.DecidedRequest) (f : Bool) → f ≡ false → decided_after (if b then Rests else (if c && f then Hears n else Other)) rs ds ≡ ds
           quiet true c rs ds f k = refl
           quiet false true rs ds false k = refl
           quiet false false rs ds f k = refl
@@ -236,14 +236,14 @@ module _ (setup : Setup) (h : AreHeard setup) (w : Parties) (ps : ArePartiesOf s
       cs : List Asking
       cs = asks setup.address slave log
 
-      P : Bool → List logs.Decision → Type 0
+      P : Bool → List logs.DecidedRequest → Type 0
       P b ds = AreDecisions s (if b then with_asking (asking_in (length log) (message_in bytes)) (asks setup.address slave log) else asks setup.address slave log) ds
 
       decides' : decided_exchanges w s (Sent from to bytes ∷ log) ≡ decided_exchanges w s log
       decides' = sent_decides w s from to bytes (role_heard w bytes) (requests_sent w s log) (decided_exchanges w s log)
 
-      first : same_address from setup.address ≡ true → IsFirst (owed setup log) to bytes
-      first x = let Q : Bool → Type 0 = λ b. where_it_is b (IsFirst (owed setup log) to bytes) in subst Q x run.0
+      first : same_address from setup.address ≡ true → IsFirstSend (owed setup log) to bytes
+      first x = let Q : Bool → Type 0 = λ b. where_it_is b (IsFirstSend (owed setup log) to bytes) in subst Q x run.0
 
       asked : IsFresh slave.id slave.script.uuid (asks setup.address slave log) bytes ⊎ IsSame slave.id (asks setup.address slave log) bytes → AreDecisions s (with_asking (asking_in (length log) (message_in bytes)) (asks setup.address slave log)) (decided_exchanges w s log)
       asked (inl f) = let Q : List Asking → Type 0 = λ z. AreDecisions s z (decided_exchanges w s log) in subst Q (sym (f.after (length log))) k
@@ -253,11 +253,11 @@ module _ (setup : Setup) (h : AreHeard setup) (w : Parties) (ps : ArePartiesOf s
       by true x =
           let z = and_parts (same_address from setup.address) (same_address to slave.address) x in
           let Q : Bool → Type 0 = λ b. P b (decided_exchanges w s (Sent from to bytes ∷ log)) in
-          let R : List logs.Decision → Type 0 = λ ds. P true ds in
+          let R : List logs.DecidedRequest → Type 0 = λ ds. P true ds in
           subst Q (sym x) (subst R (sym decides') (asked (sends setup h w ps s is slave p log run.1 to bytes (first z.0) z.1)))
       by false x =
           let Q : Bool → Type 0 = λ b. P b (decided_exchanges w s (Sent from to bytes ∷ log)) in
-          let R : List logs.Decision → Type 0 = λ ds. P false ds in
+          let R : List logs.DecidedRequest → Type 0 = λ ds. P false ds in
           subst Q (sym x) (subst R (sym decides') k)
 
   got_at : (at from : Address) (bytes : List ℕ) (log : List LogEntry) → IsRun setup log → K log → K (Got at from bytes ∷ log)
@@ -269,7 +269,7 @@ module _ (setup : Setup) (h : AreHeard setup) (w : Parties) (ps : ArePartiesOf s
       mv : Move
       mv = move w s (Got at from bytes)
 
-      P : Bool → List logs.Decision → Type 0
+      P : Bool → List logs.DecidedRequest → Type 0
       P b ds = AreDecisions s (if b then with_news slave.id (length log) (news_of bytes) (asks setup.address slave log) else asks setup.address slave log) ds
 
       both : (same at w.master && same from (w.slave s)) ≡ (same_address at setup.address && same_address from slave.address)
@@ -285,7 +285,7 @@ module _ (setup : Setup) (h : AreHeard setup) (w : Parties) (ps : ArePartiesOf s
           → AreDecisions s (with_news s (length log) (news_of bytes) (asks setup.address slave log)) (decided_exchanges w s (Got at from bytes ∷ log))
       heard' (inl q) =
           let Q : List Asking → Type 0 = λ z. AreDecisions s z (decided_exchanges w s (Got at from bytes ∷ log)) in
-          let R : List logs.Decision → Type 0 = λ z. AreDecisions s (asks setup.address slave log) z in
+          let R : List logs.DecidedRequest → Type 0 = λ z. AreDecisions s (asks setup.address slave log) z in
           subst Q (sym (q.tells (length log) (asks setup.address slave log))) (subst R (sym (q.decides (requests_sent w s log) (decided_exchanges w s log))) k)
       heard' (inr q) =
           let Q : News → Type 0 = λ z. AreDecisions s (with_news s (length log) z (asks setup.address slave log)) (decided_exchanges w s (Got at from bytes ∷ log)) in
@@ -301,17 +301,17 @@ module _ (setup : Setup) (h : AreHeard setup) (w : Parties) (ps : ArePartiesOf s
           subst Q (sym x) (subst R (sym p.id) (heard' (counts at from bytes (at_master at ∙ z.0) (at_slave from ∙ z.1))))
       by false x =
           let Q : Bool → Type 0 = λ b. P b (decided_exchanges w s (Got at from bytes ∷ log)) in
-          let R : List logs.Decision → Type 0 = λ ds. P false ds in
+          let R : List logs.DecidedRequest → Type 0 = λ ds. P false ds in
           subst Q (sym x) (subst R (sym (no_hear w s at from (role_heard w bytes) (both ∙ x) (requests_sent w s log) (decided_exchanges w s log))) k)
 
-  idle_decides : (at : Address) (rs : List Note) (ds : List logs.Decision) → decided_after (move w s (Idle at)) rs ds ≡ ds
+  idle_decides : (at : Address) (rs : List Note) (ds : List logs.DecidedRequest) → decided_after (move w s (Idle at)) rs ds ≡ ds
   idle_decides at rs ds = by (same at (w.slave s))
     where
       by : (b : Bool) → decided_after (if b then Rests else Other) rs ds ≡ ds
       by true = refl
       by false = refl
 
-  turn_decides : (at : Address) (rs : List Note) (ds : List logs.Decision) → decided_after (move w s (Turn at)) rs ds ≡ ds
+  turn_decides : (at : Address) (rs : List Note) (ds : List logs.DecidedRequest) → decided_after (move w s (Turn at)) rs ds ≡ ds
   turn_decides at rs ds = by (same at (w.slave s))
     where
       by : (b : Bool) → decided_after (if b then Turns else Other) rs ds ≡ ds
@@ -322,8 +322,8 @@ module _ (setup : Setup) (h : AreHeard setup) (w : Parties) (ps : ArePartiesOf s
   decisions [] run = refl
   decisions (Sent from to bytes ∷ log) run = sent_at from to bytes log run (decisions log run.1)
   decisions (Got at from bytes ∷ log) run = got_at at from bytes log run.1 (decisions log run.1)
-  decisions (Idle at ∷ log) run = let P : List logs.Decision → Type 0 = λ z. AreDecisions s (asks setup.address slave log) z in subst P (sym (idle_decides at (requests_sent w s log) (decided_exchanges w s log))) (decisions log run.1)
-  decisions (Turn at ∷ log) run = let P : List logs.Decision → Type 0 = λ z. AreDecisions s (asks setup.address slave log) z in subst P (sym (turn_decides at (requests_sent w s log) (decided_exchanges w s log))) (decisions log run.1)
+  decisions (Idle at ∷ log) run = let P : List logs.DecidedRequest → Type 0 = λ z. AreDecisions s (asks setup.address slave log) z in subst P (sym (idle_decides at (requests_sent w s log) (decided_exchanges w s log))) (decisions log run.1)
+  decisions (Turn at ∷ log) run = let P : List logs.DecidedRequest → Type 0 = λ z. AreDecisions s (asks setup.address slave log) z in subst P (sym (turn_decides at (requests_sent w s log) (decided_exchanges w s log))) (decisions log run.1)
 
 pub are_told : DecisionsAreTold
 are_told setup h w ps log run s is slave p = decisions setup h w ps s is slave p log run

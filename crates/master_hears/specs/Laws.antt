@@ -23,13 +23,13 @@ abbrev pub AnswersAreHeard : Type 0
 AnswersAreHeard = (bytes : List ℕ) (sender : ℕ) (n : Note) → role_read (message_in bytes) ≡ Answer sender n → (message_in bytes ≡ Some n.message) × ((a : heard.Answer) × IsAnswerAs sender n a)
 
 -- what a request that may be decided has among the exchanges, the others being these
-abbrev pub IsDecision : (id : ℕ) → Asking → Option Decision → (List logs.Decision → Type 0) → List logs.Decision → Type 0
+abbrev pub IsDecision : (id : ℕ) → Asking → Option Decision → (List logs.DecidedRequest → Type 0) → List logs.DecidedRequest → Type 0
 IsDecision id b None Others es = Others es
 IsDecision id b (Some d) Others [] = ⊥
 IsDecision id b (Some d) Others (e ∷ es) = (e.request ≡ note_of id b) × (IsAnswerAs id e.answer d.answer × Others es)
 
 -- the exchanges are those of the requests that are decided, each with its answer
-abbrev pub AreDecisions : (id : ℕ) → List Asking → List logs.Decision → Type 0
+abbrev pub AreDecisions : (id : ℕ) → List Asking → List logs.DecidedRequest → Type 0
 AreDecisions id [] es = es ≡ []
 AreDecisions id (b ∷ bs) es = IsDecision id b b.decision (AreDecisions id bs) es
 

@@ -17,9 +17,9 @@ use Rattle.master_spec.specs.declared.requests.Latest.{Latest}
 use Rattle.master_spec.specs.declared.requests.Latest.TheVariants as latests
 use Rattle.master_spec.specs.declared.reactions.Awaited.TheVariants.{TheState, TheOutputs, TheOthers}
 use Rattle.master_spec.specs.declared.reactions.Reaction.TheVariants.{Wait, Ask, GiveUp}
-use Rattle.master_spec.specs.Tasks.{is_by_end, is_at_once, asks_step, step_of, target_of, passing_of}
+use Rattle.master_spec.specs.Tasks.{is_by_end, is_at_once, asks_step, task_step, target_of, passing_of}
 use Rattle.master_spec.specs.Jobs.{Job}
-use Rattle.master_spec.specs.Marks.{Mark, Asked, Answered, turns_since, is_asked, acks_change, is_missing, before, latest, open_in, open_request, configured, refusals, is_hinted, is_reached, is_passed, newest_number}
+use Rattle.master_spec.specs.Marks.{Mark, Asked, Answered, turns_since, is_asked, acks_change, is_missing, before, latest, open_in, open_request, settings_answered, refusals, is_hinted, is_reached, is_passed, newest_number}
 use Rattle.master_spec.specs.Conversation.{done, on_answer, on_missing, await_state, on_other_state, on_passing, is_late, is_error, is_state, unexpected, configuration_at, awaited_after_state}
 use Rattle.master_laws.proofs.Budgets.{patience, attempt, settling, closing, one_more, one_of}
 use Rattle.master_laws.proofs.Places.{Listing, Changing, Asking, Beating, Place, listing, changing, refused, waiting, asking, erring, bringing, resting, beating, failing, Stay, over, going, Live}
@@ -52,28 +52,28 @@ past xs i d e = by (cases_lt i (length xs))
     by (inl h) = let s : slice_get xs i ≡ Some (get_or xs i d) = slice_get-get_or xs i d h in absurd (cc)
     by (inr h) = h
 
-listing_next : (l : Limits) (job : Job) (n : ℕ) (marks : List Mark) → IsLimits l → Live job marks → (p : Listing l job n marks) → (o : Option Cfg) → slice_get job.list (configured marks + 1) ≡ o
+listing_next : (l : Limits) (job : Job) (n : ℕ) (marks : List Mark) → IsLimits l → Live job marks → (p : Listing l job n marks) → (o : Option Cfg) → slice_get job.list (settings_answered marks + 1) ≡ o
     → Stay l n (done (configuration_at o) (Answered (Configure p.body) Ack ∷ marks))
 listing_next l job n marks lim live p None e =
     going job live.job_is live.no_cause (resting (record {
-      passed = passed_list job (Answered (Configure p.body) Ack ∷ marks) p.by_list (past job.list (configured marks + 1) p.body e);
+      passed = passed_list job (Answered (Configure p.body) Ack ∷ marks) p.by_list (past job.list (settings_answered marks + 1) p.body e);
       awaits = refl;
     }))
 listing_next l job n marks lim live p (Some next) e =
     let room = p.room in
     let below = open_below l marks p.opened in
-    let more = one_more (configured marks) (patience l) in
+    let more = one_more (settings_answered marks) (patience l) in
     going job live.job_is live.no_cause (listing (record {
       body = next;
       latest_is = refl;
       opened = just_open l (Configure next) (Answered (Configure p.body) Ack ∷ marks) lim;
       by_list = p.by_list;
-      short = slice_get_within job.list (configured marks + 1) next e;
+      short = slice_get_within job.list (settings_answered marks + 1) next e;
       room = omega (arith, room, below, more);
     }))
 
 answer_listing : (l : Limits) (job : Job) (n : ℕ) (marks : List Mark) → IsLimits l → Live job marks → (p : Listing l job n marks) → (a : Answer) → Answers l job n marks (Configure p.body) a
-answer_listing l job n marks lim live p Ack = listing_next l job n marks lim live p (slice_get job.list (configured marks + 1)) refl
+answer_listing l job n marks lim live p Ack = listing_next l job n marks lim live p (slice_get job.list (settings_answered marks + 1)) refl
 answer_listing l job n marks lim live p (Nack code) = nacked l job n code (Answered (Configure p.body) (Nack code) ∷ marks) (Configure p.body) false refl
 answer_listing l job n marks lim live p (StateAck state) = over _ refl
 answer_listing l job n marks lim live p (ErrorAck code) = over _ refl
@@ -129,7 +129,7 @@ refused_step : (l : Limits) (job : Job) (n code : ℕ) (marks : List Mark) → I
 refused_step l job n code marks lim live p = by (is_missing code && asks_step (Change p.state p.body)) refl
   where
     missing : (b : Bool) → nat_le l.step_tries (refusals (Answered (Change p.state p.body) (Nack code) ∷ marks)) ≡ b → refusals (Answered (Change p.state p.body) (Nack code) ∷ marks) ≡ refusals marks + 1
-        → Stay l n (done (if b then GiveUp (causes.InputsMissing (newest_number (Answered (Change p.state p.body) (Nack code) ∷ marks)) (step_of job.task)) else Wait) (Answered (Change p.state p.body) (Nack code) ∷ marks))
+        → Stay l n (done (if b then GiveUp (causes.InputsMissing (newest_number (Answered (Change p.state p.body) (Nack code) ∷ marks)) (task_step job.task)) else Wait) (Answered (Change p.state p.body) (Nack code) ∷ marks))
     missing true e f = over _ refl
     missing false e f =
         let room = p.room in

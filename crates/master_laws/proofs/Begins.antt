@@ -13,7 +13,7 @@ use Rattle.master_spec.specs.declared.reactions.Reaction.{Reaction}
 use Rattle.master_spec.specs.Tasks.{is_by_list, requests_of}
 use Rattle.master_spec.specs.Jobs.{Job}
 use Rattle.master_spec.specs.Marks.{Mark, Begun, Asked, cause_of}
-use Rattle.master_spec.specs.Conversation.{done, after, first_of}
+use Rattle.master_spec.specs.Conversation.{done, marks_after, first_of}
 use Rattle.master_laws.proofs.Budgets.{patience, attempt, settling, closing}
 use Rattle.master_laws.proofs.Places.{listing, changing, resting, Stay, over, going}
 use Rattle.master_laws.proofs.Reactions.{reacts, reacts_ended, passed_list}
@@ -73,9 +73,9 @@ first_asked l n marks tasks.Adjust list lim none h = list_asked l n marks tasks.
 first_asked l n marks tasks.Deregister list lim none h = one_asked l n marks (record { task = tasks.Deregister; list = list }) _ _ lim none refl h
 
 -- A phase begins, whatever came before.
-pub begins : (l : Limits) (n : ℕ) (marks : List Mark) (job : Job) → IsLimits l → whole l (length job.list) ≤ n → Stay l n (after l (Begun job) marks)
+pub begins : (l : Limits) (n : ℕ) (marks : List Mark) (job : Job) → IsLimits l → whole l (length job.list) ≤ n → Stay l n (marks_after l (Begun job) marks)
 begins l n marks job lim h = by (cause_of marks) refl
   where
-    by : (o : Option Cause) → cause_of marks ≡ o → Stay l n (after l (Begun job) marks)
+    by : (o : Option Cause) → cause_of marks ≡ o → Stay l n (marks_after l (Begun job) marks)
     by (Some cause) e = subst (λ (r : Reaction). Stay l n (done r (Begun job ∷ marks))) (sym (reacts_ended l (Begun job) marks cause e)) (over cause e)
     by None e = subst (λ (r : Reaction). Stay l n (done r (Begun job ∷ marks))) (sym (reacts l (Begun job) marks job e refl)) (first_asked l n marks job.task job.list lim e h)

@@ -11,12 +11,12 @@ use Rattle.master_spec.specs.declared.tasks.Task.TheVariants as tasks
 use Rattle.master_spec.specs.declared.requests.Request.TheVariants.{Configure}
 use Rattle.master_spec.specs.Tasks.{target_of}
 use Rattle.master_spec.specs.Jobs.{Job, asked_by, step_jobs, run_jobs, between_jobs, jobs_from, jobs}
-use Rattle.master_laws.specs.Naming.{target_or, last_target, Names}
+use Rattle.master_laws.specs.Naming.{target_or, last_target, NamesState}
 
 -- the requests of each job name the last target before it, from this state on
 abbrev Chain : State → List Job → Type 0
 Chain state [] = Unit {0}
-Chain state (job ∷ js) = AllByRecursion (λ r. Names state r) (asked_by job) × Chain (target_or state (target_of job.task)) js
+Chain state (job ∷ js) = AllByRecursion (λ r. NamesState state r) (asked_by job) × Chain (target_or state (target_of job.task)) js
 
 chain_append : (state : State) (js ks : List Job) → Chain state js → Chain (last_target state js) ks → Chain state (js ++ ks)
 chain_append state [] ks a b = b
@@ -27,7 +27,7 @@ target_append state [] ks = refl
 target_append state (job ∷ js) ks = target_append (target_or state (target_of job.task)) js ks
 
 -- configurations name no state
-none_named : (state : State) (list : List Cfg) → AllByRecursion (λ r. Names state r) (map Configure list)
+none_named : (state : State) (list : List Cfg) → AllByRecursion (λ r. NamesState state r) (map Configure list)
 none_named state [] = tt
 none_named state (body ∷ list) = (tt, none_named state list)
 
@@ -61,11 +61,11 @@ chain_from steps script r (suc more) =
 chain_all : (steps runs : ℕ) (script : Script) → Chain states.Alive (jobs steps runs script)
 chain_all steps runs script = ((refl, tt), (none_named states.Configuration script.setup, chain_from steps script 1 (runs - 1)))
 
-chain_at : (state : State) (js : List Job) (p : ℕ) (job : Job) → Chain state js → slice_get js p ≡ Some job → AllByRecursion (λ r. Names (last_target state (take p js)) r) (asked_by job)
+chain_at : (state : State) (js : List Job) (p : ℕ) (job : Job) → Chain state js → slice_get js p ≡ Some job → AllByRecursion (λ r. NamesState (last_target state (take p js)) r) (asked_by job)
 chain_at state [] p job a e = absurd (cc)
-chain_at state (first ∷ js) zero job a e = let s : first ≡ job = cc in subst (λ (j : Job). AllByRecursion (λ r. Names state r) (asked_by j)) s a.0
+chain_at state (first ∷ js) zero job a e = let s : first ≡ job = cc in subst (λ (j : Job). AllByRecursion (λ r. NamesState state r) (asked_by j)) s a.0
 chain_at state (first ∷ js) (suc p) job a e = chain_at (target_or state (target_of first.task)) js p job a.1 e
 
-pub last_named : (steps runs : ℕ) (script : Script) (p : ℕ) (job : Job) → slice_get (jobs steps runs script) p ≡ Some job → All (λ r. Names (last_target states.Alive (take p (jobs steps runs script))) r) (asked_by job)
+pub last_named : (steps runs : ℕ) (script : Script) (p : ℕ) (job : Job) → slice_get (jobs steps runs script) p ≡ Some job → All (λ r. NamesState (last_target states.Alive (take p (jobs steps runs script))) r) (asked_by job)
 last_named steps runs script p job e =
-    All-from_recursion (λ r. Names (last_target states.Alive (take p (jobs steps runs script))) r) (asked_by job) (chain_at states.Alive (jobs steps runs script) p job (chain_all steps runs script) e)
+    All-from_recursion (λ r. NamesState (last_target states.Alive (take p (jobs steps runs script))) r) (asked_by job) (chain_at states.Alive (jobs steps runs script) p job (chain_all steps runs script) e)

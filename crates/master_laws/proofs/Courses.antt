@@ -18,7 +18,7 @@ use Rattle.master_spec.specs.declared.setups.Setup.{Setup}
 use Rattle.master_spec.specs.Marks.{Turned}
 use Rattle.master_spec.specs.Bound.{bound}
 use Rattle.master_spec.specs.Setup.{jobs_of}
-use Rattle.master_spec.specs.Course.{Talk, Course, fresh, is_settled, is_quiet, begun, mark_of_gram, phases, with_next, with_report, with_turns, decided, decided_if, turned, failed, still, after_gram, after_turn, step, course, turns}
+use Rattle.master_spec.specs.Course.{CourseTalk, Course, fresh_talk, is_settled, is_quiet, task_begun, mark_of_gram, phases, with_next, with_report, with_turns, decided, decided_if, course_turned, failed, still, after_gram, course_after_turn, step, course, master_turns}
 use Rattle.master_laws.proofs.Budgets.{patience, attempt}
 use Rattle.master_laws.proofs.Begins.{whole}
 use Rattle.master_laws.proofs.Sizes.{AreWithin, sizes_of, all_within, length_sizes, cost, weight_of, cost_bound}
@@ -78,7 +78,7 @@ all_after setup c n settled lim e a =
     (λ f. let room = some_going setup.limits n c.talks lim a (e ∙ f) in omega (arith, room)) a
 
 -- where the turn does not end the phase, some turn was left
-some_left : (setup : Setup) (n : ℕ) (talks : List Talk) → IsLimits setup.limits → AllStay setup.limits (n - 1) talks → list_all is_quiet talks ≡ false → 1 ≤ n
+some_left : (setup : Setup) (n : ℕ) (talks : List CourseTalk) → IsLimits setup.limits → AllStay setup.limits (n - 1) talks → list_all is_quiet talks ≡ false → 1 ≤ n
 some_left setup n talks lim a e = by (cases_lt 0 n)
   where
     by : (0 < n) ⊎ (n ≤ 0) → 1 ≤ n
@@ -100,12 +100,12 @@ decided_in_time setup t c None lim runs own few time none = by (c.phase == phase
     by false e none =
         let other = eqb-false c.phase (phases setup) e in
         record {
-          own = all_own setup (begun setup (c.phase + 1)) c.talks own;
+          own = all_own setup (task_begun setup (c.phase + 1)) c.talks own;
           when = inr (next_in_time setup t c lim runs own (omega (arith, few, other)) time);
         }
 
-turn_in_time : (setup : Setup) (t : ℕ) (c : Course) (settled : Bool) → IsLimits setup.limits → 1 ≤ setup.runs → AllOwn setup c.talks → InTime setup t c → list_all is_settled c.talks ≡ settled → (turned setup (with_turns setup settled c)).report ≡ None
-    → Stands setup (t + 1) (turned setup (with_turns setup settled c))
+turn_in_time : (setup : Setup) (t : ℕ) (c : Course) (settled : Bool) → IsLimits setup.limits → 1 ≤ setup.runs → AllOwn setup c.talks → InTime setup t c → list_all is_settled c.talks ≡ settled → (course_turned setup (with_turns setup settled c)).report ≡ None
+    → Stands setup (t + 1) (course_turned setup (with_turns setup settled c))
 turn_in_time setup t c settled lim runs own it e none = by (list_all is_quiet (with_turns setup settled c).talks) refl none
   where
     by : (b : Bool) → list_all is_quiet (with_turns setup settled c).talks ≡ b → (decided_if setup b (with_turns setup settled c)).report ≡ None → Stands setup (t + 1) (decided_if setup b (with_turns setup settled c))
@@ -127,18 +127,18 @@ turn_in_time setup t c settled lim runs own it e none = by (list_all is_quiet (w
         let time = it.time in
         decided_in_time setup t (with_turns setup settled c) (failed c.phase (with_turns setup settled c).talks) lim runs (all_own setup (λ talk. Some (Turned settled)) c.talks own) it.few (omega (arith, time)) none
 
-after_turn_in_time : (setup : Setup) (t : ℕ) (c : Course) → IsLimits setup.limits → 1 ≤ setup.runs → Stands setup t c → (after_turn setup c).report ≡ None → Stands setup (t + 1) (after_turn setup c)
+after_turn_in_time : (setup : Setup) (t : ℕ) (c : Course) → IsLimits setup.limits → 1 ≤ setup.runs → Stands setup t c → (course_after_turn setup c).report ≡ None → Stands setup (t + 1) (course_after_turn setup c)
 after_turn_in_time setup t c lim runs s none = by (c.phase == 0) refl s.when none
   where
-    by : (b : Bool) → (c.phase == 0) ≡ b → ((c.phase ≡ 0) × (t ≡ 0)) ⊎ InTime setup t c → (if b then with_next setup (still c) else turned setup (with_turns setup (list_all is_settled c.talks) c)).report ≡ None
-        → Stands setup (t + 1) (if b then with_next setup (still c) else turned setup (with_turns setup (list_all is_settled c.talks) c))
+    by : (b : Bool) → (c.phase == 0) ≡ b → ((c.phase ≡ 0) × (t ≡ 0)) ⊎ InTime setup t c → (if b then with_next setup (still c) else course_turned setup (with_turns setup (list_all is_settled c.talks) c)).report ≡ None
+        → Stands setup (t + 1) (if b then with_next setup (still c) else course_turned setup (with_turns setup (list_all is_settled c.talks) c))
     by true e (inl h) none =
         let w = weight_of setup.limits in
         let p = h.0 in
         let z = h.1 in
         let all : cost w (drop c.phase (sizes_of setup)) ≡ bound setup = ap (λ (i : ℕ). cost w (drop i (sizes_of setup))) p ∙ cost_bound setup runs in
         record {
-          own = all_own setup (begun setup (c.phase + 1)) c.talks s.own;
+          own = all_own setup (task_begun setup (c.phase + 1)) c.talks s.own;
           when = inr (next_in_time setup t (still c) lim runs s.own (omega (arith, p)) (omega (arith, z, all)));
         }
     by true e (inr it) none = let p = eqb-true c.phase 0 e in let one = it.begun_one in absurd (omega (arith, p, one))
@@ -162,7 +162,7 @@ after_gram_in_time setup t from bytes c lim s = record { own = all_own setup (λ
 
 -- ---- all events
 
-begin_own : (setup : Setup) (slaves : List Slave) → AllByRecursion (λ s. AreWithin (jobs_of setup s) (sizes_of setup)) slaves → AllOwn setup (map fresh slaves)
+begin_own : (setup : Setup) (slaves : List Slave) → AllByRecursion (λ s. AreWithin (jobs_of setup s) (sizes_of setup)) slaves → AllOwn setup (map fresh_talk slaves)
 begin_own setup [] a = tt
 begin_own setup (s ∷ slaves) a = (a.0, begin_own setup slaves a.1)
 
@@ -179,9 +179,9 @@ gram_before : (setup : Setup) (from : Address) (bytes : List ℕ) (c : Course) �
 unfolding step
 gram_before setup from bytes c e = ap (λ (o : Option Report). if is_some o then still c else after_gram setup from bytes c) e
 
-tick_before : (setup : Setup) (c : Course) → c.report ≡ None → step setup Tick c ≡ after_turn setup c
+tick_before : (setup : Setup) (c : Course) → c.report ≡ None → step setup Tick c ≡ course_after_turn setup c
 unfolding step
-tick_before setup c e = ap (λ (o : Option Report). if is_some o then still c else after_turn setup c) e
+tick_before setup c e = ap (λ (o : Option Report). if is_some o then still c else course_after_turn setup c) e
 
 -- a report stays
 pub none_before : (setup : Setup) (event : Event) (c : Course) → (step setup event c).report ≡ None → c.report ≡ None
@@ -193,46 +193,46 @@ none_before setup (Gram from bytes) c none = by (is_some c.report) none
     by false none = none
 none_before setup Tick c none = by (is_some c.report) refl none
   where
-    by : (b : Bool) → is_some c.report ≡ b → (if b then still c else after_turn setup c).report ≡ None → c.report ≡ None
+    by : (b : Bool) → is_some c.report ≡ b → (if b then still c else course_after_turn setup c).report ≡ None → c.report ≡ None
     by true e none = none
     by false e none = none_from c.report e
 
-pub turn_counted : (setup : Setup) (events : List Event) → (course setup events).report ≡ None → turns setup (Tick ∷ events) ≡ turns setup events + 1
-turn_counted setup events e = ap (λ (o : Option Report). if is_some o then turns setup events else turns setup events + 1) e
+pub turn_counted : (setup : Setup) (events : List Event) → (course setup events).report ≡ None → master_turns setup (Tick ∷ events) ≡ master_turns setup events + 1
+turn_counted setup events e = ap (λ (o : Option Report). if is_some o then master_turns setup events else master_turns setup events + 1) e
 
-stands_after : (setup : Setup) (events : List Event) → IsLimits setup.limits → 1 ≤ setup.runs → (course setup events).report ≡ None → Stands setup (turns setup events) (course setup events)
+stands_after : (setup : Setup) (events : List Event) → IsLimits setup.limits → 1 ≤ setup.runs → (course setup events).report ≡ None → Stands setup (master_turns setup events) (course setup events)
 stands_after setup [] lim runs none = record { own = begin_own setup setup.slaves (all_within setup); when = inl (refl, refl) }
 stands_after setup (Gram from bytes ∷ events) lim runs none =
     let c = course setup events in
     let before : c.report ≡ None = none_before setup (Gram from bytes) c none in
-    subst (λ (x : Course). Stands setup (turns setup events) x) (sym (gram_before setup from bytes c before))
-    (after_gram_in_time setup (turns setup events) from bytes c lim (stands_after setup events lim runs before))
+    subst (λ (x : Course). Stands setup (master_turns setup events) x) (sym (gram_before setup from bytes c before))
+    (after_gram_in_time setup (master_turns setup events) from bytes c lim (stands_after setup events lim runs before))
 stands_after setup (Tick ∷ events) lim runs none =
     let c = course setup events in
     let before : c.report ≡ None = none_before setup Tick c none in
-    let is : step setup Tick c ≡ after_turn setup c = tick_before setup c before in
-    let still_none : (after_turn setup c).report ≡ None = sym (ap (λ (x : Course). x.report) is) ∙ none in
-    subst (λ (x : Course). Stands setup (turns setup (Tick ∷ events)) x) (sym is)
-    (subst (λ (t : ℕ). Stands setup t (after_turn setup c)) (sym (turn_counted setup events before))
-    (after_turn_in_time setup (turns setup events) c lim runs (stands_after setup events lim runs before) still_none))
+    let is : step setup Tick c ≡ course_after_turn setup c = tick_before setup c before in
+    let still_none : (course_after_turn setup c).report ≡ None = sym (ap (λ (x : Course). x.report) is) ∙ none in
+    subst (λ (x : Course). Stands setup (master_turns setup (Tick ∷ events)) x) (sym is)
+    (subst (λ (t : ℕ). Stands setup t (course_after_turn setup c)) (sym (turn_counted setup events before))
+    (after_turn_in_time setup (master_turns setup events) c lim runs (stands_after setup events lim runs before) still_none))
 
 bound_some : (setup : Setup) → IsLimits setup.limits → 1 ≤ setup.runs → 1 ≤ bound setup
 bound_some setup lim runs = let all = cost_bound setup runs in let room = enough setup.limits 0 lim in omega (arith, all, room)
 
 -- Without a report there have been fewer turns than the bound says.
-pub below_bound : (setup : Setup) (events : List Event) → IsLimits setup.limits → 1 ≤ setup.runs → (course setup events).report ≡ None → turns setup events < bound setup
+pub below_bound : (setup : Setup) (events : List Event) → IsLimits setup.limits → 1 ≤ setup.runs → (course setup events).report ≡ None → master_turns setup events < bound setup
 below_bound setup events lim runs none = by (stands_after setup events lim runs none).when
   where
-    by : (((course setup events).phase ≡ 0) × (turns setup events ≡ 0)) ⊎ InTime setup (turns setup events) (course setup events) → turns setup events < bound setup
+    by : (((course setup events).phase ≡ 0) × (master_turns setup events ≡ 0)) ⊎ InTime setup (master_turns setup events) (course setup events) → master_turns setup events < bound setup
     by (inl h) = let z = h.1 in let some = bound_some setup lim runs in omega (arith, z, some)
     by (inr it) = let time = it.time in omega (arith, time)
 
 -- With one or without, there are never more.
-pub within_bound : (setup : Setup) (events : List Event) → IsLimits setup.limits → 1 ≤ setup.runs → turns setup events ≤ bound setup
+pub within_bound : (setup : Setup) (events : List Event) → IsLimits setup.limits → 1 ≤ setup.runs → master_turns setup events ≤ bound setup
 within_bound setup [] lim runs = omega arith
 within_bound setup (Gram from bytes ∷ events) lim runs = within_bound setup events lim runs
 within_bound setup (Tick ∷ events) lim runs = by (is_some (course setup events).report) refl (within_bound setup events lim runs)
   where
-    by : (b : Bool) → is_some (course setup events).report ≡ b → turns setup events ≤ bound setup → (if b then turns setup events else turns setup events + 1) ≤ bound setup
+    by : (b : Bool) → is_some (course setup events).report ≡ b → master_turns setup events ≤ bound setup → (if b then master_turns setup events else master_turns setup events + 1) ≤ bound setup
     by true e h = h
     by false e h = let below = below_bound setup events lim runs (none_from (course setup events).report e) in omega (arith, below)

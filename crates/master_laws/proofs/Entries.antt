@@ -14,7 +14,7 @@ use Rattle.dcp_ends.specs.Events.{Event, Gram, Tick}
 use Rattle.dcp_ends.specs.Logs.{same_address, event_at, events_at}
 use Rattle.master_spec.specs.declared.setups.Setup.{Setup}
 use Rattle.master_spec.specs.Bound.{bound}
-use Rattle.master_spec.specs.Course.{course, turns}
+use Rattle.master_spec.specs.Course.{course, master_turns}
 use Rattle.master_spec.specs.Requests.{is_turn_of}
 use Rattle.master_spec.specs.Rules.{is_over_after}
 use Rattle.master_laws.specs.Turns.{is_running_after, is_turn_in, has_turn_at, turns_in}
@@ -57,26 +57,26 @@ address_turned a b =
 abbrev added : Bool → ℕ
 added b = if b then 1 else 0
 
-turns_tick : (setup : Setup) (events : List Event) (b : Bool) → is_some (course setup events).report ≡ b → turns setup (Tick ∷ events) ≡ turns setup events + added (not b)
-turns_tick setup events true e = ap (λ (x : Bool). if x then turns setup events else turns setup events + 1) e ∙ omega arith
-turns_tick setup events false e = ap (λ (x : Bool). if x then turns setup events else turns setup events + 1) e
+turns_tick : (setup : Setup) (events : List Event) (b : Bool) → is_some (course setup events).report ≡ b → master_turns setup (Tick ∷ events) ≡ master_turns setup events + added (not b)
+turns_tick setup events true e = ap (λ (x : Bool). if x then master_turns setup events else master_turns setup events + 1) e ∙ omega arith
+turns_tick setup events false e = ap (λ (x : Bool). if x then master_turns setup events else master_turns setup events + 1) e
 
-turns_event : (setup : Setup) (log : List LogEntry) (entry : LogEntry) → turns setup (reverse (events_at setup.address log ++ event_at setup.address entry)) ≡ turns setup (newest setup log) + added (is_turn_of setup.address entry && is_running_after setup log)
-turns_event setup log (Sent from to bytes) = ap (λ (es : List Event). turns setup es) (newest_none (events_at setup.address log)) ∙ omega arith
+turns_event : (setup : Setup) (log : List LogEntry) (entry : LogEntry) → master_turns setup (reverse (events_at setup.address log ++ event_at setup.address entry)) ≡ master_turns setup (newest setup log) + added (is_turn_of setup.address entry && is_running_after setup log)
+turns_event setup log (Sent from to bytes) = ap (λ (es : List Event). master_turns setup es) (newest_none (events_at setup.address log)) ∙ omega arith
 turns_event setup log (Got at from bytes) = by (same_address setup.address at)
   where
-    by : (b : Bool) → turns setup (reverse (events_at setup.address log ++ (if b then Gram from bytes ∷ [] else []))) ≡ turns setup (newest setup log) + 0
-    by true = ap (λ (es : List Event). turns setup es) (newest_one (events_at setup.address log) (Gram from bytes)) ∙ omega arith
-    by false = ap (λ (es : List Event). turns setup es) (newest_none (events_at setup.address log)) ∙ omega arith
-turns_event setup log (Idle at) = ap (λ (es : List Event). turns setup es) (newest_none (events_at setup.address log)) ∙ omega arith
-turns_event setup log (Turn at) = by (same_address setup.address at) ∙ ap (λ (b : Bool). turns setup (newest setup log) + added (b && is_running_after setup log)) (address_turned setup.address at)
+    by : (b : Bool) → master_turns setup (reverse (events_at setup.address log ++ (if b then Gram from bytes ∷ [] else []))) ≡ master_turns setup (newest setup log) + 0
+    by true = ap (λ (es : List Event). master_turns setup es) (newest_one (events_at setup.address log) (Gram from bytes)) ∙ omega arith
+    by false = ap (λ (es : List Event). master_turns setup es) (newest_none (events_at setup.address log)) ∙ omega arith
+turns_event setup log (Idle at) = ap (λ (es : List Event). master_turns setup es) (newest_none (events_at setup.address log)) ∙ omega arith
+turns_event setup log (Turn at) = by (same_address setup.address at) ∙ ap (λ (b : Bool). master_turns setup (newest setup log) + added (b && is_running_after setup log)) (address_turned setup.address at)
   where
-    by : (b : Bool) → turns setup (reverse (events_at setup.address log ++ (if b then Tick ∷ [] else []))) ≡ turns setup (newest setup log) + added (b && is_running_after setup log)
-    by true = ap (λ (es : List Event). turns setup es) (newest_one (events_at setup.address log) Tick) ∙ turns_tick setup (newest setup log) (is_some (course setup (newest setup log)).report) refl
-    by false = ap (λ (es : List Event). turns setup es) (newest_none (events_at setup.address log)) ∙ omega arith
+    by : (b : Bool) → master_turns setup (reverse (events_at setup.address log ++ (if b then Tick ∷ [] else []))) ≡ master_turns setup (newest setup log) + added (b && is_running_after setup log)
+    by true = ap (λ (es : List Event). master_turns setup es) (newest_one (events_at setup.address log) Tick) ∙ turns_tick setup (newest setup log) (is_some (course setup (newest setup log)).report) refl
+    by false = ap (λ (es : List Event). master_turns setup es) (newest_none (events_at setup.address log)) ∙ omega arith
 
-turns_more : (setup : Setup) (log : List LogEntry) (entry : LogEntry) → turns setup (newest setup (log ++ entry ∷ [])) ≡ turns setup (newest setup log) + added (is_turn_of setup.address entry && is_running_after setup log)
-turns_more setup log entry = ap (λ (es : List Event). turns setup es) (newest_more setup log entry) ∙ turns_event setup log entry
+turns_more : (setup : Setup) (log : List LogEntry) (entry : LogEntry) → master_turns setup (newest setup (log ++ entry ∷ [])) ≡ master_turns setup (newest setup log) + added (is_turn_of setup.address entry && is_running_after setup log)
+turns_more setup log entry = ap (λ (es : List Event). master_turns setup es) (newest_more setup log entry) ∙ turns_event setup log entry
 
 -- ---- all entries
 
@@ -89,19 +89,19 @@ turn_here setup log more entry =
     ap (λ (o : Option LogEntry). is_turn_in setup.address o && is_running_after setup (take (length log) (log ++ entry ∷ more))) (get_seam log more entry)
     ∙ ap (λ (l : List LogEntry). is_turn_of setup.address entry && is_running_after setup l) (take-append_seam log (entry ∷ more))
 
-turns_from : (setup : Setup) (log more : List LogEntry) → count_by (has_turn_at setup (log ++ more)) (range_with_len (length log) (length more)) + turns setup (newest setup log) ≡ turns setup (newest setup (log ++ more))
+turns_from : (setup : Setup) (log more : List LogEntry) → count_by (has_turn_at setup (log ++ more)) (range_with_len (length log) (length more)) + master_turns setup (newest setup log) ≡ master_turns setup (newest setup (log ++ more))
 turns_from setup log [] =
-    let e : turns setup (newest setup (log ++ [])) ≡ turns setup (newest setup log) = ap (λ (l : List LogEntry). turns setup (newest setup l)) (append-nil log) in
+    let e : master_turns setup (newest setup (log ++ [])) ≡ master_turns setup (newest setup log) = ap (λ (l : List LogEntry). master_turns setup (newest setup l)) (append-nil log) in
     omega (arith, e)
 turns_from setup log (entry ∷ more) =
     let longer : List LogEntry = log ++ entry ∷ [] in
     let join : longer ++ more ≡ log ++ entry ∷ more = append_assoc log (entry ∷ []) more in
     let size : length longer ≡ length log + 1 = length-append log (entry ∷ []) in
-    let rest : count_by (has_turn_at setup (longer ++ more)) (range_with_len (length longer) (length more)) + turns setup (newest setup longer) ≡ turns setup (newest setup (longer ++ more)) = turns_from setup (log ++ entry ∷ []) more in
+    let rest : count_by (has_turn_at setup (longer ++ more)) (range_with_len (length longer) (length more)) + master_turns setup (newest setup longer) ≡ master_turns setup (newest setup (longer ++ more)) = turns_from setup (log ++ entry ∷ []) more in
     let all : List LogEntry = log ++ entry ∷ more in
     let same : count_by (has_turn_at setup (longer ++ more)) (range_with_len (length longer) (length more)) ≡ count_by (has_turn_at setup all) (range_with_len (length log + 1) (length more))
     = ap (λ (l : List LogEntry). count_by (has_turn_at setup l) (range_with_len (length longer) (length more))) join ∙ ap (λ (n : ℕ). count_by (has_turn_at setup all) (range_with_len n (length more))) size in
-    let last : turns setup (newest setup (longer ++ more)) ≡ turns setup (newest setup all) = ap (λ (l : List LogEntry). turns setup (newest setup l)) join in
+    let last : master_turns setup (newest setup (longer ++ more)) ≡ master_turns setup (newest setup all) = ap (λ (l : List LogEntry). master_turns setup (newest setup l)) join in
     let here : added (has_turn_at setup all (length log)) ≡ added (is_turn_of setup.address entry && is_running_after setup log) = ap (λ (b : Bool). added b) (turn_here setup log more entry) in
     let first : count_by (has_turn_at setup all) (length log ∷ range_with_len (length log + 1) (length more)) ≡ added (has_turn_at setup all (length log)) + count_by (has_turn_at setup all) (range_with_len (length log + 1) (length more))
     = sum_by-cons (λ i. added (has_turn_at setup all i)) (length log) (range_with_len (length log + 1) (length more)) in
@@ -109,7 +109,7 @@ turns_from setup log (entry ∷ more) =
     omega (arith, rest, same, last, here, first, one)
 
 -- The turns of the master's events are the turns in the log that began without a report.
-pub turns_of_log : (setup : Setup) (log : List LogEntry) → turns setup (newest setup log) ≡ turns_in setup log
+pub turns_of_log : (setup : Setup) (log : List LogEntry) → master_turns setup (newest setup log) ≡ turns_in setup log
 turns_of_log setup log = let e = turns_from setup [] log in omega (arith, e)
 
 -- ---- without a report
@@ -130,16 +130,16 @@ and_true : (b : Bool) → (b && true) ≡ b
 and_true true = refl
 and_true false = refl
 
-every_turn : (setup : Setup) (log more : List LogEntry) → (course setup (newest setup (log ++ more))).report ≡ None → count_by (is_turn_of setup.address) more + turns setup (newest setup log) ≡ turns setup (newest setup (log ++ more))
+every_turn : (setup : Setup) (log more : List LogEntry) → (course setup (newest setup (log ++ more))).report ≡ None → count_by (is_turn_of setup.address) more + master_turns setup (newest setup log) ≡ master_turns setup (newest setup (log ++ more))
 every_turn setup log [] none =
-    let e : turns setup (newest setup (log ++ [])) ≡ turns setup (newest setup log) = ap (λ (l : List LogEntry). turns setup (newest setup l)) (append-nil log) in
+    let e : master_turns setup (newest setup (log ++ [])) ≡ master_turns setup (newest setup log) = ap (λ (l : List LogEntry). master_turns setup (newest setup l)) (append-nil log) in
     omega (arith, e)
 every_turn setup log (entry ∷ more) none =
     let longer : List LogEntry = log ++ entry ∷ [] in
     let join : longer ++ more ≡ log ++ entry ∷ more = append_assoc log (entry ∷ []) more in
     let later : (course setup (newest setup (longer ++ more))).report ≡ None = ap (λ (l : List LogEntry). (course setup (newest setup l)).report) join ∙ none in
-    let rest : count_by (is_turn_of setup.address) more + turns setup (newest setup longer) ≡ turns setup (newest setup (longer ++ more)) = every_turn setup (log ++ entry ∷ []) more later in
-    let last : turns setup (newest setup (longer ++ more)) ≡ turns setup (newest setup (log ++ entry ∷ more)) = ap (λ (l : List LogEntry). turns setup (newest setup l)) join in
+    let rest : count_by (is_turn_of setup.address) more + master_turns setup (newest setup longer) ≡ master_turns setup (newest setup (longer ++ more)) = every_turn setup (log ++ entry ∷ []) more later in
+    let last : master_turns setup (newest setup (longer ++ more)) ≡ master_turns setup (newest setup (log ++ entry ∷ more)) = ap (λ (l : List LogEntry). master_turns setup (newest setup l)) join in
     let first : count_by (is_turn_of setup.address) (entry ∷ more) ≡ added (is_turn_of setup.address entry) + count_by (is_turn_of setup.address) more = sum_by-cons (λ x. added (is_turn_of setup.address x)) entry more in
     let running : is_running_after setup log ≡ true = ap (λ o. not (is_some o)) (report_before setup log (entry ∷ more) none) in
     let here : added (is_turn_of setup.address entry && is_running_after setup log) ≡ added (is_turn_of setup.address entry)

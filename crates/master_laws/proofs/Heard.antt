@@ -12,7 +12,7 @@ use Rattle.master_spec.specs.declared.reactions.Reaction.{Reaction}
 use Rattle.master_spec.specs.declared.reactions.Reaction.TheVariants.{Wait}
 use Rattle.master_spec.specs.Jobs.{Job}
 use Rattle.master_spec.specs.Marks.{Mark, Hinted, Brought, Answered, open_request, is_passed}
-use Rattle.master_spec.specs.Conversation.{done, after, awaited, on_hint}
+use Rattle.master_spec.specs.Conversation.{done, marks_after, awaited, on_hint}
 use Rattle.master_laws.proofs.Places.{awaited_if, Open, Waiting, Place, listing, changing, refused, waiting, asking, erring, bringing, resting, beating, failing, Stay, over, going, Live}
 use Rattle.master_laws.proofs.Reactions.{reacts, reacts_ended, awaited_is, awaited_open, passed_more}
 use Rattle.master_laws.proofs.Opens.{just_open}
@@ -97,21 +97,21 @@ hint_at l job n marks lim live (failing p) = noted l job n marks TheAnswer live 
 
 -- ---- what comes from outside takes no turn
 
-pub stays_hinted : (l : Limits) (n : ℕ) (marks : List Mark) → IsLimits l → Stay l n marks → Stay l n (after l Hinted marks)
+pub stays_hinted : (l : Limits) (n : ℕ) (marks : List Mark) → IsLimits l → Stay l n marks → Stay l n (marks_after l Hinted marks)
 stays_hinted l n marks lim (over cause e) =
     subst (λ (r : Reaction). Stay l n (done r (Hinted ∷ marks))) (sym (reacts_ended l Hinted marks cause e)) (over cause e)
 stays_hinted l n marks lim (going job j c p) =
     subst (λ (r : Reaction). Stay l n (done r (Hinted ∷ marks))) (sym (reacts l Hinted marks job c j))
     (hint_at l job n marks lim (record { job_is = j; no_cause = c }) p)
 
-pub stays_brought : (l : Limits) (n number : ℕ) (payload : List ℕ) (marks : List Mark) → Stay l n marks → Stay l n (after l (Brought number payload) marks)
+pub stays_brought : (l : Limits) (n number : ℕ) (payload : List ℕ) (marks : List Mark) → Stay l n marks → Stay l n (marks_after l (Brought number payload) marks)
 stays_brought l n number payload marks (over cause e) =
     subst (λ (r : Reaction). Stay l n (done r (Brought number payload ∷ marks))) (sym (reacts_ended l (Brought number payload) marks cause e)) (over cause e)
 stays_brought l n number payload marks (going job j c p) =
     subst (λ (r : Reaction). Stay l n (done r (Brought number payload ∷ marks))) (sym (reacts l (Brought number payload) marks job c j))
     (going job j c (place_brought l job n number payload marks p))
 
-pub stays_answered : (l : Limits) (n : ℕ) (r : Request) (a : Answer) (marks : List Mark) → IsLimits l → open_request marks ≡ Some r → Stay l n marks → Stay l n (after l (Answered r a) marks)
+pub stays_answered : (l : Limits) (n : ℕ) (r : Request) (a : Answer) (marks : List Mark) → IsLimits l → open_request marks ≡ Some r → Stay l n marks → Stay l n (marks_after l (Answered r a) marks)
 stays_answered l n r a marks lim o (over cause e) =
     subst (λ (x : Reaction). Stay l n (done x (Answered r a ∷ marks))) (sym (reacts_ended l (Answered r a) marks cause e)) (over cause e)
 stays_answered l n r a marks lim o (going job j c p) =

@@ -14,7 +14,7 @@ use Rattle.master_spec.specs.declared.reactions.Awaited.{Awaited}
 use Rattle.master_spec.specs.declared.reactions.Awaited.TheVariants.{TheAnswer, TheState, TheOutputs, TheOthers}
 use Rattle.master_spec.specs.Tasks.{is_by_list, target_of}
 use Rattle.master_spec.specs.Jobs.{Job}
-use Rattle.master_spec.specs.Marks.{Mark, count, since, before, turns_since, is_asked, is_again, is_sending, is_answer, acks_change, latest, configured, refusals, is_passed, job_of, cause_of}
+use Rattle.master_spec.specs.Marks.{Mark, count, since, before, turns_since, is_asked, is_again, is_sending, is_answer, acks_change, latest, settings_answered, refusals, is_passed, job_of, cause_of}
 use Rattle.master_spec.specs.Conversation.{awaited_after}
 use Rattle.master_laws.proofs.Budgets.{patience, attempt, last_question, settling, closing}
 
@@ -36,8 +36,8 @@ pub record Listing (l : Limits) (job : Job) (n : ℕ) (marks : List Mark) : Type
   pub latest_is : latest marks ≡ latests.Asked (Configure body)
   pub opened : Open l marks
   pub by_list : is_by_list job.task ≡ true
-  pub short : configured marks < length job.list
-  pub room : length job.list * patience l + closing l ≤ n + configured marks * patience l + turns_since is_asked marks
+  pub short : settings_answered marks < length job.list
+  pub room : length job.list * patience l + closing l ≤ n + settings_answered marks * patience l + turns_since is_asked marks
 
 -- the task's one request is open
 pub record Changing (l : Limits) (job : Job) (n : ℕ) (marks : List Mark) : Type 0 where

@@ -15,9 +15,9 @@ use Rattle.master_spec.specs.declared.requests.Latest.{Latest}
 use Rattle.master_spec.specs.declared.requests.Latest.TheVariants as latests
 use Rattle.master_spec.specs.declared.reactions.Awaited.TheVariants.{TheAnswer, TheState, TheOutputs, TheOthers}
 use Rattle.master_spec.specs.declared.reactions.Reaction.TheVariants.{Wait}
-use Rattle.master_spec.specs.Tasks.{is_by_list, is_by_end, target_of, passing_of, row_of}
+use Rattle.master_spec.specs.Tasks.{is_by_list, is_by_end, target_of, passing_of, task_row}
 use Rattle.master_spec.specs.Jobs.{Job}
-use Rattle.master_spec.specs.Marks.{Mark, is_begun, count, this_phase, acks_configuration, acks_change, names, brings, oldest, or_else, configured, is_named_by, is_reached, kept, has_outputs, is_passed, job_of, cause_of, latest, open_in}
+use Rattle.master_spec.specs.Marks.{Mark, is_begun, count, this_phase, acks_configuration, acks_change, names, mark_brings, oldest, or_else, settings_answered, is_named_by, is_reached, kept, has_row_outputs, is_passed, job_of, cause_of, latest, open_in}
 use Rattle.master_spec.specs.Conversation.{reaction, reaction_in, on_mark, awaited, awaited_by, is_state}
 use Rattle.master_laws.proofs.Places.{awaited_if}
 
@@ -76,10 +76,10 @@ count_at : (b : Bool) (n : ℕ) → n ≤ (if b then n + 1 else n)
 count_at true n = omega arith
 count_at false n = omega arith
 
-configured_more : (m : Mark) (marks : List Mark) → is_begun m ≡ false → configured marks ≤ configured (m ∷ marks)
+configured_more : (m : Mark) (marks : List Mark) → is_begun m ≡ false → settings_answered marks ≤ settings_answered (m ∷ marks)
 configured_more m marks e =
-    subst (λ (ms : List Mark). configured marks ≤ count acks_configuration ms) (sym (phase_more m marks e))
-    (count_at (acks_configuration m) (configured marks))
+    subst (λ (ms : List Mark). settings_answered marks ≤ count acks_configuration ms) (sym (phase_more m marks e))
+    (count_at (acks_configuration m) (settings_answered marks))
 
 any_more : (is : Mark → Bool) (m : Mark) (marks : List Mark) → is_begun m ≡ false → list_any is (this_phase marks) ≡ true → list_any is (this_phase (m ∷ marks)) ≡ true
 any_more is m marks e h =
@@ -94,37 +94,37 @@ some_or : (o p : Option (List ℕ)) → is_some o ≡ true → is_some (or_else 
 some_or None p h = absurd (cc)
 some_or (Some x) p h = refl
 
-outputs_more : (row : Option ℕ) (m : Mark) (marks : List Mark) → is_begun m ≡ false → has_outputs row marks ≡ true → has_outputs row (m ∷ marks) ≡ true
+outputs_more : (row : Option ℕ) (m : Mark) (marks : List Mark) → is_begun m ≡ false → has_row_outputs row marks ≡ true → has_row_outputs row (m ∷ marks) ≡ true
 outputs_more None m marks e h = refl
 outputs_more (Some row) m marks e h =
-    subst (λ (ms : List Mark). is_some (oldest (brings (row % 65536)) ms) ≡ true) (sym (phase_more m marks e))
-    (some_or (kept row marks) (brings (row % 65536) m) h)
+    subst (λ (ms : List Mark). is_some (oldest (mark_brings (row % 65536)) ms) ≡ true) (sym (phase_more m marks e))
+    (some_or (kept row marks) (mark_brings (row % 65536) m) h)
 
-pub passed_list : (job : Job) (marks : List Mark) → is_by_list job.task ≡ true → length job.list ≤ configured marks → is_passed job marks ≡ true
+pub passed_list : (job : Job) (marks : List Mark) → is_by_list job.task ≡ true → length job.list ≤ settings_answered marks → is_passed job marks ≡ true
 passed_list job marks e h =
-    ap (λ (b : Bool). if b then nat_le (length job.list) (configured marks) else (if is_by_end job.task then list_any acks_change (this_phase marks) else (is_reached job.task marks && has_outputs (row_of job.task) marks))) e
-    ∙ le-leb (length job.list) (configured marks) h
+    ap (λ (b : Bool). if b then nat_le (length job.list) (settings_answered marks) else (if is_by_end job.task then list_any acks_change (this_phase marks) else (is_reached job.task marks && has_row_outputs (task_row job.task) marks))) e
+    ∙ le-leb (length job.list) (settings_answered marks) h
 
 pub passed_end : (job : Job) (marks : List Mark) → is_by_list job.task ≡ false → is_by_end job.task ≡ true → list_any acks_change (this_phase marks) ≡ true → is_passed job marks ≡ true
 passed_end job marks e f h =
-    ap (λ (b : Bool). if b then nat_le (length job.list) (configured marks) else (if is_by_end job.task then list_any acks_change (this_phase marks) else (is_reached job.task marks && has_outputs (row_of job.task) marks))) e
-    ∙ ap (λ (b : Bool). if b then list_any acks_change (this_phase marks) else (is_reached job.task marks && has_outputs (row_of job.task) marks)) f
+    ap (λ (b : Bool). if b then nat_le (length job.list) (settings_answered marks) else (if is_by_end job.task then list_any acks_change (this_phase marks) else (is_reached job.task marks && has_row_outputs (task_row job.task) marks))) e
+    ∙ ap (λ (b : Bool). if b then list_any acks_change (this_phase marks) else (is_reached job.task marks && has_row_outputs (task_row job.task) marks)) f
     ∙ h
 
 pub passed_more : (job : Job) (m : Mark) (marks : List Mark) → is_begun m ≡ false → is_passed job marks ≡ true → is_passed job (m ∷ marks) ≡ true
 passed_more job m marks e h = by (is_by_list job.task) (is_by_end job.task) h
   where
     by : (by_list by_end : Bool)
-        → (if by_list then nat_le (length job.list) (configured marks) else (if by_end then list_any acks_change (this_phase marks) else (is_reached job.task marks && has_outputs (row_of job.task) marks))) ≡ true
-        → (if by_list then nat_le (length job.list) (configured (m ∷ marks)) else (if by_end then list_any acks_change (this_phase (m ∷ marks)) else (is_reached job.task (m ∷ marks) && has_outputs (row_of job.task) (m ∷ marks)))) ≡ true
+        → (if by_list then nat_le (length job.list) (settings_answered marks) else (if by_end then list_any acks_change (this_phase marks) else (is_reached job.task marks && has_row_outputs (task_row job.task) marks))) ≡ true
+        → (if by_list then nat_le (length job.list) (settings_answered (m ∷ marks)) else (if by_end then list_any acks_change (this_phase (m ∷ marks)) else (is_reached job.task (m ∷ marks) && has_row_outputs (task_row job.task) (m ∷ marks)))) ≡ true
     by true by_end h =
-        let f : length job.list ≤ configured marks = leb-true (length job.list) (configured marks) h in
-        let g : configured marks ≤ configured (m ∷ marks) = configured_more m marks e in
-        le-leb (length job.list) (configured (m ∷ marks)) (omega (arith, f, g))
+        let f : length job.list ≤ settings_answered marks = leb-true (length job.list) (settings_answered marks) h in
+        let g : settings_answered marks ≤ settings_answered (m ∷ marks) = configured_more m marks e in
+        le-leb (length job.list) (settings_answered (m ∷ marks)) (omega (arith, f, g))
     by false true h = any_more acks_change m marks e h
     by false false h =
-        let p = and_parts (is_reached job.task marks) (has_outputs (row_of job.task) marks) h in
-        and_from (is_reached job.task (m ∷ marks)) (has_outputs (row_of job.task) (m ∷ marks)) (named_more (target_of job.task) m marks e p.0) (outputs_more (row_of job.task) m marks e p.1)
+        let p = and_parts (is_reached job.task marks) (has_row_outputs (task_row job.task) marks) h in
+        and_from (is_reached job.task (m ∷ marks)) (has_row_outputs (task_row job.task) (m ∷ marks)) (named_more (target_of job.task) m marks e p.0) (outputs_more (task_row job.task) m marks e p.1)
 
 -- ---- a task that is done has no passing state to go through
 
@@ -139,10 +139,10 @@ no_passing tasks.Setup list state marks h = refl
 no_passing tasks.Prepare list state marks h = and_not _ (is_reached tasks.Prepare marks) _ h
 no_passing tasks.Configure list state marks h = and_not _ (is_reached tasks.Configure marks) _ h
 no_passing tasks.Initialize list state marks h = and_not _ (is_reached tasks.Initialize marks) _ h
-no_passing (tasks.FirstOutputs row) list state marks h = and_not _ (is_reached (tasks.FirstOutputs row) marks) (has_outputs (Some row) marks) h
+no_passing (tasks.FirstOutputs row) list state marks h = and_not _ (is_reached (tasks.FirstOutputs row) marks) (has_row_outputs (Some row) marks) h
 no_passing tasks.Run list state marks h = and_not _ (is_reached tasks.Run marks) _ h
 no_passing (tasks.Step k) list state marks h = and_not _ (is_reached (tasks.Step k) marks) _ h
-no_passing (tasks.Outputs k row) list state marks h = and_not _ (is_reached (tasks.Outputs k row) marks) (has_outputs (Some row) marks) h
+no_passing (tasks.Outputs k row) list state marks h = and_not _ (is_reached (tasks.Outputs k row) marks) (has_row_outputs (Some row) marks) h
 no_passing tasks.Stop list state marks h = and_not _ (is_reached tasks.Stop marks) _ h
 no_passing tasks.Reset list state marks h = refl
 no_passing tasks.Adjust list state marks h = refl

@@ -7,7 +7,7 @@ use Rattle.dcp_types.specs.declared.limits.Limits.{Limits}
 use Rattle.master_spec.specs.declared.causes.Cause.{Cause}
 use Rattle.master_spec.specs.declared.causes.Verdict.TheVariants as verdicts
 use Rattle.master_spec.specs.Jobs.{Job}
-use Rattle.master_spec.specs.Marks.{Mark, configured, latest, open_in, open_request, refusals, is_passed, cause_of, job_of, verdict_by, verdict_of}
+use Rattle.master_spec.specs.Marks.{Mark, settings_answered, latest, open_in, open_request, refusals, is_passed, cause_of, job_of, verdict_by, verdict_of}
 use Rattle.master_laws.proofs.Budgets.{patience, attempt, closing, one_of}
 use Rattle.master_laws.proofs.Places.{Listing, Place, listing, changing, refused, waiting, asking, erring, bringing, resting, beating, failing, Stay, over, going}
 use Rattle.master_laws.proofs.Reactions.{others_closed, state_closed, outputs_closed}
@@ -31,7 +31,7 @@ listing_room : (l : Limits) (job : Job) (n : ℕ) (marks : List Mark) → Listin
 listing_room l job n marks p =
     let room = p.room in
     let below = open_below l marks p.opened in
-    let one = one_of (configured marks) (length job.list) (patience l) p.short in
+    let one = one_of (settings_answered marks) (length job.list) (patience l) p.short in
     omega (arith, room, below, one)
 
 place_room : (l : Limits) (job : Job) (n : ℕ) (marks : List Mark) → IsLimits l → Place l job n marks → (closing l + 1 ≤ n) ⊎ (is_passed job marks ≡ true)

@@ -11,10 +11,10 @@ use Rattle.master_spec.specs.declared.reactions.Awaited.{Awaited}
 use Rattle.master_spec.specs.declared.reactions.Awaited.TheVariants.{TheState, TheOutputs, TheOthers}
 use Rattle.master_spec.specs.declared.reactions.Reaction.{Reaction}
 use Rattle.master_spec.specs.declared.reactions.Reaction.TheVariants.{Wait, Ask, GiveUp}
-use Rattle.master_spec.specs.Tasks.{is_by_end, step_of}
+use Rattle.master_spec.specs.Tasks.{is_by_end, task_step}
 use Rattle.master_spec.specs.Jobs.{Job}
 use Rattle.master_spec.specs.Marks.{Mark, Asked, Again, Turned, turns_since, is_answer, latest, is_passed}
-use Rattle.master_spec.specs.Conversation.{done, after, awaited, on_turn}
+use Rattle.master_spec.specs.Conversation.{done, marks_after, awaited, on_turn}
 use Rattle.master_laws.proofs.Budgets.{patience}
 use Rattle.master_laws.proofs.Places.{awaited_if, Listing, Changing, Refused, Waiting, Asking, Erring, Bringing, Resting, Beating, Failing, Place, listing, changing, refused, waiting, asking, erring, bringing, resting, beating, failing, Stay, over, going, Live}
 use Rattle.master_laws.proofs.Reactions.{reacts, reacts_ended, awaited_is, passed_more}
@@ -176,8 +176,8 @@ turn_bringing l job n m settled marks lim live le beat p =
     by_passed l job m settled marks (λ passed h.
     subst (λ (a : Awaited). Turns l job m settled marks a) (sym (p.awaits passed)) (at passed h))
   where
-    by : (b : Bool) → nat_le l.data_turns (turns_since is_answer marks + 1) ≡ b → Stay l m (done (if b then GiveUp (causes.DataMissing (step_of job.task)) else Wait) (Turned settled ∷ marks))
-    by true e = over (causes.DataMissing (step_of job.task)) refl
+    by : (b : Bool) → nat_le l.data_turns (turns_since is_answer marks + 1) ≡ b → Stay l m (done (if b then GiveUp (causes.DataMissing (task_step job.task)) else Wait) (Turned settled ∷ marks))
+    by true e = over (causes.DataMissing (task_step job.task)) refl
     by false e =
         let room = p.room in
         let f : turns_since is_answer marks + 1 < l.data_turns = leb-false l.data_turns (turns_since is_answer marks + 1) e in
@@ -206,7 +206,7 @@ turn_at l job n m settled marks lim live le beat (beating p) = turn_beating l jo
 turn_at l job n m settled marks lim live le beat (failing p) = turn_failing l job n m settled marks live le p
 
 -- A turn: of n turns left, m are left behind it. Where not all are settled, there is room for a sign of life and what may follow from it.
-pub turned : (l : Limits) (n m : ℕ) (settled : Bool) (marks : List Mark) → IsLimits l → n ≤ m + 1 → (settled ≡ false → patience l + patience l ≤ m) → Stay l n marks → Stay l m (after l (Turned settled) marks)
+pub turned : (l : Limits) (n m : ℕ) (settled : Bool) (marks : List Mark) → IsLimits l → n ≤ m + 1 → (settled ≡ false → patience l + patience l ≤ m) → Stay l n marks → Stay l m (marks_after l (Turned settled) marks)
 turned l n m settled marks lim le beat (over cause e) =
     subst (λ (r : Reaction). Stay l m (done r (Turned settled ∷ marks))) (sym (reacts_ended l (Turned settled) marks cause e)) (over cause e)
 turned l n m settled marks lim le beat (going job j c p) =

@@ -17,8 +17,8 @@ last_target state [] = state
 last_target state (job ∷ js) = last_target (target_or state (target_of job.task)) js
 
 -- a state request names this state; any other request names none
-abbrev pub Names : State → Request → Type 0
-Names state (Change named body) = named ≡ state
-Names state (Configure body) = Unit {0}
-Names state AskState = Unit {0}
-Names state AskError = Unit {0}
+abbrev pub NamesState : State → Request → Type 0
+NamesState state (Change named body) = named ≡ state
+NamesState state (Configure body) = Unit {0}
+NamesState state AskState = Unit {0}
+NamesState state AskError = Unit {0}

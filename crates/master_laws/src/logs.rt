@@ -9,7 +9,7 @@ ghost use Rattle.scenario.specs.Sound.{IsScenario};
 ghost use Rattle.scenario.specs.declared.scenarios.Scenario.{Scenario};
 ghost use Rattle.master_spec.specs.declared.setups.Setup.{Setup};
 ghost use Rattle.master_spec.specs.Bound.{bound};
-ghost use Rattle.master_spec.specs.Course.{turns};
+ghost use Rattle.master_spec.specs.Course.{master_turns};
 ghost use Rattle.master_spec.specs.Requests.{is_turn_of};
 ghost use Rattle.master_spec.specs.Rules.{is_over_after, master_rules};
 ghost use Rattle.master_spec.specs.Setup.{setup_from};
@@ -17,7 +17,7 @@ ghost use Rattle.master_laws.specs.Turns.{turns_in};
 
 /// The turns that the master counts are its turns in the log that began without a report.
 pub fn turns_are_in_log()
-    ensures { (setup : Setup) (log : List LogEntry) → turns setup (reverse (events_at setup.address log)) ≡ turns_in setup log }
+    ensures { (setup : Setup) (log : List LogEntry) → master_turns setup (reverse (events_at setup.address log)) ≡ turns_in setup log }
 {}
 
 /// A log after which the master of a scenario has no report has fewer turns of the master than the

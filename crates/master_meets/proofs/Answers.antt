@@ -7,7 +7,7 @@ use Rattle.pdu_layout.specs.Fields.FieldValue.{Number, Bytes}
 use Rattle.pdu_layout.specs.Message.{Message}
 use Rattle.log_spec.specs.Messages.{Note, Answer, Class, Answering, class_of, role_by, role_read}
 use Rattle.master_spec.specs.declared.requests.Answer as heard
-use Rattle.master_spec.specs.News.{Answers, acks, nacks, state_acks, error_acks, log_acks, hints, brings, Nothing, news_by, news_in}
+use Rattle.master_spec.specs.News.{Answers, acks, nacks, state_acks, error_acks, log_acks, hints, news_brought, Nothing, news_by, news_in}
 
 abbrev pub Twos : List FieldValue → (number sender : ℕ) → Type 0
 Twos vs number sender = (rest : List FieldValue) × (vs ≡ Number number ∷ Number sender ∷ rest)
@@ -43,7 +43,7 @@ module _ (number sender : ℕ) (a : heard.Answer) where
   hints_none (Number x ∷ Number y ∷ []) h = cc
   hints_none _ h = cc
 
-  brings_none : (vs : List FieldValue) → brings vs ≡ Answers number sender a → ⊥
+  brings_none : (vs : List FieldValue) → news_brought vs ≡ Answers number sender a → ⊥
   brings_none (Number x ∷ Number y ∷ Bytes e ∷ []) h = cc
   brings_none _ h = cc
 
@@ -51,7 +51,7 @@ module _ (number sender : ℕ) (a : heard.Answer) where
   news_two code vs h = by (code == 176) (code == 177) (code == 178) (code == 179) (code == 180) (code == 224) (code == 240) refl refl refl refl refl h
     where
       by : (b c d e f g k : Bool) → (code == 176) ≡ b → (code == 177) ≡ c → (code == 178) ≡ d → (code == 179) ≡ e → (code == 180) ≡ f
-          → (if b then acks vs else if c then nacks vs else if d then state_acks vs else if e then error_acks vs else if f then log_acks vs else if g then hints vs else if k then brings vs else Nothing) ≡ Answers number sender a
+          → (if b then acks vs else if c then nacks vs else if d then state_acks vs else if e then error_acks vs else if f then log_acks vs else if g then hints vs else if k then news_brought vs else Nothing) ≡ Answers number sender a
           → Twos vs number sender × (class_of code ≡ Answering)
       by true c d e f g k p q r t u h = (acks_two vs h, ap class_of (eqb-true code 176 p))
       by false true d e f g k p q r t u h = (nacks_two vs h, ap class_of (eqb-true code 177 q))

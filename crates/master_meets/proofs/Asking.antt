@@ -11,7 +11,7 @@ use Rattle.dcp_ends.specs.Logs.{same_address}
 use Rattle.pdu_layout.specs.Reading.{message_in}
 use Rattle.log_spec.specs.Messages.{Note, Role, Request, Answer, Value, Else, role_read}
 use Rattle.log_spec.specs.Channel.{Repeats}
-use Rattle.log_spec.specs.Log.{Parties, IsSlaveOf, same, role_heard, Requests, in_channel, sends_in, requests_sent, Decision}
+use Rattle.log_spec.specs.Log.{Parties, IsSlaveOf, same, role_heard, Requests, in_channel, sends_in, requests_sent, DecidedRequest}
 use Rattle.log_spec.specs.Moves.{Move, Asks, Comes, Tells, Hears, Brings, Turns, Rests, Other, sent_move, got_move, move, decided_after, decided_exchanges}
 use Rattle.log_spec.proofs.Moves.{same_is, asked, requests_by_move}
 use Rattle.master_spec.specs.declared.reports.Report.{Report}
@@ -23,14 +23,14 @@ use Rattle.master_spec.specs.Setup.{jobs_of}
 use Rattle.master_spec.specs.Requests.{Asking, asking_in, with_asking, with_news, asks}
 use Rattle.asking_laws.specs.Legal.{AreLegal, GoesByRule}
 use Rattle.asking_laws.proofs.Legal.{going}
-use Rattle.index_laws.specs.Runs.{events, course_at, owed, IsFirst, where_it_is, IsRun}
+use Rattle.index_laws.specs.Runs.{events_of_master, course_at, owed, IsFirstSend, where_it_is, IsRun}
 use Rattle.index_laws.specs.Laws.{AreHeard}
 use Rattle.index_laws.specs.Index.{ReadBack, first_at, again_at, Owes, marks_of}
 use Rattle.index_laws.specs.Follows.{mine, talk_with}
 use Rattle.index_laws.proofs.Laws.{listens}
 use Rattle.index_laws.proofs.Reported.{reported}
 use Rattle.index_laws.proofs.Runs.{followed, with_at}
-use Rattle.master_meets.specs.Laws.{IsParty, ArePartiesOf, note_of, register_for, register_note, IsNext, MayAsk, RequestsAreAsked, MasterAsksInTurn}
+use Rattle.master_meets.specs.Laws.{IsParty, ArePartiesOf, note_of, register_for, register_note, IsNextRequest, MayAsk, RequestsAreAsked, MasterAsksInTurn}
 use Rattle.master_meets.proofs.Sends.{role_told, IsFresh, IsSame, sends_now}
 use Rattle.master_meets.proofs.Answers.{answer_role}
 use Rattle.master_meets.proofs.Known.{Known, IsHeardAs, all_done, long, fresh_known, same_known, repeats, other_known, heard_known}
@@ -40,7 +40,7 @@ pub same_as : (a b : Address) → same a b ≡ same_address a b
 unfolding same
 same_as a b = refl
 
-pub mine_first : (a to : Address) (bytes : List ℕ) (posts : List Send) → IsFirst posts to bytes → same_address to a ≡ true → (more : List (List ℕ)) × (mine a posts ≡ bytes ∷ more)
+pub mine_first : (a to : Address) (bytes : List ℕ) (posts : List Send) → IsFirstSend posts to bytes → same_address to a ≡ true → (more : List (List ℕ)) × (mine a posts ≡ bytes ∷ more)
 mine_first a to bytes [] f e = absurd f
 mine_first a to bytes (p ∷ ps) f e =
     let z : same_address p.to a ≡ true = ap (λ (x : Address). same_address x a) f.0 ∙ e in
@@ -57,10 +57,10 @@ no_ask w s uuid log Turns e = tt
 no_ask w s uuid log Rests e = tt
 no_ask w s uuid log Other e = tt
 
-one_ask : (w : Parties) (s uuid : ℕ) (log : List LogEntry) (mv : Move) (n : Note) → asked mv ≡ Some n → Repeats (requests_sent w s log) n ⊎ IsNext w s uuid n log → MayAsk w s uuid mv log
+one_ask : (w : Parties) (s uuid : ℕ) (log : List LogEntry) (mv : Move) (n : Note) → asked mv ≡ Some n → Repeats (requests_sent w s log) n ⊎ IsNextRequest w s uuid n log → MayAsk w s uuid mv log
 one_ask w s uuid log (Asks m) n e h =
     let z : m ≡ n = cc in
-    let P : Note → Type 0 = λ x. Repeats (requests_sent w s log) x ⊎ IsNext w s uuid x log in
+    let P : Note → Type 0 = λ x. Repeats (requests_sent w s log) x ⊎ IsNextRequest w s uuid x log in
     subst P (sym z) h
 one_ask w s uuid log (Comes from receiver m) n e h = tt
 one_ask w s uuid log (Tells to bytes) n e h = tt
@@ -70,7 +70,7 @@ one_ask w s uuid log Turns n e h = tt
 one_ask w s uuid log Rests n e h = tt
 one_ask w s uuid log Other n e h = tt
 
-pub sent_decides : (w : Parties) (s : ℕ) (from to : Address) (bytes : List ℕ) (k : Role) (rs : List Note) (ds : List Decision) → decided_after (sent_move w s from to bytes k) rs ds ≡ ds
+pub sent_decides : (w : Parties) (s : ℕ) (from to : Address) (bytes : List ℕ) (k : Role) (rs : List Note) (ds : List DecidedRequest) → decided_after (sent_move w s from to bytes k) rs ds ≡ ds
 sent_decides w s from to bytes (Request receiver n) rs ds = by (same from w.master && same to (w.slave s)) (same from (w.slave s))
   where
     by : (b c : Bool) → decided_after (if b then Asks n else (if c then Tells to bytes else Other)) rs ds ≡ ds
@@ -118,9 +118,9 @@ module _ (setup : Setup) (h : AreHeard setup) (w : Parties) (ps : ArePartiesOf s
 
   -- ---- a send of the master to the slave
   legal_at : (log : List LogEntry) (marks : List Mark) → slice_get (course_at setup log).talks (p.is_in).0 ≡ Some (talk_with slave marks) → AreLegal setup.limits (jobs_of setup slave) marks
-  legal_at log marks here = (with_at (λ u m. GoesByRule setup.limits (jobs_of setup u) (course_at setup log).phase m) (course_at setup log).talks (p.is_in).0 (talk_with slave marks) (going setup h.runs (events setup log)).goes here).legal
+  legal_at log marks here = (with_at (λ u m. GoesByRule setup.limits (jobs_of setup u) (course_at setup log).phase m) (course_at setup log).talks (p.is_in).0 (talk_with slave marks) (going setup h.runs (events_of_master setup log)).goes here).legal
 
-  pub sends : (log : List LogEntry) → IsRun setup log → (to : Address) (bytes : List ℕ) → IsFirst (owed setup log) to bytes → same_address to slave.address ≡ true
+  pub sends : (log : List LogEntry) → IsRun setup log → (to : Address) (bytes : List ℕ) → IsFirstSend (owed setup log) to bytes → same_address to slave.address ≡ true
       → IsFresh slave.id slave.script.uuid (asks setup.address slave log) bytes ⊎ IsSame slave.id (asks setup.address slave log) bytes
   sends log run to bytes first here = by (course_at setup log).report refl
     where
@@ -148,7 +148,7 @@ module _ (setup : Setup) (h : AreHeard setup) (w : Parties) (ps : ArePartiesOf s
   pub record IsSentSo (bytes : List ℕ) (n : Note) (log : List LogEntry) : Type 0 where
     pub role : role_heard w bytes ≡ Request s n
     pub known : Known s (with_asking (asking_in (length log) (message_in bytes)) (asks setup.address slave log)) (n ∷ sends_in w (Requests s) log) (decided_exchanges w s log)
-    pub may : Repeats (requests_sent w s log) n ⊎ IsNext w s slave.script.uuid n log
+    pub may : Repeats (requests_sent w s log) n ⊎ IsNextRequest w s slave.script.uuid n log
 
   pub sent_so : (log : List LogEntry) (bytes : List ℕ) → K log → IsFresh slave.id slave.script.uuid (asks setup.address slave log) bytes ⊎ IsSame slave.id (asks setup.address slave log) bytes → (n : Note) × IsSentSo bytes n log
   sent_so log bytes k (inl f) =
@@ -208,11 +208,11 @@ module _ (setup : Setup) (h : AreHeard setup) (w : Parties) (ps : ArePartiesOf s
       whole cs o x y z =
           let P : List Asking → Type 0 = λ q. Known s q (sends_in w (Requests s) (e ∷ log)) (decided_exchanges w s (e ∷ log)) in
           let Q : Option Note → Type 0 = λ q. Known s cs (cons_option q (sends_in w (Requests s) log)) (decided_exchanges w s (e ∷ log)) in
-          let R : List Decision → Type 0 = λ q. Known s cs (cons_option o (sends_in w (Requests s) log)) q in
+          let R : List DecidedRequest → Type 0 = λ q. Known s cs (cons_option o (sends_in w (Requests s) log)) q in
           subst P (sym x) (subst Q (sym y) (subst R (sym decides) z))
 
-      first : same_address from setup.address ≡ true → IsFirst (owed setup log) to bytes
-      first x = let P : Bool → Type 0 = λ b. where_it_is b (IsFirst (owed setup log) to bytes) in subst P x run.0
+      first : same_address from setup.address ≡ true → IsFirstSend (owed setup log) to bytes
+      first x = let P : Bool → Type 0 = λ b. where_it_is b (IsFirstSend (owed setup log) to bytes) in subst P x run.0
 
       by : (t : Bool) → (same_address from setup.address && same_address to slave.address) ≡ t → IsSentAt from to bytes log
       by false x =

@@ -6,7 +6,7 @@ use Rattle.std.proofs.lemmas.Bool.Decides.{nat_tests}
 use Rattle.std.proofs.lemmas.List.{length-map}
 use Rattle.log_spec.specs.Messages.{Note}
 use Rattle.log_spec.specs.Channel.{by_ordinal, Repeats, IsRegularChannel}
-use Rattle.log_spec.specs.Log.{Decision}
+use Rattle.log_spec.specs.Log.{DecidedRequest}
 use Rattle.log_spec.specs.Moves.{Move, Asks, Comes, Tells, Hears, Brings, Turns, Rests, Other, decides, with_newest, decided_after}
 use Rattle.log_spec.proofs.Channel.{grown_again, grown_next}
 use Rattle.master_spec.specs.declared.requests.Request.{Request}
@@ -19,12 +19,12 @@ use Rattle.phase_laws.proofs.Now.{IsOf}
 use Rattle.master_meets.specs.Laws.{note_of}
 
 -- where the newest request is decided, all are
-abbrev pub IsHeadDone : List Asking → List Decision → Type 0
+abbrev pub IsHeadDone : List Asking → List DecidedRequest → Type 0
 IsHeadDone [] ds = Unit {0}
 IsHeadDone (b ∷ bs) ds = is_some b.decision ≡ true → length ds ≡ suc (length bs)
 
 -- the requests that the log tells, those that were sent, and those that are decided
-pub record Known (id : ℕ) (bs : List Asking) (ns : List Note) (ds : List Decision) : Type 0 where
+pub record Known (id : ℕ) (bs : List Asking) (ns : List Note) (ds : List DecidedRequest) : Type 0 where
   pub regular : IsRegularChannel ns
   pub requests : by_ordinal ns ≡ map (note_of id) bs
   pub most : length ds ≤ length bs
@@ -34,12 +34,12 @@ pub record Known (id : ℕ) (bs : List Asking) (ns : List Note) (ds : List Decis
 pub long : (id : ℕ) (bs : List Asking) → length (map (note_of id) bs) ≡ length bs
 long id bs = length-map bs (note_of id)
 
-pub all_done : (bs : List Asking) (ds : List Decision) → AreDecided bs → IsHeadDone bs ds → length ds ≤ length bs → length ds ≡ length bs
+pub all_done : (bs : List Asking) (ds : List DecidedRequest) → AreDecided bs → IsHeadDone bs ds → length ds ≤ length bs → length ds ≡ length bs
 all_done [] ds a d m = omega (arith, m)
 all_done (b ∷ bs) ds a d m = d a.0
 
 -- ---- a request is sent
-pub fresh_known : (id n : ℕ) (bs : List Asking) (ns : List Note) (ds : List Decision) (r : Request) → Known id bs ns ds → AreDecided bs → Known id (first_at n (length bs % 65536) r ∷ bs) (note_of id (first_at n (length bs % 65536) r) ∷ ns) ds
+pub fresh_known : (id n : ℕ) (bs : List Asking) (ns : List Note) (ds : List DecidedRequest) (r : Request) → Known id bs ns ds → AreDecided bs → Known id (first_at n (length bs % 65536) r ∷ bs) (note_of id (first_at n (length bs % 65536) r) ∷ ns) ds
 fresh_known id n bs ns ds r k a =
     let l : length (by_ordinal ns) ≡ length bs = ap length k.requests ∙ long id bs in
     let num : length bs % 65536 ≡ length (by_ordinal ns) % 65536 = ap (λ (z : ℕ). z % 65536) (sym l) in
@@ -61,18 +61,18 @@ same_note id n b r o =
     ap (λ (z : ℕ). note_of id (record { code = z; number = b.number; more = (first_at n b.number r).more; first = 0; repeats = []; decision = None })) (sym o.0)
     ∙ ap (λ (z : _). note_of id (record { code = b.code; number = b.number; more = z; first = 0; repeats = []; decision = None })) (sym o.1)
 
-pub same_known : (id n : ℕ) (b : Asking) (bs : List Asking) (ns : List Note) (ds : List Decision) (r : Request) → Known id (b ∷ bs) ns ds → IsOf r b → Known id (again_at n (b ∷ bs)) (note_of id (first_at n b.number r) ∷ ns) ds
+pub same_known : (id n : ℕ) (b : Asking) (bs : List Asking) (ns : List Note) (ds : List DecidedRequest) (r : Request) → Known id (b ∷ bs) ns ds → IsOf r b → Known id (again_at n (b ∷ bs)) (note_of id (first_at n b.number r) ∷ ns) ds
 same_known id n b bs ns ds r k o =
     let note = note_of id (first_at n b.number r) in
     let P : List Note → Type 0 = λ z. Repeats z note in
     let rep : Repeats (by_ordinal ns) note = subst P (sym k.requests) (same_note id n b r o) in
     record { regular = (inl rep, k.regular); requests = grown_again note ns k.regular rep ∙ k.requests; most = k.most; near = k.near; done = k.done }
 
-pub repeats : (id n : ℕ) (b : Asking) (bs : List Asking) (ns : List Note) (ds : List Decision) (r : Request) → Known id (b ∷ bs) ns ds → IsOf r b → Repeats (by_ordinal ns) (note_of id (first_at n b.number r))
+pub repeats : (id n : ℕ) (b : Asking) (bs : List Asking) (ns : List Note) (ds : List DecidedRequest) (r : Request) → Known id (b ∷ bs) ns ds → IsOf r b → Repeats (by_ordinal ns) (note_of id (first_at n b.number r))
 repeats id n b bs ns ds r k o = let P : List Note → Type 0 = λ z. Repeats z (note_of id (first_at n b.number r)) in subst P (sym k.requests) (same_note id n b r o)
 
 -- ---- an answer is heard, or anything else
-decided_least : (mv : Move) (rs : List Note) (ds : List Decision) → length ds ≤ length (decided_after mv rs ds)
+decided_least : (mv : Move) (rs : List Note) (ds : List DecidedRequest) → length ds ≤ length (decided_after mv rs ds)
 decided_least (Asks n) rs ds = omega arith
 decided_least (Comes from receiver n) rs ds = omega arith
 decided_least (Tells to bytes) rs ds = omega arith
@@ -87,7 +87,7 @@ decided_least Turns rs ds = omega arith
 decided_least Rests rs ds = omega arith
 decided_least Other rs ds = omega arith
 
-decided_most : (mv : Move) (rs : List Note) (ds : List Decision) → length ds ≤ length rs → length (decided_after mv rs ds) ≤ length rs
+decided_most : (mv : Move) (rs : List Note) (ds : List DecidedRequest) → length ds ≤ length rs → length (decided_after mv rs ds) ≤ length rs
 decided_most (Asks n) rs ds l = l
 decided_most (Comes from receiver n) rs ds l = l
 decided_most (Tells to bytes) rs ds l = l
@@ -97,7 +97,7 @@ decided_most Turns rs ds l = l
 decided_most Rests rs ds l = l
 decided_most Other rs ds l = l
 
-heard_full : (a r : Note) (rest : List Note) (ds : List Decision) (n : ℕ) → a.number ≡ r.number → length rest ≡ n → length ds ≤ suc n → suc n ≤ length ds + 1 → length (if decides a (r ∷ rest) ds then with_newest (r ∷ rest) a ds else ds) ≡ suc n
+heard_full : (a r : Note) (rest : List Note) (ds : List DecidedRequest) (n : ℕ) → a.number ≡ r.number → length rest ≡ n → length ds ≤ suc n → suc n ≤ length ds + 1 → length (if decides a (r ∷ rest) ds then with_newest (r ∷ rest) a ds else ds) ≡ suc n
 heard_full a r rest ds n e l m k = grind (arith, nat_tests)
 
 map_news : (id n : ℕ) (news : News) (bs : List Asking) → map (note_of id) (with_news id n news bs) ≡ map (note_of id) bs
@@ -118,8 +118,8 @@ IsHeardAs id (Hints sender) mv = Unit {0}
 IsHeardAs id (Brings number data_id payload) mv = Unit {0}
 IsHeardAs id Nothing mv = Unit {0}
 
-module _ (id : ℕ) (bs : List Asking) (ns : List Note) (ds : List Decision) (k : Known id bs ns ds) (mv : Move) where
-  after : List Decision
+module _ (id : ℕ) (bs : List Asking) (ns : List Note) (ds : List DecidedRequest) (k : Known id bs ns ds) (mv : Move) where
+  after : List DecidedRequest
   after = decided_after mv (by_ordinal ns) ds
 
   rs_long : length (by_ordinal ns) ≡ length bs

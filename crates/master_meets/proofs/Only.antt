@@ -15,9 +15,9 @@ use Rattle.master_spec.specs.declared.setups.Slave.{Slave}
 use Rattle.master_spec.specs.declared.setups.Setup.{Setup}
 use Rattle.master_spec.specs.Marks.{Turned}
 use Rattle.master_spec.specs.Exchanged.{IsIn}
-use Rattle.master_spec.specs.Course.{Talk, Course, course, step, still, marked, mark_of_gram, send_to, sends_after, begun, failed, is_settled, is_quiet, phases, with_next, with_report, with_turns, decided, decided_if, turned, after_turn}
+use Rattle.master_spec.specs.Course.{CourseTalk, Course, course, step, still, marked, mark_of_gram, send_to, sends_after, task_begun, failed, is_settled, is_quiet, phases, with_next, with_report, with_turns, decided, decided_if, course_turned, course_after_turn}
 use Rattle.master_spec.specs.Conversation.{messages_if}
-use Rattle.index_laws.specs.Runs.{with_event, events, owed, IsFirst, tail, where_it_is}
+use Rattle.index_laws.specs.Runs.{with_event, events_of_master, owed, IsFirstSend, tail, where_it_is}
 use Rattle.index_laws.proofs.Mine.{same_self}
 use Rattle.index_laws.proofs.Runs.{slaves_at, talks_of, step_gram, step_tick, step_still}
 use Rattle.master_meets.specs.Laws.{OnlyRequestsAreSent}
@@ -37,23 +37,23 @@ module _ (setup : Setup) where
   one v i [] = tt
   one v i (m ∷ ms) = ((v, (i, refl)), one v i ms)
 
-  each : (g : Talk → List (List ℕ)) (talks : List Talk) → ((k : ℕ) (u : Talk) → slice_get talks k ≡ Some u → IsIn setup u.slave) → AllTo setup (flat_map (λ u. map (send_to u.slave.address) (g u)) talks)
+  each : (g : CourseTalk → List (List ℕ)) (talks : List CourseTalk) → ((k : ℕ) (u : CourseTalk) → slice_get talks k ≡ Some u → IsIn setup u.slave) → AllTo setup (flat_map (λ u. map (send_to u.slave.address) (g u)) talks)
   each g [] i = tt
   each g (u ∷ talks) i = both (map (send_to u.slave.address) (g u)) (flat_map (λ u. map (send_to u.slave.address) (g u)) talks) (one u.slave (i 0 u refl) (g u)) (each g talks (λ k v e. i (suc k) v e))
 
-  abbrev Are : List Talk → Type 0
-  Are talks = (k : ℕ) (u : Talk) → slice_get talks k ≡ Some u → IsIn setup u.slave
+  abbrev Are : List CourseTalk → Type 0
+  Are talks = (k : ℕ) (u : CourseTalk) → slice_get talks k ≡ Some u → IsIn setup u.slave
 
-  mapped : (f : Talk → Talk) → ((u : Talk) → (f u).slave ≡ u.slave) → (talks : List Talk) → Are talks → Are (map f talks)
+  mapped : (f : CourseTalk → CourseTalk) → ((u : CourseTalk) → (f u).slave ≡ u.slave) → (talks : List CourseTalk) → Are talks → Are (map f talks)
   mapped f same [] i k u e = absurd cc
   mapped f same (v ∷ talks) i zero u e =
       let z : f v ≡ u = cc in
       let P : Slave → Type 0 = λ y. IsIn setup y in
-      subst P (sym (same v) ∙ ap (λ (y : Talk). y.slave) z) (i 0 v refl)
+      subst P (sym (same v) ∙ ap (λ (y : CourseTalk). y.slave) z) (i 0 v refl)
   mapped f same (v ∷ talks) i (suc k) u e = mapped f same talks (λ k u e. i (suc k) u e) k u e
 
   nexts : (c : Course) → Are c.talks → AllTo setup c.sent → AllTo setup (with_next setup c).sent
-  nexts c i a = both c.sent (flat_map (λ talk. sends_after setup.limits talk (begun setup (c.phase + 1) talk)) c.talks) a (each (λ u. messages_if setup.limits u.slave.id (begun setup (c.phase + 1) u) u.marks) c.talks i)
+  nexts c i a = both c.sent (flat_map (λ talk. sends_after setup.limits talk (task_begun setup (c.phase + 1) talk)) c.talks) a (each (λ u. messages_if setup.limits u.slave.id (task_begun setup (c.phase + 1) u) u.marks) c.talks i)
 
   decides : (c : Course) (o : Option Report) → Are c.talks → AllTo setup c.sent → AllTo setup (decided setup c o).sent
   decides c (Some report) i a = a
@@ -67,7 +67,7 @@ module _ (setup : Setup) where
   turns c false i a = a
   turns c true i a = decides c (failed c.phase c.talks) i a
 
-  ticks : (c : Course) → Are c.talks → AllTo setup (after_turn setup c).sent
+  ticks : (c : Course) → Are c.talks → AllTo setup (course_after_turn setup c).sent
   ticks c i = by (c.phase == 0)
     where
       settled : Bool
@@ -79,7 +79,7 @@ module _ (setup : Setup) where
       are : Are (with_turns setup settled c).talks
       are = mapped (λ u. marked setup.limits u (Some (Turned settled))) (λ u. refl) c.talks i
 
-      by : (b : Bool) → AllTo setup (if b then with_next setup (still c) else turned setup (with_turns setup settled c)).sent
+      by : (b : Bool) → AllTo setup (if b then with_next setup (still c) else course_turned setup (with_turns setup settled c)).sent
       by true = nexts (still c) i tt
       by false = turns (with_turns setup settled c) (list_all is_quiet (with_turns setup settled c).talks) are here
 
@@ -110,17 +110,17 @@ module _ (setup : Setup) where
       by false a = a
   all_owed (Got at from bytes ∷ log) = by (same_address at setup.address) (all_owed log)
     where
-      by : (b : Bool) → AllTo setup (owed setup log) → AllTo setup (if b then (course setup (with_event b (Gram from bytes) (events setup log))).sent else owed setup log)
-      by true a = steps (Gram from bytes) (course setup (events setup log)) (are_at (events setup log))
+      by : (b : Bool) → AllTo setup (owed setup log) → AllTo setup (if b then (course setup (with_event b (Gram from bytes) (events_of_master setup log))).sent else owed setup log)
+      by true a = steps (Gram from bytes) (course setup (events_of_master setup log)) (are_at (events_of_master setup log))
       by false a = a
   all_owed (Idle at ∷ log) = all_owed log
   all_owed (Turn at ∷ log) = by (same_address at setup.address) (all_owed log)
     where
-      by : (b : Bool) → AllTo setup (owed setup log) → AllTo setup (if b then (course setup (with_event b Tick (events setup log))).sent else owed setup log)
-      by true a = steps Tick (course setup (events setup log)) (are_at (events setup log))
+      by : (b : Bool) → AllTo setup (owed setup log) → AllTo setup (if b then (course setup (with_event b Tick (events_of_master setup log))).sent else owed setup log)
+      by true a = steps Tick (course setup (events_of_master setup log)) (are_at (events_of_master setup log))
       by false a = a
 
-goes_to : (setup : Setup) (posts : List Send) (to : Address) (bytes : List ℕ) → IsFirst posts to bytes → AllTo setup posts → (v : Slave) × (IsIn setup v × (to ≡ v.address))
+goes_to : (setup : Setup) (posts : List Send) (to : Address) (bytes : List ℕ) → IsFirstSend posts to bytes → AllTo setup posts → (v : Slave) × (IsIn setup v × (to ≡ v.address))
 goes_to setup [] to bytes f a = absurd f
 goes_to setup (p ∷ ps) to bytes f a = ((a.0).0, (((a.0).1).0, sym f.0 ∙ ((a.0).1).1))
 
@@ -131,7 +131,7 @@ only_requests setup h w ps (Sent from to bytes ∷ log) run = (by, only_requests
     by : from ≡ w.master → (receiver : ℕ) × (n : Note) × (role_heard w bytes ≡ Request receiver n)
     by e =
         let own : same_address from setup.address ≡ true = ap (λ (a : Address). same_address a setup.address) (e ∙ ps.master) ∙ same_self setup.address in
-        let P : Bool → Type 0 = λ b. where_it_is b (IsFirst (owed setup log) to bytes) in
+        let P : Bool → Type 0 = λ b. where_it_is b (IsFirstSend (owed setup log) to bytes) in
         let first = subst P own run.0 in
         let z = goes_to setup (owed setup log) to bytes first (all_owed setup log) in
         let v = z.0 in

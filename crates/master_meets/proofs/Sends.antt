@@ -15,12 +15,12 @@ use Rattle.master_spec.specs.declared.tasks.Task.TheVariants as tasks
 use Rattle.master_spec.specs.Jobs.{Job, asked_by}
 use Rattle.master_spec.specs.Marks.{Mark, asked, latest, job_of, cause_of, open_request, newest_number}
 use Rattle.master_spec.specs.Marks as marks
-use Rattle.master_spec.specs.News.{pdu_of, bytes_of}
+use Rattle.master_spec.specs.News.{pdu_of, request_bytes}
 use Rattle.master_spec.specs.Requests.{Asking, asking_in, with_asking, acked}
 use Rattle.asking_laws.specs.Legal.{Does, AreLegal}
 use Rattle.asking_laws.proofs.Closed.{asks_open}
 use Rattle.asking_laws.proofs.Legal.{own_rests}
-use Rattle.index_laws.specs.Index.{Placed, at, marks_of, first_at, again_at, told, IsHead, IsHeadOf, ReadBack, IsAsked, IsAgain, Owes}
+use Rattle.index_laws.specs.Index.{Placed, at, marks_of, first_at, again_at, askings_told, IsHeadRequest, IsHeadOf, ReadBack, IsAsked, IsAgain, Owes}
 use Rattle.index_laws.proofs.Index.{sent_new, sent_again}
 use Rattle.phase_laws.specs.Laws.{AreDecided}
 use Rattle.phase_laws.proofs.Now.{now, past, IsOf, Linked, open_latest, linked, split}
@@ -102,7 +102,7 @@ module _ (limits : Limits) (js : List Job) (uuid : ℕ) (begins : slice_get js 0
       let z : Some (register_for uuid) ≡ Some r = sym (ap (slice_get (asked_by (record { task = tasks.Register uuid; list = [] }))) a) ∙ e in
       cc
 
-  pub first_is : (n : ℕ) (r : Request) (xs : List Placed) → AreLegal limits js (marks.Asked r ∷ marks_of xs) → cause_of (marks_of xs) ≡ None → told xs ≡ [] → r ≡ register_for uuid
+  pub first_is : (n : ℕ) (r : Request) (xs : List Placed) → AreLegal limits js (marks.Asked r ∷ marks_of xs) → cause_of (marks_of xs) ≡ None → askings_told xs ≡ [] → r ≡ register_for uuid
   first_is n r xs l c none = by (open_stage job (marks.Asked r ∷ marks_of xs) (now (at n (marks.Asked r) ∷ xs)) r refl s)
     where
       job : Job
@@ -117,8 +117,8 @@ module _ (limits : Limits) (js : List Job) (uuid : ℕ) (begins : slice_get js 0
       k : (p : ℕ) × (marks.count marks.is_begun (marks_of xs) ≡ p + 1)
       k = counted (marks_of xs) job job_is
 
-      empty : (now xs ≡ []) × (told (past xs) ≡ [])
-      empty = append_none (now xs) (told (past xs)) (sym (split limits js xs l.1) ∙ none)
+      empty : (now xs ≡ []) × (askings_told (past xs) ≡ [])
+      empty = append_none (now xs) (askings_told (past xs)) (sym (split limits js xs l.1) ∙ none)
 
       zeroth : k.0 ≡ 0
       zeroth = none_before js k.0 (record { task = tasks.Register uuid; list = [] }) begins refl (sym (base limits js xs l.1 k.0 k.1) ∙ ap acked empty.1)
@@ -142,14 +142,14 @@ module _ (limits : Limits) (js : List Job) (uuid : ℕ) (begins : slice_get js 0
           absurd (omega (arith, w))
 
 -- ---- the newest request
-newest_of : (r : Request) (q : ℕ) (ns ps bs : List Asking) → Linked (latests.Asked r) ns → bs ≡ ns ++ ps → IsHead (Some r) q bs → (b : Asking) × ((rest : List Asking) × ((bs ≡ b ∷ rest) × (IsOf r b × (b.number ≡ q))))
+newest_of : (r : Request) (q : ℕ) (ns ps bs : List Asking) → Linked (latests.Asked r) ns → bs ≡ ns ++ ps → IsHeadRequest (Some r) q bs → (b : Asking) × ((rest : List Asking) × ((bs ≡ b ∷ rest) × (IsOf r b × (b.number ≡ q))))
 newest_of r q [] ps bs l e h = absurd l
-newest_of r q (b ∷ ns) ps bs l e h = let P : List Asking → Type 0 = λ z. IsHead (Some r) q z in (b, (ns ++ ps, (e, (l.0, (subst P e h).0))))
+newest_of r q (b ∷ ns) ps bs l e h = let P : List Asking → Type 0 = λ z. IsHeadRequest (Some r) q z in (b, (ns ++ ps, (e, (l.0, (subst P e h).0))))
 
 -- ---- what is still to be sent
 pub sends_now : (limits : Limits) (js : List Job) (good : Request → Type 0) (id uuid : ℕ) (marks' : List Mark) (xs : List Placed) (b : List ℕ) (more : List (List ℕ))
     → slice_get js 0 ≡ Some (record { task = tasks.Register uuid; list = [] }) → ((r : Request) → good r → ReadBack id r)
-    → Owes good id (b ∷ more) marks' (marks_of xs) → AreLegal limits js marks' → IsHeadOf (marks_of xs) (told xs) → IsFresh id uuid (told xs) b ⊎ IsSame id (told xs) b
+    → Owes good id (b ∷ more) marks' (marks_of xs) → AreLegal limits js marks' → IsHeadOf (marks_of xs) (askings_told xs) → IsFresh id uuid (askings_told xs) b ⊎ IsSame id (askings_told xs) b
 sends_now limits js good id uuid marks' xs b (c ∷ more) begins back o l head = absurd o
 sends_now limits js good id uuid marks' xs b [] begins back o l head = by o.0 (o.1).0 ((o.1).1).0 ((o.1).1).1
   where
@@ -160,23 +160,23 @@ sends_now limits js good id uuid marks' xs b [] begins back o l head = by o.0 (o
     open_none [] r d = absurd d
     open_none (m ∷ ms) r d = asks_open limits m ms r d
 
-    fresh : (r : Request) → good r → cause_of (marks_of xs) ≡ None → AreLegal limits js (marks.Asked r ∷ marks_of xs) → b ≡ bytes_of (asked (marks_of xs) % 65536) id r → IsFresh id uuid (told xs) b
+    fresh : (r : Request) → good r → cause_of (marks_of xs) ≡ None → AreLegal limits js (marks.Asked r ∷ marks_of xs) → b ≡ request_bytes (asked (marks_of xs) % 65536) id r → IsFresh id uuid (askings_told xs) b
     fresh r g c k e =
         let ord = ordered limits js xs k.1 in
-        let same : asked (marks_of xs) % 65536 ≡ length (told xs) % 65536 = ap (λ (z : ℕ). z % 65536) (sym ord.long) in
+        let same : asked (marks_of xs) % 65536 ≡ length (askings_told xs) % 65536 = ap (λ (z : ℕ). z % 65536) (sym ord.long) in
         record {
           request = r;
           read = ap message_in e ∙ back r g (asked (marks_of xs) % 65536) (omega arith) ∙ ap (λ (z : ℕ). Some (message_of (pdu_of z id r))) same;
           decided = ord.decided (open_none (marks_of xs) r k.0);
           first = λ none. first_is limits js uuid begins 0 r xs k c none;
-          after = λ n. (ap (λ (z : List ℕ). with_asking (asking_in n (message_in z)) (told xs)) e ∙ sent_new n id r xs (back r g) head ∙ ap (λ (z : ℕ). first_at n z r ∷ told xs) same);
+          after = λ n. (ap (λ (z : List ℕ). with_asking (asking_in n (message_in z)) (askings_told xs)) e ∙ sent_new n id r xs (back r g) head ∙ ap (λ (z : ℕ). first_at n z r ∷ askings_told xs) same);
         }
 
-    again : (r : Request) → good r → AreLegal limits js (marks_of xs) → open_request (marks_of xs) ≡ Some r → b ≡ bytes_of (newest_number (marks_of xs)) id r → IsSame id (told xs) b
+    again : (r : Request) → good r → AreLegal limits js (marks_of xs) → open_request (marks_of xs) ≡ Some r → b ≡ request_bytes (newest_number (marks_of xs)) id r → IsSame id (askings_told xs) b
     again r g k o e =
-        let Q = λ (z : Option Request). IsHead z (newest_number (marks_of xs)) (told xs) in
+        let Q = λ (z : Option Request). IsHeadRequest z (newest_number (marks_of xs)) (askings_told xs) in
         let R : _ → Type 0 = λ z. Linked z (now xs) in
-        let f = newest_of r (newest_number (marks_of xs)) (now xs) (told (past xs)) (told xs) (subst R (open_latest (latest (marks_of xs)) r o) (linked limits js xs k)) (split limits js xs k) (subst Q o head) in
+        let f = newest_of r (newest_number (marks_of xs)) (now xs) (askings_told (past xs)) (askings_told xs) (subst R (open_latest (latest (marks_of xs)) r o) (linked limits js xs k)) (split limits js xs k) (subst Q o head) in
         let q = newest_number (marks_of xs) in
         record {
           request = r;
@@ -185,9 +185,9 @@ sends_now limits js good id uuid marks' xs b [] begins back o l head = by o.0 (o
           is = ((f.1).1).0;
           read = ap message_in e ∙ back r g q (omega arith) ∙ ap (λ (z : ℕ). Some (message_of (pdu_of z id r))) (sym (((f.1).1).1).1);
           of = (((f.1).1).1).0;
-          after = λ n. (ap (λ (z : List ℕ). with_asking (asking_in n (message_in z)) (told xs)) e ∙ sent_again n id r xs (back r g) o head);
+          after = λ n. (ap (λ (z : List ℕ). with_asking (asking_in n (message_in z)) (askings_told xs)) e ∙ sent_again n id r xs (back r g) o head);
         }
 
-    by : (r : Request) → good r → cause_of (marks_of xs) ≡ None → IsAsked id b marks' (marks_of xs) r ⊎ IsAgain id b marks' (marks_of xs) r → IsFresh id uuid (told xs) b ⊎ IsSame id (told xs) b
+    by : (r : Request) → good r → cause_of (marks_of xs) ≡ None → IsAsked id b marks' (marks_of xs) r ⊎ IsAgain id b marks' (marks_of xs) r → IsFresh id uuid (askings_told xs) b ⊎ IsSame id (askings_told xs) b
     by r g c (inl k) = inl (fresh r g c (subst P k.0 l) k.1)
     by r g c (inr k) = inr (again r g (subst P k.0 l).1 (k.1).0 (k.1).1)

@@ -48,14 +48,14 @@ abbrev pub register_note : (id uuid : ℕ) → Note
 register_note id uuid = record { number = 0; message = message_of (pdu_of 0 id (register_for uuid)) }
 
 -- the next request: all before it are decided, and it has the next number; the first is the register
-pub record IsNext (w : Parties) (s uuid : ℕ) (n : Note) (log : List LogEntry) : Type 0 where
+pub record IsNextRequest (w : Parties) (s uuid : ℕ) (n : Note) (log : List LogEntry) : Type 0 where
   pub closed : length (decided_exchanges w s log) ≡ length (requests_sent w s log)
   pub number : n.number ≡ length (requests_sent w s log) % 65536
   pub first : requests_sent w s log ≡ [] → n ≡ register_note s uuid
 
 -- the newest request is sent again, or the next one
 abbrev pub MayAsk : Parties → (s uuid : ℕ) → Move → List LogEntry → Type 0
-MayAsk w s uuid (Asks n) log = Repeats (requests_sent w s log) n ⊎ IsNext w s uuid n log
+MayAsk w s uuid (Asks n) log = Repeats (requests_sent w s log) n ⊎ IsNextRequest w s uuid n log
 MayAsk w s uuid (Comes from receiver n) log = Unit {0}
 MayAsk w s uuid (Tells to bytes) log = Unit {0}
 MayAsk w s uuid (Hears n) log = Unit {0}

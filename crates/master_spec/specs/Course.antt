@@ -15,9 +15,9 @@ use Rattle.master_spec.specs.declared.reports.Report.{Report}
 use Rattle.master_spec.specs.declared.reports.Report.TheVariants as reports
 use Rattle.master_spec.specs.declared.requests.Request.{Request}
 use Rattle.master_spec.specs.declared.requests.Request.TheVariants.{Change, Configure, AskState, AskError}
-use Rattle.master_spec.specs.Tasks.{row_of}
+use Rattle.master_spec.specs.Tasks.{task_row}
 use Rattle.master_spec.specs.Jobs.{Job}
-use Rattle.master_spec.specs.News.{News, Answers, Hints, Brings, Nothing, news_of, bytes_of}
+use Rattle.master_spec.specs.News.{News, Answers, Hints, Brings, Nothing, news_of, request_bytes}
 use Rattle.master_spec.specs.Marks.{Mark, Begun, Asked, Again, Answered, Hinted, Brought, Turned, Ended, open_request, verdict_of, job_of, kept}
 use Rattle.master_spec.specs.Conversation.{answer_mark, extended, messages_if}
 use Rattle.master_spec.specs.declared.setups.Slave.{Slave}
@@ -25,7 +25,7 @@ use Rattle.master_spec.specs.declared.setups.Setup.{Setup}
 use Rattle.master_spec.specs.Setup.{jobs_of}
 
 -- a conversation: with whom, and all that happened in it
-pub record Talk : Type 0 where
+pub record CourseTalk : Type 0 where
   pub slave : Slave
   pub marks : List Mark
 
@@ -45,17 +45,17 @@ mark_for slave marks (Brings number id payload) =
 mark_for slave marks Nothing = None
 
 -- only what comes from its address concerns a slave
-abbrev pub mark_of_gram : Talk → Address → List ℕ → Option Mark
+abbrev pub mark_of_gram : CourseTalk → Address → List ℕ → Option Mark
 mark_of_gram talk from bytes = if same_address from talk.slave.address then mark_for talk.slave talk.marks (news_of bytes) else None
 
 -- the conversation after a mark, and what it sends
-abbrev pub marked : Limits → Talk → Option Mark → Talk
+abbrev pub marked : Limits → CourseTalk → Option Mark → CourseTalk
 marked limits talk m = record { slave = talk.slave; marks = extended limits m talk.marks }
 
 abbrev pub send_to : Address → List ℕ → Send
 send_to to bytes = record { to = to; bytes = bytes }
 
-abbrev pub sends_after : Limits → Talk → Option Mark → List Send
+abbrev pub sends_after : Limits → CourseTalk → Option Mark → List Send
 sends_after limits talk m = map (send_to talk.slave.address) (messages_if limits talk.slave.id m talk.marks)
 
 -- ---- all conversations
@@ -64,19 +64,19 @@ pub record Course : Type 0 where
   -- how many phases have begun
   pub phase : ℕ
   -- one conversation for each slave, by number
-  pub talks : List Talk
+  pub talks : List CourseTalk
   -- the rows counted so far: the outputs by slave and then by port
   pub rows : List (List ℤ)
   pub report : Option Report
   -- what the newest event sent, in order
   pub sent : List Send
 
-abbrev pub fresh : Slave → Talk
-fresh slave = record { slave = slave; marks = [] }
+abbrev pub fresh_talk : Slave → CourseTalk
+fresh_talk slave = record { slave = slave; marks = [] }
 
 -- before the first event
 abbrev pub begin : Setup → Course
-begin setup = record { phase = 0; talks = map fresh setup.slaves; rows = []; report = None; sent = [] }
+begin setup = record { phase = 0; talks = map fresh_talk setup.slaves; rows = []; report = None; sent = [] }
 
 abbrev pub is_settled_as : Verdict → Bool
 is_settled_as verdicts.Going = false
@@ -88,14 +88,14 @@ is_passed_as verdicts.Going = false
 is_passed_as verdicts.Passed = true
 is_passed_as (verdicts.Ended cause) = false
 
-abbrev pub is_settled : Talk → Bool
+abbrev pub is_settled : CourseTalk → Bool
 is_settled talk = is_settled_as (verdict_of talk.marks)
 
-abbrev pub has_passed : Talk → Bool
+abbrev pub has_passed : CourseTalk → Bool
 has_passed talk = is_passed_as (verdict_of talk.marks)
 
 -- it has ended, or has passed with no request open
-abbrev pub is_quiet : Talk → Bool
+abbrev pub is_quiet : CourseTalk → Bool
 is_quiet talk = is_settled talk && not (has_passed talk && is_some (open_request talk.marks))
 
 -- the values of a payload, each in its type's width
@@ -104,26 +104,26 @@ values_in [] payload = []
 values_in (kind ∷ kinds) payload = value_in kind (take (width kind) payload) ∷ values_in kinds (drop (width kind) payload)
 
 -- the outputs of a slave in a row
-abbrev pub outputs_in : ℕ → Talk → List ℤ
-outputs_in row talk = values_in talk.slave.types (unwrap_or (kept row talk.marks) [])
+abbrev pub talk_outputs : ℕ → CourseTalk → List ℤ
+talk_outputs row talk = values_in talk.slave.types (unwrap_or (kept row talk.marks) [])
 
 abbrev pub row_in_job : Option Job → Option ℕ
 row_in_job None = None
-row_in_job (Some job) = row_of job.task
+row_in_job (Some job) = task_row job.task
 
 -- the row of the present phase, which is the same for all
-abbrev pub row_now : List Talk → Option ℕ
+abbrev pub row_now : List CourseTalk → Option ℕ
 row_now [] = None
 row_now (talk ∷ talks) = row_in_job (job_of talk.marks)
 
 -- a row counts once all have passed its phase together, and then it stays counted
-abbrev pub counted_at : Option ℕ → List Talk → List (List ℤ) → List (List ℤ)
+abbrev pub counted_at : Option ℕ → List CourseTalk → List (List ℤ) → List (List ℤ)
 counted_at None talks rows = rows
 counted_at (Some row) talks rows =
-    if (length rows == row) && list_all has_passed talks then rows ++ flat_map (outputs_in row) talks ∷ [] else rows
+    if (length rows == row) && list_all has_passed talks then rows ++ flat_map (talk_outputs row) talks ∷ [] else rows
 
-abbrev pub counted : List Talk → List (List ℤ) → List (List ℤ)
-counted talks rows = counted_at (row_now talks) talks rows
+abbrev pub counted_rows : List CourseTalk → List (List ℤ) → List (List ℤ)
+counted_rows talks rows = counted_at (row_now talks) talks rows
 
 -- ---- a datagram: each conversation takes what is for it
 
@@ -133,7 +133,7 @@ after_gram setup from bytes c =
     record {
       phase = c.phase;
       talks = talks;
-      rows = counted talks c.rows;
+      rows = counted_rows talks c.rows;
       report = c.report;
       sent = flat_map (λ talk. sends_after setup.limits talk (mark_of_gram talk from bytes)) c.talks;
     }
@@ -146,7 +146,7 @@ failed_by phase slave (verdicts.Ended cause) rest = Some (reports.Failed slave.i
 failed_by phase slave verdicts.Passed rest = rest
 failed_by phase slave verdicts.Going rest = rest
 
-abbrev pub failed : ℕ → List Talk → Option Report
+abbrev pub failed : ℕ → List CourseTalk → Option Report
 failed phase [] = None
 failed phase (talk ∷ talks) = failed_by phase talk.slave (verdict_of talk.marks) (failed phase talks)
 
@@ -155,8 +155,8 @@ abbrev pub begun_with : Option Job → Option Mark
 begun_with None = None
 begun_with (Some job) = Some (Begun job)
 
-abbrev pub begun : Setup → ℕ → Talk → Option Mark
-begun setup phase talk = begun_with (slice_get (jobs_of setup talk.slave) (phase - 1))
+abbrev pub task_begun : Setup → ℕ → CourseTalk → Option Mark
+task_begun setup phase talk = begun_with (slice_get (jobs_of setup talk.slave) (phase - 1))
 
 -- how many phases there are: as many as each slave has jobs
 abbrev pub phases : Setup → ℕ
@@ -166,10 +166,10 @@ phases setup = 1 + setup.runs * (8 + 2 * setup.steps)
 abbrev pub with_next : Setup → Course → Course
 with_next setup c = record {
   phase = c.phase + 1;
-  talks = map (λ talk. marked setup.limits talk (begun setup (c.phase + 1) talk)) c.talks;
+  talks = map (λ talk. marked setup.limits talk (task_begun setup (c.phase + 1) talk)) c.talks;
   rows = c.rows;
   report = c.report;
-  sent = c.sent ++ flat_map (λ talk. sends_after setup.limits talk (begun setup (c.phase + 1) talk)) c.talks;
+  sent = c.sent ++ flat_map (λ talk. sends_after setup.limits talk (task_begun setup (c.phase + 1) talk)) c.talks;
 }
 
 abbrev pub with_report : Course → Report → Course
@@ -187,7 +187,7 @@ with_turns setup settled c =
     record {
       phase = c.phase;
       talks = talks;
-      rows = counted talks c.rows;
+      rows = counted_rows talks c.rows;
       report = c.report;
       sent = flat_map (λ talk. sends_after setup.limits talk (Some (Turned settled))) c.talks;
     }
@@ -196,24 +196,24 @@ abbrev pub decided_if : Setup → Bool → Course → Course
 decided_if setup false c = c
 decided_if setup true c = decided setup c (failed c.phase c.talks)
 
-abbrev pub turned : Setup → Course → Course
-turned setup c = decided_if setup (list_all is_quiet c.talks) c
+abbrev pub course_turned : Setup → Course → Course
+course_turned setup c = decided_if setup (list_all is_quiet c.talks) c
 
 -- the same, with nothing sent
 abbrev pub still : Course → Course
 still c = record { phase = c.phase; talks = c.talks; rows = c.rows; report = c.report; sent = [] }
 
 -- Phase 1 begins on the first turn.
-abbrev pub after_turn : Setup → Course → Course
-after_turn setup c =
+abbrev pub course_after_turn : Setup → Course → Course
+course_after_turn setup c =
     if c.phase == 0 then with_next setup (still c)
-    else turned setup (with_turns setup (list_all is_settled c.talks) c)
+    else course_turned setup (with_turns setup (list_all is_settled c.talks) c)
 
 -- ---- any event; after the report nothing happens
 
 unfoldable pub step : Setup → Event → Course → Course
 step setup (Gram from bytes) c = if is_some c.report then still c else after_gram setup from bytes c
-step setup Tick c = if is_some c.report then still c else after_turn setup c
+step setup Tick c = if is_some c.report then still c else course_after_turn setup c
 
 -- the master after these events, the newest first
 abbrev pub course : Setup → List Event → Course
@@ -221,7 +221,7 @@ course setup [] = begin setup
 course setup (event ∷ events) = step setup event (course setup events)
 
 -- the turns that began without a report
-abbrev pub turns : Setup → List Event → ℕ
-turns setup [] = 0
-turns setup (Gram from bytes ∷ events) = turns setup events
-turns setup (Tick ∷ events) = if is_some (course setup events).report then turns setup events else turns setup events + 1
+abbrev pub master_turns : Setup → List Event → ℕ
+master_turns setup [] = 0
+master_turns setup (Gram from bytes ∷ events) = master_turns setup events
+master_turns setup (Tick ∷ events) = if is_some (course setup events).report then master_turns setup events else master_turns setup events + 1

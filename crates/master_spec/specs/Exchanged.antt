@@ -45,7 +45,7 @@ Brings setup log slave number place =
     (e : LogEntry) × (entry_at log place ≡ Some e) × IsTrue (brings_outputs setup.address slave number (payload_size slave.types) e)
 
 -- step k of run r with one slave: the step, the state COMPUTED, the outputs, the state RUNNING, and the values at the master
-pub record Exchange (setup : Setup) (log : List LogEntry) (slave : Slave) (r k : ℕ) : Type 0 where
+pub record StepExchange (setup : Setup) (log : List LogEntry) (slave : Slave) (r k : ℕ) : Type 0 where
   pub step : Asking
   pub stepped : ℕ
   pub computed : Asking
@@ -72,12 +72,12 @@ pub record Exchange (setup : Setup) (log : List LogEntry) (slave : Slave) (r k :
   pub fourth : told_computed < came
 
 -- where the exchange ends: the state RUNNING was told, and the values have come
-abbrev pub IsEndedBefore : (setup : Setup) (log : List LogEntry) (slave : Slave) (r k : ℕ) → Exchange setup log slave r k → ℕ → Type 0
+abbrev pub IsEndedBefore : (setup : Setup) (log : List LogEntry) (slave : Slave) (r k : ℕ) → StepExchange setup log slave r k → ℕ → Type 0
 IsEndedBefore setup log slave r k x place = (x.told_running < place) × (x.came < place)
 
 -- step k of run r with all slaves
 pub record Exchanged (setup : Setup) (log : List LogEntry) (r k : ℕ) : Type 0 where
-  pub each : (slave : Slave) → IsIn setup slave → Exchange setup log slave r k
+  pub each : (slave : Slave) → IsIn setup slave → StepExchange setup log slave r k
   -- all have computed before any is asked for its outputs
   pub computed : (s t : Slave) (i : IsIn setup s) (j : IsIn setup t) → (each s i).told_computed < (each t j).outputs.first
   -- all have sent their outputs before any is asked for a step, or to stop, after them

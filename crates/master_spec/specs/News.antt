@@ -14,19 +14,19 @@ use Rattle.master_spec.specs.declared.requests.Answer.{Answer}
 use Rattle.master_spec.specs.declared.requests.Answer.TheVariants.{Ack, Nack, StateAck, ErrorAck, LogAck}
 
 -- the type code of an answer, and the code of the state that it names, 255 where it names none
-abbrev pub type_of : Answer → ℕ
-type_of Ack = 176
-type_of (Nack code) = 177
-type_of (StateAck state) = 178
-type_of (ErrorAck code) = 179
-type_of LogAck = 180
+abbrev pub type_in_answer : Answer → ℕ
+type_in_answer Ack = 176
+type_in_answer (Nack code) = 177
+type_in_answer (StateAck state) = 178
+type_in_answer (ErrorAck code) = 179
+type_in_answer LogAck = 180
 
-abbrev pub state_of : Answer → ℕ
-state_of Ack = 255
-state_of (Nack code) = 255
-state_of (StateAck state) = state
-state_of (ErrorAck code) = 255
-state_of LogAck = 255
+abbrev pub state_in_answer : Answer → ℕ
+state_in_answer Ack = 255
+state_in_answer (Nack code) = 255
+state_in_answer (StateAck state) = state
+state_in_answer (ErrorAck code) = 255
+state_in_answer LogAck = 255
 
 -- an answer, the notice of a new state, values under a data id, or what does not count
 pub data News : Type 0 where
@@ -59,9 +59,9 @@ abbrev pub hints : List FieldValue → News
 hints (Number sender ∷ Number state ∷ []) = Hints sender
 hints _ = Nothing
 
-abbrev pub brings : List FieldValue → News
-brings (Number number ∷ Number id ∷ Bytes payload ∷ []) = Brings number id payload
-brings _ = Nothing
+abbrev pub news_brought : List FieldValue → News
+news_brought (Number number ∷ Number id ∷ Bytes payload ∷ []) = Brings number id payload
+news_brought _ = Nothing
 
 -- by the type code
 abbrev pub news_by : ℕ → List FieldValue → News
@@ -72,7 +72,7 @@ news_by code values =
     else if code == 179 then error_acks values
     else if code == 180 then log_acks values
     else if code == 224 then hints values
-    else if code == 240 then brings values
+    else if code == 240 then news_brought values
     else Nothing
 
 abbrev pub news_in : Option Message → News
@@ -91,5 +91,5 @@ pdu_of number id AskState = pdu.Inf number id inf.State
 pdu_of number id AskError = pdu.Inf number id inf.Error
 
 -- its bytes
-unfoldable pub bytes_of : (number id : ℕ) → Request → List ℕ
-bytes_of number id request = spelling (message_of (pdu_of number id request))
+unfoldable pub request_bytes : (number id : ℕ) → Request → List ℕ
+request_bytes number id request = spelling (message_of (pdu_of number id request))

@@ -14,11 +14,11 @@ sends_at setup events event = (course setup (event ∷ reverse events)).sent
 abbrev pub is_over_after : Setup → List Event → Bool
 is_over_after setup events = is_some (course setup (reverse events)).report
 
-abbrev pub rules_from : Setup → Rules
-rules_from setup = record { place = setup.address; sends = sends_at setup; over = is_over_after setup }
+abbrev pub master_rules_from : Setup → Rules
+master_rules_from setup = record { place = setup.address; sends = sends_at setup; over = is_over_after setup }
 
 abbrev pub master_rules : Scenario → Rules
-master_rules sc = rules_from (setup_from sc)
+master_rules sc = master_rules_from (setup_from sc)
 
 -- The master's datagrams, turns and sends in a log are its events, each followed by what the rules send at it.
 abbrev pub MasterRun : Scenario → List LogEntry → Type 0

@@ -6,10 +6,10 @@ use Rattle.master_spec.specs.declared.tasks.Task.{Task}
 use Rattle.master_spec.specs.declared.tasks.Task.TheVariants as tasks
 use Rattle.master_spec.specs.declared.causes.Cause.{Cause}
 use Rattle.master_spec.specs.declared.causes.Cause.TheVariants as causes
-use Rattle.master_spec.specs.Tasks.{target_of, passing_of, row_of, step_of}
+use Rattle.master_spec.specs.Tasks.{target_of, passing_of, task_row, task_step}
 use Rattle.master_spec.specs.declared.requests.Answer.{Answer}
 use Rattle.master_spec.specs.declared.requests.Answer.TheVariants.{Ack, Nack, StateAck, ErrorAck}
-use Rattle.master_spec.specs.News.{type_of, state_of}
+use Rattle.master_spec.specs.News.{type_in_answer, state_in_answer}
 use Rattle.master_spec.specs.Marks.{is_missing}
 use Rattle.master_spec.specs.Conversation.{is_error, is_state}
 use Rattle.master_spec.specs.declared.setups.Slave.{Slave}
@@ -98,8 +98,8 @@ pub record MissesInputs (setup : Setup) (log : List LogEntry) (task : Task) (r :
 
 pub record MissesOutputs (setup : Setup) (log : List LogEntry) (slave : Slave) (task : Task) (r : Asking) (earlier : List Asking) (k : ℕ) : Type 0 where
   pub row : ℕ
-  pub row_is : row_of task ≡ Some row
-  pub step : step_of task ≡ k
+  pub row_is : task_row task ≡ Some row
+  pub step : task_step task ≡ k
   pub asks_state : IsTrue (is_state_question r)
   pub place : ℕ
   pub state : ℕ
@@ -133,7 +133,7 @@ pub record IsFaulted (r : Asking) (earlier : List Asking) (c : ℕ) : Type 0 whe
   pub named : IsDecided question at (StateAck state)
   pub error : IsTrue (is_error state)
 
-pub record IsRefused (r : Asking) (c : ℕ) : Type 0 where
+pub record IsRefusedAsking (r : Asking) (c : ℕ) : Type 0 where
   pub place : ℕ
   pub told : IsDecided r place (Nack c)
   pub other : IsFalse (is_step r && is_missing c)
@@ -142,13 +142,13 @@ pub record IsUnexpected (task : Task) (r : Asking) (earlier : List Asking) (y t 
   pub place : ℕ
   pub answer : Answer
   pub told : IsDecided r place answer
-  pub type_is : type_of answer ≡ y
-  pub state_is : state_of answer ≡ t
+  pub type_is : type_in_answer answer ≡ y
+  pub state_is : state_in_answer answer ≡ t
   pub unfit : IsFalse (fits_answer task r earlier answer)
 
 abbrev pub ShownBy : Setup → List LogEntry → Slave → Task → Asking → List Asking → Cause → Type 0
 ShownBy setup log slave task r earlier (causes.NoAnswer q) = (r.number ≡ q) × IsUnanswered setup log r
-ShownBy setup log slave task r earlier (causes.Refused q c) = (r.number ≡ q) × IsRefused r c
+ShownBy setup log slave task r earlier (causes.Refused q c) = (r.number ≡ q) × IsRefusedAsking r c
 ShownBy setup log slave task r earlier (causes.InputsMissing q k) = (r.number ≡ q) × MissesInputs setup log task r earlier k
 ShownBy setup log slave task r earlier (causes.DataMissing k) = MissesOutputs setup log slave task r earlier k
 ShownBy setup log slave task r earlier (causes.Stuck q t) = (r.number ≡ q) × IsStuck setup log task r earlier t

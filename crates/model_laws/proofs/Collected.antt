@@ -18,12 +18,12 @@ use Rattle.log_spec.specs.Log.{Parties, IsSlaveOf, Values, in_channel, values_se
 use Rattle.log_spec.specs.Moves.{decided_exchanges}
 use Rattle.log_spec.proofs.Moves.{Came, comes_in}
 use Rattle.lockstep_laws.specs.Steps.{shown_after, view}
-use Rattle.lockstep_laws.specs.Cast.{Slaves}
+use Rattle.lockstep_laws.specs.Cast.{ConversingSlaves}
 use Rattle.lockstep_laws.specs.Runs.{AreSlaves, Behaves}
 use Rattle.lockstep_laws.proofs.Conversation.{earlier, drop_later}
 use Rattle.lockstep_laws.proofs.Places.{Ahead, ahead}
 use Rattle.model_laws.specs.Ordinals.{ordinals_in_run, row_of_ordinal, ordinal_at, ordinals_below}
-use Rattle.model_laws.specs.Machines.{Machines, AreMachines, IsRight, carried, run_at, step_at}
+use Rattle.model_laws.specs.Machines.{Machines, AreMachines, IsRightNote, carried, run_at, step_at}
 use Rattle.model_laws.specs.Collecting.{Collector, Watched, row_by, NextRow, Collects}
 use Rattle.model_laws.specs.Laws.{RowsAreFront, FinishedIsWhole}
 use Rattle.model_laws.proofs.Values.{sends_values}
@@ -95,7 +95,7 @@ shown_near p done events a b c d = by (cases_lt events (2 * p + 1))
     by (inl lt) = inl (omega (arith, lt, a, c))
     by (inr ge) = inr (omega (arith, ge, b, d))
 
-module _ (w : Parties) (x : Slaves) (m : Machines) (c : Collector) (ok : AreSlaves w x) (are : AreMachines w x m) (rows : List (List ℤ)) (fault : Option RefFault) (ref : IsReference m.sc rows fault) (whole : List LogEntry) (col : Collects w x m c whole) where
+module _ (w : Parties) (x : ConversingSlaves) (m : Machines) (c : Collector) (ok : AreSlaves w x) (are : AreMachines w x m) (rows : List (List ℤ)) (fault : Option RefFault) (ref : IsReference m.sc rows fault) (whole : List LogEntry) (col : Collects w x m c whole) where
   events_near : (log : List LogEntry) → Behaves w x log → (s : ℕ) → IsSlaveOf w s → ((view (decided_exchanges w s log)).done ≤ (x.bench s log).events) × ((x.bench s log).events ≤ (view (decided_exchanges w s log)).done + 1)
   events_near log b s is = by (ahead w x ok log b s is)
     where
@@ -103,7 +103,7 @@ module _ (w : Parties) (x : Slaves) (m : Machines) (c : Collector) (ok : AreSlav
       by (inl e) = (omega (arith, e), omega (arith, e))
       by (inr p) = (omega (arith, p.0), omega (arith, p.0))
 
-  watched_right : (p s : ℕ) (log : List LogEntry) (n : Note) → IsSlaveOf w s → Behaves w x log → Watched w c p s log n → IsRight x m rows (c.watch s) p n
+  watched_right : (p s : ℕ) (log : List LogEntry) (n : Note) → IsSlaveOf w s → Behaves w x log → Watched w c p s log n → IsRightNote x m rows (c.watch s) p n
   watched_right p s log n is b wa =
       let id = c.watch s in
       let S : ℕ → Type 0 = IsSlaveOf w in
@@ -131,7 +131,7 @@ module _ (w : Parties) (x : Slaves) (m : Machines) (c : Collector) (ok : AreSlav
           subst Q (sym same) (shown_near p (view (decided_exchanges w s log)).done (x.bench s log).events begun awaited e.0 e.1)
 
   -- what the master reads in it is what the slave shows in row p
-  part_right : (p s : ℕ) (n : Note) → IsSlaveOf w s → IsRight x m rows (c.watch s) p n → (p < length rows) × (shown m.sc rows s (m.desc s) (run_at x.steps p) (step_at x.steps p) ≡ Ok (c.back s (carried n)))
+  part_right : (p s : ℕ) (n : Note) → IsSlaveOf w s → IsRightNote x m rows (c.watch s) p n → (p < length rows) × (shown m.sc rows s (m.desc s) (run_at x.steps p) (step_at x.steps p) ≡ Ok (c.back s (carried n)))
   part_right p s n is r =
       let row : row_of_ordinal x.steps (m.q (c.watch s)) p ≡ p = ap (λ q. row_of_ordinal x.steps q p) (col.each s is) ∙ row_one x.steps p in
       let P : ℕ → ℕ → Type 0 = λ t j. shown m.sc rows t (m.desc t) (run_at x.steps j) (step_at x.steps j) ≡ Ok r.values in
@@ -206,8 +206,8 @@ module _ (w : Parties) (x : Slaves) (m : Machines) (c : Collector) (ok : AreSlav
       by None h = (sym (f.1 ∙ ap (λ l. c.rows log ++ l) (nothing f.0 (omega (arith, sum, many, h))) ∙ append-nil (c.rows log)), refl)
       by (Some g) h = let lt = within_all m.sc g.run g.step h.moment in absurd (omega (arith, lt, h.behind, many, sum))
 
-pub collected : (w : Parties) (x : Slaves) (m : Machines) (c : Collector) → AreSlaves w x → AreMachines w x m → (rows : List (List ℤ)) (fault : Option RefFault) → IsReference m.sc rows fault → (later log : List LogEntry) → Behaves w x (later ++ log) → Collects w x m c (later ++ log) → RowsAreFront c rows log
+pub collected : (w : Parties) (x : ConversingSlaves) (m : Machines) (c : Collector) → AreSlaves w x → AreMachines w x m → (rows : List (List ℤ)) (fault : Option RefFault) → IsReference m.sc rows fault → (later log : List LogEntry) → Behaves w x (later ++ log) → Collects w x m c (later ++ log) → RowsAreFront c rows log
 collected w x m c ok are rows fault ref later log b col = front w x m c ok are rows fault ref (later ++ log) col are.some later log refl (drop_later w x ok later log b)
 
-pub finished : (w : Parties) (x : Slaves) (m : Machines) (c : Collector) → AreSlaves w x → AreMachines w x m → (rows : List (List ℤ)) (fault : Option RefFault) → IsReference m.sc rows fault → (later log : List LogEntry) → Behaves w x (later ++ log) → Collects w x m c (later ++ log) → FinishedIsWhole c rows fault log
+pub finished : (w : Parties) (x : ConversingSlaves) (m : Machines) (c : Collector) → AreSlaves w x → AreMachines w x m → (rows : List (List ℤ)) (fault : Option RefFault) → IsReference m.sc rows fault → (later log : List LogEntry) → Behaves w x (later ++ log) → Collects w x m c (later ++ log) → FinishedIsWhole c rows fault log
 finished w x m c ok are rows fault ref later log b col = all_rows w x m c ok are rows fault ref (later ++ log) col are.some later log refl (drop_later w x ok later log b)

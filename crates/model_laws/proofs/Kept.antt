@@ -12,7 +12,7 @@ use Rattle.log_spec.proofs.Channel.{IsAt, kept_by}
 use Rattle.log_spec.proofs.Moves.{Came, MoveMay, honest_move, comes_in}
 use Rattle.lockstep_laws.specs.Slaves.{Post}
 use Rattle.lockstep_laws.specs.Steps.{Bench, shown_after}
-use Rattle.lockstep_laws.specs.Cast.{Slaves}
+use Rattle.lockstep_laws.specs.Cast.{ConversingSlaves}
 use Rattle.lockstep_laws.specs.Runs.{AreSlaves, Behaves}
 use Rattle.lockstep_laws.proofs.Conversation.{earlier}
 use Rattle.lockstep_laws.proofs.Places.{fits, events_together}
@@ -48,7 +48,7 @@ wanted_is n sent' owed many here i num o w = grind arith
 near : (m n : ℕ) → m ≤ n + 1 → n ≤ m + 1 → (m / 2 ≤ (n + 1) / 2) × ((n + 1) / 2 ≤ m / 2 + 1)
 near m n h k = (omega (arith, h, k), omega (arith, h, k))
 
-module _ (w : Parties) (x : Slaves) (ok : AreSlaves w x) (m : Machines) (are : AreMachines w x m) where
+module _ (w : Parties) (x : ConversingSlaves) (ok : AreSlaves w x) (m : Machines) (are : AreMachines w x m) where
   arrives : (log : List LogEntry) → Behaves w x log → (s : ℕ) → IsSlaveOf w s → (from : Address) (id : ℕ) (n : Note) → IsSlaveOf w (m.from id) → Came w log (w.slave s) from (Value id n) → n.number ≡ ordinal_here x m id (x.bench s log) % 65536
       → at_ordinal (values_sent w id log) (ordinal_here x m id (x.bench s log)) ≡ Some n
   arrives log b s is from id n own came num =

@@ -6,17 +6,17 @@ use Rattle.std.proofs.lemmas.Bool.{eqb-true}
 use Rattle.std.proofs.lemmas.Nat.{div-add-mod'}
 use Rattle.dcp_types.specs.declared.addresses.Address.{Address}
 use Rattle.lockstep.specs.declared.references.RefFault.{RefFault}
-use Rattle.lockstep.specs.Lockstep.{state, state_after, shown, shown_at, IsReference}
+use Rattle.lockstep.specs.Lockstep.{state, model_state_after, shown, shown_at, IsReference}
 use Rattle.log_spec.specs.Messages.{Note, value_of_id}
 use Rattle.log_spec.specs.Channel.{by_ordinal, at_ordinal}
 use Rattle.dcp_ends.specs.declared.entries.LogEntry.{LogEntry}
-use Rattle.log_spec.specs.Log.{Parties, IsSlaveOf, role_heard, Values, sends_in, values_sent, requests_sent, Decision}
+use Rattle.log_spec.specs.Log.{Parties, IsSlaveOf, role_heard, Values, sends_in, values_sent, requests_sent, DecidedRequest}
 use Rattle.log_spec.specs.Moves.{Move, Asks, Comes, Tells, Hears, Brings, Turns, Rests, Other, move, decided_exchanges}
 use Rattle.log_spec.proofs.Channel.{grown_next}
 use Rattle.log_spec.proofs.Moves.{told}
-use Rattle.lockstep_laws.specs.Slaves.{Post, Desk, tail, IsFirst, SlaveMay, Serves}
+use Rattle.lockstep_laws.specs.Slaves.{Post, Desk, tail, IsFirstPost, SlaveMay, ServesNote}
 use Rattle.lockstep_laws.specs.Steps.{RowEvent, Show, Step, place_after, shown_after, run_after, Told, Begins, Does, Rested, Nothing, told_of, view, Bench, TakesOn, StepsOn, HasTurn}
-use Rattle.lockstep_laws.specs.Cast.{Slaves}
+use Rattle.lockstep_laws.specs.Cast.{ConversingSlaves}
 use Rattle.lockstep_laws.specs.Runs.{AreSlaves, Behaves}
 use Rattle.lockstep_laws.specs.Works.{Works}
 use Rattle.lockstep_laws.proofs.Conversation.{earlier, known}
@@ -24,7 +24,7 @@ use Rattle.lockstep_laws.proofs.Barrier.{UnderWay, together, Goes, Leasts, goes}
 use Rattle.lockstep_laws.proofs.Places.{fits, busy_is, show_is}
 use Rattle.lockstep_laws.proofs.Asking.{asked_in_order}
 use Rattle.model_laws.specs.Ordinals.{row_of_ordinal, ordinals_below}
-use Rattle.model_laws.specs.Machines.{Store, Machines, values_owed, step_at, carried, IsRight, ordinal_here, Emits, AtTurn, Keeps, IsAskedInOrder, AreMachines}
+use Rattle.model_laws.specs.Machines.{Store, Machines, values_owed, step_at, carried, IsRightNote, ordinal_here, Emits, AtTurn, Keeps, IsAskedInOrder, AreMachines}
 use Rattle.model_laws.proofs.EachQth.{row_is}
 use Rattle.model_laws.proofs.Values.{OwesValue, owes_value, Sends, first_value, in_order, values_by_move, sends_values, below_due}
 use Rattle.model_laws.proofs.Kept.{kept_as_sent}
@@ -50,7 +50,7 @@ Moves' b c = StepsOn b c ⊎ ((c.steps ≡ 0) ⊎ ((c.steps ≡ b.steps) × (c.r
 same_moves : (b c : Bench) → c ≡ b → Moves' b c
 same_moves b c e = inr (inr (ap (λ z. z.steps) e, ap (λ z. z.resets) e))
 
-moves_by : (mv : Move) (es es' : List Decision) (b c : Bench) → Works mv es es' b c → Moves' b c
+moves_by : (mv : Move) (es es' : List DecidedRequest) (b c : Bench) → Works mv es es' b c → Moves' b c
 moves_by (Asks n) es es' b c h = same_moves b c h
 moves_by (Comes from receiver n) es es' b c (inl h) = inr (inr (h.1.steps, h.1.resets))
 moves_by (Comes from receiver n) es es' b c (inr h) = inr (take_moves (told_of h.0) b c h.2)
@@ -68,14 +68,14 @@ moves_by Other es es' b c h = same_moves b c h
 whole : (n q : ℕ) → n % q ≡ 0 → q * (n / q) ≡ n
 whole n q e = let d = div-add-mod' n q in let c : q * (n / q) ≡ n / q * q = omega arith in omega (arith, d, e, c)
 
-module _ (w : Parties) (x : Slaves) (ok : AreSlaves w x) (m : Machines) (are : AreMachines w x m) (rows : List (List ℤ)) (fault : Option RefFault) (ref : IsReference m.sc rows fault) where
+module _ (w : Parties) (x : ConversingSlaves) (ok : AreSlaves w x) (m : Machines) (are : AreMachines w x m) (rows : List (List ℤ)) (fault : Option RefFault) (ref : IsReference m.sc rows fault) where
   -- ---- what was sent, and what is owed
   abbrev pub SentRight : ℕ → List Note → Type 0
-  SentRight id sent' = (o : ℕ) (n : Note) → at_ordinal sent' o ≡ Some n → IsRight x m rows id o n
+  SentRight id sent' = (o : ℕ) (n : Note) → at_ordinal sent' o ≡ Some n → IsRightNote x m rows id o n
 
   abbrev pub AllRight : ℕ → ℕ → List Note → Type 0
   AllRight id o [] = Unit {0}
-  AllRight id o (v ∷ vs) = IsRight x m rows id o v × AllRight id o vs
+  AllRight id o (v ∷ vs) = IsRightNote x m rows id o v × AllRight id o vs
 
   pub record Lock (log : List LogEntry) : Type 0 where
     pub rows' : Rows w x ok m are rows fault ref log
@@ -112,7 +112,7 @@ module _ (w : Parties) (x : Slaves) (ok : AreSlaves w x) (m : Machines) (are : A
         let n = (x.bench s log).steps in
         let here = stands_busy log before l s is Step st.under_way in
         let on = (are.holds s is).steps e log order st rows ref.each (at_most m.sc rows fault ref.ends) (λ id f k q. l.sent id (are.feeds s id f) k.ordinal k.note (kept_as_sent w x ok m are log before s is id (are.feeds s id f) k q)) in
-        let next : state m.sc rows s (m.desc s) r (suc n) ≡ Ok (m.store s (e ∷ log)).model = ap (state_after m.sc rows s (m.desc s) r n) here ∙ on in
+        let next : state m.sc rows s (m.desc s) r (suc n) ≡ Ok (m.store s (e ∷ log)).model = ap (model_state_after m.sc rows s (m.desc s) r n) here ∙ on in
         let one : suc n ≡ (x.bench s (e ∷ log)).steps = omega (arith, st.steps) in
         let P : ℕ → ℕ → Type 0 = λ a i. state m.sc rows s (m.desc s) (a + 1) i ≡ Ok (m.store s (e ∷ log)).model in
         subst (λ a. P a (x.bench s (e ∷ log)).steps) (sym st.resets) (subst (λ i. P (x.bench s log).resets i) one next)
@@ -182,7 +182,7 @@ module _ (w : Parties) (x : Slaves) (ok : AreSlaves w x) (m : Machines) (are : A
     s = m.from id
 
     right_here : (posts : List Post) (n : Note) → (x.bench s log).busy ≡ Some Show → (x.bench s log).steps % m.q id ≡ 0 → n.number ≡ ordinal_here x m id (x.bench s log) % 65536
-        → (vs : List ℤ) → shown_at m.sc s (m.desc s) ((x.bench s log).resets + 1) (Ok (m.store s log).model) ≡ Ok vs → carried n ≡ m.payload id vs → IsRight x m rows id (ordinal_here x m id (x.bench s log)) n
+        → (vs : List ℤ) → shown_at m.sc s (m.desc s) ((x.bench s log).resets + 1) (Ok (m.store s log).model) ≡ Ok vs → carried n ≡ m.payload id vs → IsRightNote x m rows id (ordinal_here x m id (x.bench s log)) n
     right_here posts n busy due num vs shows carries =
         let c = x.bench s log in
         let f = fits w x ok log b s is in
@@ -205,7 +205,7 @@ module _ (w : Parties) (x : Slaves) (ok : AreSlaves w x) (m : Machines) (are : A
     none_right : (o : ℕ) (notes : List Note) → notes ≡ [] → AllRight id o notes
     none_right o notes e = let P : List Note → Type 0 = AllRight id o in subst P (sym e) tt
 
-    one_right : (o : ℕ) (n : Note) (notes : List Note) → notes ≡ n ∷ [] → IsRight x m rows id o n → AllRight id o notes
+    one_right : (o : ℕ) (n : Note) (notes : List Note) → notes ≡ n ∷ [] → IsRightNote x m rows id o n → AllRight id o notes
     one_right o n notes e r = let P : List Note → Type 0 = AllRight id o in subst P (sym e) (r, tt)
 
     shows_right : (posts : List Post) → (x.desk s log).owed ≡ [] → (x.bench s log).busy ≡ Some Show → Emits w x m s id (x.bench s log) (m.store s log) posts → AllRight id (length (values_sent w id log)) (values_owed w id posts)
@@ -222,7 +222,7 @@ module _ (w : Parties) (x : Slaves) (ok : AreSlaves w x) (m : Machines) (are : A
             let len : length (values_sent w id log) ≡ ordinals_below x.steps (m.q id) (shown_after (x.bench s log).events) = subst Q none v.owes in
             let same = len ∙ below_due w x m s id refl (are.q id) (x.bench s log) f.placed even z in
             let r = right_here posts d.0 busy z d.2 (d.3).0 (d.3).1 (d.3).2 in
-            let P : ℕ → Type 0 = λ o. IsRight x m rows id o d.0 in
+            let P : ℕ → Type 0 = λ o. IsRightNote x m rows id o d.0 in
             one_right (length (values_sent w id log)) d.0 (values_owed w id posts) d.1 (subst P (sym same) r)
 
     turn_right : (c : Bench) (v : Store) (posts : List Post) → (x.desk s log).owed ≡ [] → HasTurn (x.bench s log) c → AtTurn w x m s (x.bench s log) c (m.store s log) v posts → AllRight id (length (values_sent w id log)) (values_owed w id posts)
@@ -235,13 +235,13 @@ module _ (w : Parties) (x : Slaves) (ok : AreSlaves w x) (m : Machines) (are : A
     moved_right o o' ns ns' e f h = let P : ℕ → List Note → Type 0 = AllRight id in subst (λ k. P k ns') (sym e) (subst (λ l. P o l) (sym f) h)
 
     -- the message that is told is the one that was owed
-    sent_one : (v : Note) (sent' : List Note) → IsRight x m rows id (length sent') v → SentRight id sent' → SentRight id (v ∷ sent')
+    sent_one : (v : Note) (sent' : List Note) → IsRightNote x m rows id (length sent') v → SentRight id sent' → SentRight id (v ∷ sent')
     sent_one v sent' r h o n at = by (o == length sent') refl at
       where
         P : ℕ → Note → Type 0
-        P i k = IsRight x m rows id i k
+        P i k = IsRightNote x m rows id i k
 
-        by : (c : Bool) → (o == length sent') ≡ c → (if c then Some v else at_ordinal sent' o) ≡ Some n → IsRight x m rows id o n
+        by : (c : Bool) → (o == length sent') ≡ c → (if c then Some v else at_ordinal sent' o) ≡ Some n → IsRightNote x m rows id o n
         by true e q = let same : v ≡ n = cc in let z = eqb-true o (length sent') e in subst (λ i. P i n) (sym z) (subst (λ k. P (length sent') k) same r)
         by false e q = h o n q
 
@@ -257,7 +257,7 @@ module _ (w : Parties) (x : Slaves) (ok : AreSlaves w x) (m : Machines) (are : A
     abbrev Both : Move → Desk → Type 0
     Both mv d = SentRight id (by_ordinal (cons_option (told (λ y. value_of_id id (role_heard w y)) mv) (sends_in w (Values id) log))) × AllRight id (length (by_ordinal (cons_option (told (λ y. value_of_id id (role_heard w y)) mv) (sends_in w (Values id) log)))) (values_owed w id d.owed)
 
-    tells_both : (to : Address) (bytes : List ℕ) (d : Desk) → IsFirst (x.desk s log).owed to bytes → d.owed ≡ tail (x.desk s log).owed → Both (Tells to bytes) d
+    tells_both : (to : Address) (bytes : List ℕ) (d : Desk) → IsFirstPost (x.desk s log).owed to bytes → d.owed ≡ tail (x.desk s log).owed → Both (Tells to bytes) d
     tells_both to bytes d first rest =
         let f = first_value w id to bytes (x.desk s log).owed first in
         let many = ordinals_below x.steps (m.q id) (shown_after (x.bench s log).events) in
@@ -273,7 +273,7 @@ module _ (w : Parties) (x : Slaves) (ok : AreSlaves w x) (m : Machines) (are : A
     quiet_both : (d : Desk) → values_owed w id d.owed ≡ [] → SentRight id (values_sent w id log) × AllRight id (length (values_sent w id log)) (values_owed w id d.owed)
     quiet_both d e = (l.sent id is, none_right (length (values_sent w id log)) (values_owed w id d.owed) e)
 
-    pub both_step : (accepts : Note → Bool) (mv : Move) (d : Desk) (c : Bench) (v : Store) → SlaveMay mv (x.desk s log).owed → Serves w accepts mv (x.desk s log) d → Works mv (x.desk s log).served d.served (x.bench s log) c → Keeps w x m s mv (x.bench s log) c (m.store s log) v d.owed → Both mv d
+    pub both_step : (accepts : Note → Bool) (mv : Move) (d : Desk) (c : Bench) (v : Store) → SlaveMay mv (x.desk s log).owed → ServesNote w accepts mv (x.desk s log) d → Works mv (x.desk s log).served d.served (x.bench s log) c → Keeps w x m s mv (x.bench s log) c (m.store s log) v d.owed → Both mv d
     both_step accepts (Asks n) d c v may sv wk k = same_both d sv
     both_step accepts (Comes from receiver n) d c v may sv wk k = quiet_both d (k.0 id)
     both_step accepts (Tells to bytes) d c v may sv wk k = tells_both to bytes d may sv.1

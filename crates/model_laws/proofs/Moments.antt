@@ -15,12 +15,12 @@ use Rattle.log_spec.specs.Log.{Parties, IsSlaveOf, same, role_heard, Values, in_
 use Rattle.log_spec.specs.Moves.{Move, Tells, Other, sent_move}
 use Rattle.log_spec.proofs.Channel.{tops, IsTop}
 use Rattle.log_spec.proofs.Moves.{same_self}
-use Rattle.lockstep_laws.specs.Slaves.{tail, IsFirst, SlaveMay}
-use Rattle.lockstep_laws.specs.Cast.{Slaves}
+use Rattle.lockstep_laws.specs.Slaves.{tail, IsFirstPost, SlaveMay}
+use Rattle.lockstep_laws.specs.Cast.{ConversingSlaves}
 use Rattle.lockstep_laws.specs.Runs.{AreSlaves, Behaves}
 use Rattle.lockstep_laws.proofs.Conversation.{earlier, drop_later}
 use Rattle.model_laws.specs.Machines.{Machines, AreMachines, values_owed}
-use Rattle.model_laws.specs.Laws.{ModelsStand, IsOwn, DataCarryRows, StepsOnRows}
+use Rattle.model_laws.specs.Laws.{ModelsStand, IsOwnNote, DataCarryRows, StepsOnRows}
 use Rattle.model_laws.proofs.Values.{in_order, sends_values, first_value, value_part}
 use Rattle.model_laws.proofs.Kept.{kept_as_sent}
 use Rattle.model_laws.proofs.Lockstep.{lock}
@@ -29,7 +29,7 @@ use Rattle.model_laws.proofs.SetUp.{stepped_tuned}
 newest_at : (n : Note) (rs : List Note) → (top : IsTop n rs) → at_ordinal rs (length rs - 1) ≡ Some n
 newest_at n rs top = grind (arith, nat_tests)
 
-module _ (w : Parties) (x : Slaves) (m : Machines) (ok : AreSlaves w x) (are : AreMachines w x m) (rows : List (List ℤ)) (fault : Option RefFault) (ref : IsReference m.sc rows fault) where
+module _ (w : Parties) (x : ConversingSlaves) (m : Machines) (ok : AreSlaves w x) (are : AreMachines w x m) (rows : List (List ℤ)) (fault : Option RefFault) (ref : IsReference m.sc rows fault) where
   pub models : (later log : List LogEntry) → Behaves w x (later ++ log) → ModelsStand w x m rows log
   models later log b s is =
       let h = drop_later w x ok later log b in
@@ -60,7 +60,7 @@ module _ (w : Parties) (x : Slaves) (m : Machines) (ok : AreSlaves w x) (are : A
           let before = earlier w x ok (Sent from to bytes) log b in
           let may = (b.slaves t it).0 in
           let P : Move → Type 0 = λ mv. SlaveMay mv (x.desk t log).owed in
-          let first : IsFirst (x.desk t log).owed to bytes = subst P (ap (sent_move w t from to bytes) e ∙ tells_value t from to bytes id n q) may in
+          let first : IsFirstPost (x.desk t log).owed to bytes = subst P (ap (sent_move w t from to bytes) e ∙ tells_value t from to bytes id n q) may in
           let none = (are.holds t it).own log (in_order w x ok m are log before t it) id (eqb-false (m.from id) t z) in
           let full = sym (first_value w id to bytes (x.desk t log).owed first ∙ ap (λ k. cons_option (value_of_id id k) (values_owed w id (tail (x.desk t log).owed))) e) ∙ none in
           absurd (never (values_owed w id (tail (x.desk t log).owed)) full)
@@ -69,7 +69,7 @@ module _ (w : Parties) (x : Slaves) (m : Machines) (ok : AreSlaves w x) (are : A
       by (inl h) = let r = b.asks.0 h in absurd (clash r.0 r.1 (sym e ∙ r.2))
       by (inr t) = (t.0, t.1, t.2, own t.0 t.1 t.2 (m.from id == t.0) refl)
 
-  data_at : (log : List LogEntry) (from to : Address) (bytes : List ℕ) (id : ℕ) (n : Note) → Behaves w x (Sent from to bytes ∷ log) → role_heard w bytes ≡ Value id n → IsOwn w x m rows from id (length (values_sent w id (Sent from to bytes ∷ log)) - 1) n
+  data_at : (log : List LogEntry) (from to : Address) (bytes : List ℕ) (id : ℕ) (n : Note) → Behaves w x (Sent from to bytes ∷ log) → role_heard w bytes ≡ Value id n → IsOwnNote w x m rows from id (length (values_sent w id (Sent from to bytes ∷ log)) - 1) n
   data_at log from to bytes id n b e =
       let t = sender log from to bytes id n b e in
       let S : ℕ → Type 0 = IsSlaveOf w in

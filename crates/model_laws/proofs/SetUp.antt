@@ -3,8 +3,8 @@ use Rattle.std.proofs.Common.{◌≡◌, ℕ, ◌+◌, ◌-◌, ◌*◌, ◌/◌
 use Rattle.std.proofs.lemmas.Nat.{div-add-mod', mod-mul-add}
 use Rattle.dcp_ends.specs.declared.entries.LogEntry.{LogEntry}
 use Rattle.log_spec.specs.Log.{Parties, IsSlaveOf}
-use Rattle.lockstep_laws.specs.Steps.{place_after, run_after, Progress, view, Bench}
-use Rattle.lockstep_laws.specs.Cast.{Slaves}
+use Rattle.lockstep_laws.specs.Steps.{place_after, run_after, BenchProgress, view, Bench}
+use Rattle.lockstep_laws.specs.Cast.{ConversingSlaves}
 use Rattle.lockstep_laws.specs.Runs.{AreSlaves, Behaves}
 use Rattle.lockstep_laws.proofs.Local.{Counts}
 use Rattle.lockstep_laws.proofs.Places.{fits}
@@ -35,13 +35,13 @@ same_run d a n events done is pos le (inr e) = by (near (done / 2) (events / 2) 
     by (inl h) = ap (λ k. k + 1) (run_of_place d a n (done / 2) (h ∙ is) le).0
     by (inr h) = ap (λ k. k + 1) (run_of_place d a (n - 1) (done / 2) (omega (arith, h, is, pos)) (omega (arith, le))).0
 
-begun_by : (d a n : ℕ) (v : Progress) (b : Bench) → place_after b.events ≡ a * (d + 1) + n → 0 < n → n ≤ d → Counts d v b → Begun d v × ((b.events ≡ v.done) ⊎ (b.events ≡ v.done + 1))
+begun_by : (d a n : ℕ) (v : BenchProgress) (b : Bench) → place_after b.events ≡ a * (d + 1) + n → 0 < n → n ≤ d → Counts d v b → Begun d v × ((b.events ≡ v.done) ⊎ (b.events ≡ v.done + 1))
 begun_by d a n v b is pos le (inl c) = (inr (λ z. not_first d a n v.done (ap (λ k. k / 2) (sym c.2) ∙ is) pos le z), inl c.2)
 begun_by d a n v b is pos le (inr (inl c)) = (inl c.0, inl c.2)
 begun_by d a n v b is pos le (inr (inr (inl c))) = (inl c.0, inr c.2)
 begun_by d a n v b is pos le (inr (inr (inr c))) = (inl c.0, inl c.2)
 
-pub stepped_tuned : (w : Parties) (x : Slaves) (ok : AreSlaves w x) (m : Machines) → AreMachines w x m → (log : List LogEntry) → Behaves w x log → (s : ℕ) → IsSlaveOf w s → 0 < (x.bench s log).steps → m.tuned s ((x.bench s log).resets + 1) (x.desk s log).served ≡ true
+pub stepped_tuned : (w : Parties) (x : ConversingSlaves) (ok : AreSlaves w x) (m : Machines) → AreMachines w x m → (log : List LogEntry) → Behaves w x log → (s : ℕ) → IsSlaveOf w s → 0 < (x.bench s log).steps → m.tuned s ((x.bench s log).resets + 1) (x.desk s log).served ≡ true
 stepped_tuned w x ok m are log b s is pos =
     let f = fits w x ok log b s is in
     let c = x.bench s log in

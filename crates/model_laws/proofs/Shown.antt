@@ -10,15 +10,15 @@ use Rattle.slave_desc.specs.declared.descriptions.SlaveDesc.{SlaveDesc}
 use Rattle.scenario.specs.declared.scenarios.Scenario.{Scenario}
 use Rattle.lockstep.specs.declared.references.RefFault.{RefFault}
 use Rattle.scenario.specs.Settings.{parameters}
-use Rattle.lockstep.specs.Lockstep.{row_index, inputs, state, state_after, shown, shown_at, IsMoment, IsReference}
+use Rattle.lockstep.specs.Lockstep.{row_index, inputs, state, model_state_after, shown, shown_at, IsMoment, IsReference}
 use Rattle.log_spec.specs.Messages.{Note}
 use Rattle.dcp_ends.specs.declared.entries.LogEntry.{LogEntry}
-use Rattle.log_spec.specs.Log.{Parties, IsSlaveOf, requests_sent, Decision}
+use Rattle.log_spec.specs.Log.{Parties, IsSlaveOf, requests_sent, DecidedRequest}
 use Rattle.log_spec.specs.Moves.{decided_exchanges}
-use Rattle.lockstep_laws.specs.Steps.{RowEvent, row_event_at, place_after, shown_after, run_after, Reply, reply_of, event_asked, Told, told_by, told_of, Progress, view_after, view, Bench}
-use Rattle.lockstep_laws.specs.Cast.{Slaves}
+use Rattle.lockstep_laws.specs.Steps.{RowEvent, row_event_at, place_after, shown_after, run_after, Reply, reply_of, event_asked, Told, told_by, told_of, BenchProgress, view_after, view, Bench}
+use Rattle.lockstep_laws.specs.Cast.{ConversingSlaves}
 use Rattle.lockstep_laws.specs.Runs.{AreSlaves, Behaves}
-use Rattle.lockstep_laws.specs.Asked.{Asked}
+use Rattle.lockstep_laws.specs.Asked.{AskedAsPlanned}
 use Rattle.lockstep_laws.specs.Master.{IsLeast}
 use Rattle.lockstep_laws.proofs.Talk.{Behind, requests_of, taken_length}
 use Rattle.lockstep_laws.proofs.Conversation.{known}
@@ -31,7 +31,7 @@ use Rattle.model_laws.proofs.Values.{in_order}
 use Rattle.model_laws.proofs.Exists.{AllShow, all_show, row_exists, step_fits, run_of_place, place_is, step_below}
 
 -- a view only grows
-view_grows : (t : Told) (v : Progress) → v.done ≤ (view_after t v).done
+view_grows : (t : Told) (v : BenchProgress) → v.done ≤ (view_after t v).done
 view_grows t v = grind arith
 
 -- a state shows its outputs where they fit
@@ -42,31 +42,31 @@ fit_shows sc s d r y h = (outputs d.kind (parameters sc s d r) y, by (all_fit (m
     by b e = cond-true b (Ok (outputs d.kind (parameters sc s d r) y)) (Err OutOfRange) e
 
 -- a state that a step reached shows its outputs
-reached_by : (sc : Scenario) (rows : List (List ℤ)) (s : ℕ) (d : SlaveDesc) (r k : ℕ) (y : List ℤ) (before : Result (List ℤ) FaultCode) → state_after sc rows s d r k before ≡ Ok y → (vs : List ℤ) × (shown_at sc s d r (Ok y) ≡ Ok vs)
+reached_by : (sc : Scenario) (rows : List (List ℤ)) (s : ℕ) (d : SlaveDesc) (r k : ℕ) (y : List ℤ) (before : Result (List ℤ) FaultCode) → model_state_after sc rows s d r k before ≡ Ok y → (vs : List ℤ) × (shown_at sc s d r (Ok y) ≡ Ok vs)
 reached_by sc rows s d r k y (Ok z) h = fit_shows sc s d r y (step_fits d.kind (parameters sc s d r) (map (λ p. p.kind) d.outputs) z (inputs sc rows s d r k) sc.micro y h)
 reached_by sc rows s d r k y (Err c) h = absurd cc
 
 -- an event under way at the slave is under way to the master
-under_told : (steps : ℕ) (q : Option RowEvent) (p : Reply) (v : Progress) (b : Bench) (k : RowEvent) → (IsEvent q → (v.waiting ≡ false) × (q ≡ Some (row_event_at steps v.done))) → b.busy ≡ Some k → Counts steps (view_after (told_by q p) v) b → (b.events ≡ v.done) × ((v.waiting ≡ true) ⊎ IsEvent q)
+under_told : (steps : ℕ) (q : Option RowEvent) (p : Reply) (v : BenchProgress) (b : Bench) (k : RowEvent) → (IsEvent q → (v.waiting ≡ false) × (q ≡ Some (row_event_at steps v.done))) → b.busy ≡ Some k → Counts steps (view_after (told_by q p) v) b → (b.events ≡ v.done) × ((v.waiting ≡ true) ⊎ IsEvent q)
 under_told steps q p v b k h busy c = grind arith
 
-pub under_same : (steps : ℕ) (v : Progress) (b : Bench) (k : RowEvent) → b.busy ≡ Some k → Counts steps v b → (b.events ≡ v.done) × (v.waiting ≡ true)
+pub under_same : (steps : ℕ) (v : BenchProgress) (b : Bench) (k : RowEvent) → b.busy ≡ Some k → Counts steps v b → (b.events ≡ v.done) × (v.waiting ≡ true)
 under_same steps v b k busy c = grind arith
 
-pub under_way_of : (steps : ℕ) (rs : List Note) (ds served : List Decision) (b : Bench) (k : RowEvent) → Behind (requests_of served) rs → Behind ds served → length rs ≤ length ds + 1 → Alone steps rs ds → b.busy ≡ Some k → Counts steps (view served) b → (b.events ≡ (view ds).done) × UnderWay rs ds
+pub under_way_of : (steps : ℕ) (rs : List Note) (ds served : List DecidedRequest) (b : Bench) (k : RowEvent) → Behind (requests_of served) rs → Behind ds served → length rs ≤ length ds + 1 → Alone steps rs ds → b.busy ≡ Some k → Counts steps (view served) b → (b.events ≡ (view ds).done) × UnderWay rs ds
 under_way_of steps rs ds served b k t (inl e) le alone busy c =
-    let P : List Decision → Type 0 = λ es. Counts steps (view es) b in
+    let P : List DecidedRequest → Type 0 = λ es. Counts steps (view es) b in
     let h = under_same steps (view ds) b k busy (subst P (sym e) c) in
     (h.0, inl h.1)
 under_way_of steps rs ds served b k t (inr p) le alone busy c =
     let y = p.0 in
-    let Q : List Decision → Type 0 = λ es. Behind (requests_of es) rs in
+    let Q : List DecidedRequest → Type 0 = λ es. Behind (requests_of es) rs in
     let o = open_newest y rs ds (taken_length ds) (subst Q p.1 t) le in
-    let P : List Decision → Type 0 = λ es. Counts steps (view es) b in
+    let P : List DecidedRequest → Type 0 = λ es. Counts steps (view es) b in
     let h = under_told steps (event_asked y.request) (reply_of y.answer) (view ds) b k (newest_event steps y rs ds (taken_length ds) o alone) busy (subst P p.1 c) in
     (h.0, by y o h.1)
   where
-    by : (y : Decision) → rs ≡ y.request ∷ requests_of ds → ((view ds).waiting ≡ true) ⊎ IsEvent (event_asked y.request) → UnderWay rs ds
+    by : (y : DecidedRequest) → rs ≡ y.request ∷ requests_of ds → ((view ds).waiting ≡ true) ⊎ IsEvent (event_asked y.request) → UnderWay rs ds
     by y o (inl wait) = inl wait
     by y o (inr ev) = inr (record { one = ap length o ∙ omega (arith, taken_length ds); event = first rs o ev })
       where
@@ -89,7 +89,7 @@ half_odd e odd = by (cases_lt 0 (e % 2))
 place_near : (j e : ℕ) → j % 2 ≡ 0 → j ≤ e → e ≤ j + 1 → e / 2 ≡ j / 2
 place_near j e even h k = omega (arith, even, h, k)
 
-module _ (w : Parties) (x : Slaves) (ok : AreSlaves w x) (m : Machines) (are : AreMachines w x m) (rows : List (List ℤ)) (fault : Option RefFault) (ref : IsReference m.sc rows fault) where
+module _ (w : Parties) (x : ConversingSlaves) (ok : AreSlaves w x) (m : Machines) (are : AreMachines w x m) (rows : List (List ℤ)) (fault : Option RefFault) (ref : IsReference m.sc rows fault) where
   -- where the model of slave s stands: once a step of the run was taken, or once it is tuned for the run
   abbrev pub StandsAt : ℕ → List LogEntry → Type 0
   StandsAt s log = (0 < (x.bench s log).steps) ⊎ (m.tuned s ((x.bench s log).resets + 1) (x.desk s log).served ≡ true)
@@ -125,21 +125,21 @@ module _ (w : Parties) (x : Slaves) (ok : AreSlaves w x) (m : Machines) (are : A
     run_is : (t : ℕ) → IsSlaveOf w t → run_after x.steps j ≡ (x.bench t log).resets + 1
     run_is t it = ap (λ a. a + 1) (place_parts t it).0
 
-    served_done : (steps : ℕ) (v : Progress) (c : Bench) → Counts steps v c → (v.done ≤ c.events) × (c.events ≤ v.done + 1)
+    served_done : (steps : ℕ) (v : BenchProgress) (c : Bench) → Counts steps v c → (v.done ≤ c.events) × (c.events ≤ v.done + 1)
     served_done steps v c n = grind arith
 
     opened_served : (t : ℕ) → IsSlaveOf w t → (r : ℕ) → run_after x.steps j ≡ r → x.opened t r (decided_exchanges w t log) ≡ true → x.opened t r (x.desk t log).served ≡ true
     opened_served t it r e o = by ((known w x ok t it log b).talk.decided)
       where
         by : Behind (decided_exchanges w t log) (x.desk t log).served → x.opened t r (x.desk t log).served ≡ true
-        by (inl q) = let P : List Decision → Type 0 = λ es. x.opened t r es ≡ true in subst P q o
+        by (inl q) = let P : List DecidedRequest → Type 0 = λ es. x.opened t r es ≡ true in subst P q o
         by (inr p) =
             let y = p.0 in
-            let P : List Decision → Type 0 = λ es. x.opened t r es ≡ true in
-            let Q : List Decision → Type 0 = Asked (x.may t) in
+            let P : List DecidedRequest → Type 0 = λ es. x.opened t r es ≡ true in
+            let Q : List DecidedRequest → Type 0 = AskedAsPlanned (x.may t) in
             let asked' = subst Q p.1 (asked_in_order w x ok t it log b) in
             let n = events_near t it in
-            let C : List Decision → Type 0 = λ es. Counts x.steps (view es) (x.bench t log) in
+            let C : List DecidedRequest → Type 0 = λ es. Counts x.steps (view es) (x.bench t log) in
             let d = served_done x.steps (view (y ∷ decided_exchanges w t log)) (x.bench t log) (subst C p.1 (fits w x ok log b t it).counts) in
             let g = view_grows (told_of y) (view (decided_exchanges w t log)) in
             let before = place_near j (view (decided_exchanges w t log)).done even (least.least t it) (omega (arith, g, d.0, n.1)) in

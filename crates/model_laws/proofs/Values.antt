@@ -8,13 +8,13 @@ use Rattle.log_spec.specs.Messages.{Note, Role, Request, Answer, Value, Else, va
 use Rattle.log_spec.specs.Channel.{by_ordinal, IsRegularChannel}
 use Rattle.dcp_ends.specs.declared.entries.LogEntry.{LogEntry}
 use Rattle.dcp_ends.specs.declared.entries.LogEntry.TheVariants.{Sent, Got, Idle, Turn}
-use Rattle.log_spec.specs.Log.{Parties, IsSlaveOf, same, role_heard, Values, in_channel, sent_in, sends_in, Decision}
+use Rattle.log_spec.specs.Log.{Parties, IsSlaveOf, same, role_heard, Values, in_channel, sent_in, sends_in, DecidedRequest}
 use Rattle.log_spec.specs.Moves.{Move, Asks, Comes, Tells, Hears, Brings, Turns, Rests, Other, sent_move, got_move, move}
 use Rattle.log_spec.proofs.Channel.{grown_next}
 use Rattle.log_spec.proofs.Moves.{same_self, told}
-use Rattle.lockstep_laws.specs.Slaves.{Post, Desk, tail, IsFirst, SlaveMay, Serves}
-use Rattle.lockstep_laws.specs.Steps.{Show, Step, Bench, Idles, Shows, HasTurn, TakesOn, shown_after, row_event_at, told_of, Told, Begins, Does, Rested, Nothing, Progress, view}
-use Rattle.lockstep_laws.specs.Cast.{Slaves}
+use Rattle.lockstep_laws.specs.Slaves.{Post, Desk, tail, IsFirstPost, SlaveMay, ServesNote}
+use Rattle.lockstep_laws.specs.Steps.{Show, Step, Bench, Idles, BenchShows, HasTurn, TakesOn, shown_after, row_event_at, told_of, Told, Begins, Does, Rested, Nothing, BenchProgress, view}
+use Rattle.lockstep_laws.specs.Cast.{ConversingSlaves}
 use Rattle.lockstep_laws.specs.Runs.{AreSlaves, Behaves}
 use Rattle.lockstep_laws.specs.Works.{Works}
 use Rattle.lockstep_laws.proofs.Conversation.{earlier}
@@ -61,19 +61,19 @@ emits_one ns v many many' num more h =
     let l : length (by_ordinal ns) ≡ many = h.owes in
     record { regular = h.regular; owes = (omega (arith, l, more), num ∙ ap (λ k. k % 65536) (sym l)) }
 
-pub first_value : (w : Parties) (id : ℕ) (to : Address) (bytes : List ℕ) (owed : List Post) → IsFirst owed to bytes → values_owed w id owed ≡ cons_option (value_of_id id (role_heard w bytes)) (values_owed w id (tail owed))
+pub first_value : (w : Parties) (id : ℕ) (to : Address) (bytes : List ℕ) (owed : List Post) → IsFirstPost owed to bytes → values_owed w id owed ≡ cons_option (value_of_id id (role_heard w bytes)) (values_owed w id (tail owed))
 first_value w id to bytes [] f = absurd f
 first_value w id to bytes (p ∷ ps) f = ap (λ k. cons_option k (values_owed w id ps)) (ap (λ b. value_of_id id (role_heard w b)) f.1)
 
 -- no slave tells data of an id that is not its own
-not_first : (w : Parties) (id i : ℕ) (n : Note) (to : Address) (bytes : List ℕ) (owed : List Post) → IsFirst owed to bytes → values_owed w id owed ≡ [] → role_heard w bytes ≡ Value i n → None ≡ value_of_id id (Value i n)
+not_first : (w : Parties) (id i : ℕ) (n : Note) (to : Address) (bytes : List ℕ) (owed : List Post) → IsFirstPost owed to bytes → values_owed w id owed ≡ [] → role_heard w bytes ≡ Value i n → None ≡ value_of_id id (Value i n)
 not_first w id i n to bytes owed f none e = by (i == id) (sym (first_value w id to bytes owed f ∙ ap (λ k. cons_option (value_of_id id k) (values_owed w id (tail owed))) e) ∙ none)
   where
     by : (b : Bool) → cons_option (if b then Some n else None) (values_owed w id (tail owed)) ≡ [] → None ≡ (if b then Some n else None)
     by true h = absurd cc
     by false h = refl
 
-module _ (w : Parties) (x : Slaves) (ok : AreSlaves w x) (m : Machines) (are : AreMachines w x m) where
+module _ (w : Parties) (x : ConversingSlaves) (ok : AreSlaves w x) (m : Machines) (are : AreMachines w x m) where
   pub in_order : (log : List LogEntry) → Behaves w x log → (s : ℕ) → IsSlaveOf w s → IsAskedInOrder w x s log
   in_order log b s is = record { run = b.slaves s is; asked = asked_in_order w x ok s is log b }
 
@@ -195,17 +195,17 @@ even_more e even = omega (arith, even)
 even_now : (e : ℕ) → e % 2 ≡ 0 → (e + 1) / 2 ≡ e / 2
 even_now e even = omega (arith, even)
 
-take_shown : (steps : ℕ) (t : Told) (v : Progress) (b c : Bench) → IsInTurn steps t v → TakesOn t b c → Counts steps v b → shown_after c.events ≡ shown_after b.events
+take_shown : (steps : ℕ) (t : Told) (v : BenchProgress) (b c : Bench) → IsInTurn steps t v → TakesOn t b c → Counts steps v b → shown_after c.events ≡ shown_after b.events
 take_shown steps (Begins k) v b c i h n = ap shown_after h.events
 take_shown steps Does v b c i h n = let odd = restart_is steps b.events (i ∙ ap (row_event_at steps) (sym (free_counted steps v b h.free h.sound n))) in ap shown_after h.events ∙ odd_same b.events odd.0
 take_shown steps Rested v b c i h n = ap shown_after h.idles.events
 take_shown steps Nothing v b c i h n = ap shown_after h.events
 
-comes_shown : (steps : ℕ) (es es' : List Decision) (b c : Bench) → InTurn steps es' → ((es' ≡ es) × Idles b c) ⊎ ((x : Decision) × (es' ≡ x ∷ es) × TakesOn (told_of x) b c) → Counts steps (view es) b → shown_after c.events ≡ shown_after b.events
+comes_shown : (steps : ℕ) (es es' : List DecidedRequest) (b c : Bench) → InTurn steps es' → ((es' ≡ es) × Idles b c) ⊎ ((x : DecidedRequest) × (es' ≡ x ∷ es) × TakesOn (told_of x) b c) → Counts steps (view es) b → shown_after c.events ≡ shown_after b.events
 comes_shown steps es es' b c i (inl h) n = ap shown_after h.1.events
-comes_shown steps es es' b c i (inr h) n = let Q : List Decision → Type 0 = InTurn steps in take_shown steps (told_of h.0) (view es) b c (subst Q h.1 i).0 h.2 n
+comes_shown steps es es' b c i (inr h) n = let Q : List DecidedRequest → Type 0 = InTurn steps in take_shown steps (told_of h.0) (view es) b c (subst Q h.1 i).0 h.2 n
 
-module _ (w : Parties) (x : Slaves) (m : Machines) (s id : ℕ) (own : m.from id ≡ s) (pos : 0 < m.q id) where
+module _ (w : Parties) (x : ConversingSlaves) (m : Machines) (s id : ℕ) (own : m.from id ≡ s) (pos : 0 < m.q id) where
   abbrev many : Bench → ℕ
   many b = ordinals_below x.steps (m.q id) (shown_after b.events)
 
@@ -227,7 +227,7 @@ module _ (w : Parties) (x : Slaves) (m : Machines) (s id : ℕ) (own : m.from id
       let s : shown_after c.events ≡ b.resets * (x.steps + 1) + b.steps + 1 = ap shown_after e ∙ even_more b.events even ∙ ap (λ k. k + 1) p.is in
       ap (ordinals_below x.steps (m.q id)) s ∙ count_next x.steps (m.q id) (b.resets * (x.steps + 1) + b.steps) ∙ ap (λ k. k + 1) (ordinal_is x.steps (m.q id) b.resets b.steps pos p.most)
 
-  shows_row : (ns : List Note) (posts posts' : List Post) (b c : Bench) (u : Store) → posts ≡ [] → Placed x.steps b → Show ≡ row_event_at x.steps b.events → Shows b c → Emits w x m s id b u posts' → Sends ns (values_owed w id posts) (many b) → Sends ns (values_owed w id posts') (many c)
+  shows_row : (ns : List Note) (posts posts' : List Post) (b c : Bench) (u : Store) → posts ≡ [] → Placed x.steps b → Show ≡ row_event_at x.steps b.events → BenchShows b c → Emits w x m s id b u posts' → Sends ns (values_owed w id posts) (many b) → Sends ns (values_owed w id posts') (many c)
   shows_row ns posts posts' b c u none p k h em sends' = by (b.steps % m.q id) refl
     where
       even : b.events % 2 ≡ 0
@@ -250,7 +250,7 @@ module _ (w : Parties) (x : Slaves) (m : Machines) (s id : ℕ) (own : m.from id
           clash : (r : ℕ) → suc r ≡ 0 → ⊥
           clash r q = omega (arith, q)
 
-  turn_sends : (ns : List Note) (posts posts' : List Post) (es : List Decision) (b c : Bench) (u v : Store) → posts ≡ [] → Fits x.steps es b → HasTurn b c → AtTurn w x m s b c u v posts' → Sends ns (values_owed w id posts) (many b) → Sends ns (values_owed w id posts') (many c)
+  turn_sends : (ns : List Note) (posts posts' : List Post) (es : List DecidedRequest) (b c : Bench) (u v : Store) → posts ≡ [] → Fits x.steps es b → HasTurn b c → AtTurn w x m s b c u v posts' → Sends ns (values_owed w id posts) (many b) → Sends ns (values_owed w id posts') (many c)
   turn_sends ns posts posts' es b c u v none f (inl i) at h = quiet ns posts posts' b c none (at.quiet (inl i) id) (ap shown_after i.events) h
   turn_sends ns posts posts' es b c u v none f (inr (inl sh)) at h = shows_row ns posts posts' b c u none f.placed (busy_is x.steps Show (view es) b sh.under_way f.counts) sh (at.shows sh id own) h
   turn_sends ns posts posts' es b c u v none f (inr (inr (inl st))) at h =
@@ -261,13 +261,13 @@ module _ (w : Parties) (x : Slaves) (m : Machines) (s id : ℕ) (own : m.from id
   same_both : (ns : List Note) (d d' : Desk) (b c : Bench) → d' ≡ d → c ≡ b → Sends ns (values_owed w id d.owed) (many b) → Sends ns (values_owed w id d'.owed) (many c)
   same_both ns d d' b c e f h = same_sends ns (values_owed w id d.owed) (values_owed w id d'.owed) (many b) (many c) (ap (λ z. values_owed w id z.owed) e) (ap many f) h
 
-  tells_step : (to : Address) (bytes : List ℕ) (ns : List Note) (d d' : Desk) (b c : Bench) → IsFirst d.owed to bytes → d'.owed ≡ tail d.owed → c ≡ b → Sends ns (values_owed w id d.owed) (many b) → Sends (cons_option (value_of_id id (role_heard w bytes)) ns) (values_owed w id d'.owed) (many c)
+  tells_step : (to : Address) (bytes : List ℕ) (ns : List Note) (d d' : Desk) (b c : Bench) → IsFirstPost d.owed to bytes → d'.owed ≡ tail d.owed → c ≡ b → Sends ns (values_owed w id d.owed) (many b) → Sends (cons_option (value_of_id id (role_heard w bytes)) ns) (values_owed w id d'.owed) (many c)
   tells_step to bytes ns d d' b c first rest same' h =
       let moved = same_sends ns (values_owed w id d.owed) (cons_option (value_of_id id (role_heard w bytes)) (values_owed w id (tail d.owed))) (many b) (many b) (sym (first_value w id to bytes d.owed first)) refl h in
       let on = tells_value (value_of_id id (role_heard w bytes)) ns (values_owed w id (tail d.owed)) (many b) moved in
       same_sends (cons_option (value_of_id id (role_heard w bytes)) ns) (values_owed w id (tail d.owed)) (values_owed w id d'.owed) (many b) (many c) (ap (values_owed w id) rest) (ap many same') on
 
-  sends_step : (accepts : Note → Bool) (mv : Move) (ns : List Note) (d d' : Desk) (b c : Bench) (u v : Store) → InTurn x.steps d'.served → Fits x.steps d.served b → SlaveMay mv d.owed → Serves w accepts mv d d' → Works mv d.served d'.served b c → Keeps w x m s mv b c u v d'.owed
+  sends_step : (accepts : Note → Bool) (mv : Move) (ns : List Note) (d d' : Desk) (b c : Bench) (u v : Store) → InTurn x.steps d'.served → Fits x.steps d.served b → SlaveMay mv d.owed → ServesNote w accepts mv d d' → Works mv d.served d'.served b c → Keeps w x m s mv b c u v d'.owed
       → Sends ns (values_owed w id d.owed) (many b) → Sends (cons_option (told (λ y. value_of_id id (role_heard w y)) mv) ns) (values_owed w id d'.owed) (many c)
   sends_step accepts (Asks n) ns d d' b c u v i f may s' wk k h = same_both ns d d' b c s' wk h
   sends_step accepts (Comes from receiver n) ns d d' b c u v i f may s' wk k h = quiet ns d.owed d'.owed b c may (k.0 id) (comes_shown x.steps d.served d'.served b c i wk f.counts) h
@@ -278,7 +278,7 @@ module _ (w : Parties) (x : Slaves) (m : Machines) (s id : ℕ) (own : m.from id
   sends_step accepts Rests ns d d' b c u v i f may s' wk k h = quiet ns d.owed d'.owed b c may (k.0 id) (ap shown_after wk.events) h
   sends_step accepts Other ns d d' b c u v i f may s' wk k h = same_both ns d d' b c s' wk h
 
-module _ (w : Parties) (x : Slaves) (ok : AreSlaves w x) (m : Machines) (are : AreMachines w x m) (id : ℕ) (is : IsSlaveOf w (m.from id)) where
+module _ (w : Parties) (x : ConversingSlaves) (ok : AreSlaves w x) (m : Machines) (are : AreMachines w x m) (id : ℕ) (is : IsSlaveOf w (m.from id)) where
   abbrev pub SendsAt : List LogEntry → Type 0
   SendsAt log = Sends (sends_in w (Values id) log) (values_owed w id (x.desk (m.from id) log).owed) (ordinals_below x.steps (m.q id) (shown_after (x.bench (m.from id) log).events))
 

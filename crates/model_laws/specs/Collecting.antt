@@ -8,7 +8,7 @@ use Rattle.dcp_ends.specs.declared.entries.LogEntry.TheVariants.{Got}
 use Rattle.log_spec.specs.Log.{Parties, IsSlaveOf, role_heard}
 use Rattle.log_spec.specs.Moves.{decided_exchanges}
 use Rattle.lockstep_laws.specs.Steps.{view}
-use Rattle.lockstep_laws.specs.Cast.{Slaves}
+use Rattle.lockstep_laws.specs.Cast.{ConversingSlaves}
 use Rattle.model_laws.specs.Machines.{Machines, carried}
 
 pub record Collector : Type 0 where
@@ -41,7 +41,7 @@ pub record NextRow (w : Parties) (m : Machines) (c : Collector) (e : LogEntry) (
   pub is : c.rows (e ∷ log) ≡ c.rows log ++ row_by (λ s. c.back s (carried (notes s))) 1 m.sc.slaves ∷ []
 
 -- how the rows are collected at each moment of this log
-pub record Collects (w : Parties) (x : Slaves) (m : Machines) (c : Collector) (whole : List LogEntry) : Type 0 where
+pub record Collects (w : Parties) (x : ConversingSlaves) (m : Machines) (c : Collector) (whole : List LogEntry) : Type 0 where
   pub begins : c.rows [] ≡ []
   pub goes : (later log : List LogEntry) (e : LogEntry) → whole ≡ later ++ e ∷ log → (c.rows (e ∷ log) ≡ c.rows log) ⊎ NextRow w m c e log
   -- the run is finished with a row for the first outputs of each run and for each of its steps

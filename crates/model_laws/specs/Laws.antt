@@ -10,47 +10,47 @@ use Rattle.dcp_ends.specs.declared.entries.LogEntry.{LogEntry}
 use Rattle.dcp_ends.specs.declared.entries.LogEntry.TheVariants.{Sent}
 use Rattle.log_spec.specs.Log.{Parties, IsSlaveOf, role_heard, values_sent}
 use Rattle.lockstep_laws.specs.Steps.{StepsOn}
-use Rattle.lockstep_laws.specs.Cast.{Slaves}
+use Rattle.lockstep_laws.specs.Cast.{ConversingSlaves}
 use Rattle.lockstep_laws.specs.Runs.{AreSlaves, Behaves}
 use Rattle.model_laws.specs.Collecting.{Collector, Collects}
-use Rattle.model_laws.specs.Machines.{KeptNote, Machines, AreMachines, IsRight, ordinal_here}
+use Rattle.model_laws.specs.Machines.{KeptNote, Machines, AreMachines, IsRightNote, ordinal_here}
 
 -- at every moment of every log in which all behave, for the reference's rows
-abbrev pub AlwaysInRows : (Parties → Slaves → Machines → List (List ℤ) → List LogEntry → Type 0) → Type 0
-AlwaysInRows HoldsData = (w : Parties) (x : Slaves) (m : Machines) → AreSlaves w x → AreMachines w x m → (rows : List (List ℤ)) (fault : Option RefFault) → IsReference m.sc rows fault → (later log : List LogEntry) → Behaves w x (later ++ log) → HoldsData w x m rows log
+abbrev pub AlwaysInRows : (Parties → ConversingSlaves → Machines → List (List ℤ) → List LogEntry → Type 0) → Type 0
+AlwaysInRows HoldsData = (w : Parties) (x : ConversingSlaves) (m : Machines) → AreSlaves w x → AreMachines w x m → (rows : List (List ℤ)) (fault : Option RefFault) → IsReference m.sc rows fault → (later log : List LogEntry) → Behaves w x (later ++ log) → HoldsData w x m rows log
 
 -- A model stands where the reference has it, once the slave has what sets it up for the run; no step is taken before, and before the first step the model is at first.
-pub record ModelStands (x : Slaves) (m : Machines) (rows : List (List ℤ)) (log : List LogEntry) (s : ℕ) : Type 0 where
+pub record ModelStands (x : ConversingSlaves) (m : Machines) (rows : List (List ℤ)) (log : List LogEntry) (s : ℕ) : Type 0 where
   pub stands : (0 < (x.bench s log).steps) ⊎ (m.tuned s ((x.bench s log).resets + 1) (x.desk s log).served ≡ true)
       → state m.sc rows s (m.desc s) ((x.bench s log).resets + 1) (x.bench s log).steps ≡ Ok (m.store s log).model
   pub set_up : 0 < (x.bench s log).steps → m.tuned s ((x.bench s log).resets + 1) (x.desk s log).served ≡ true
   pub at_first : (x.bench s log).steps ≡ 0 → (ps : List ℤ) × ((m.store s log).model ≡ start (m.desc s).kind ps)
 
-abbrev pub ModelsStand : Parties → Slaves → Machines → List (List ℤ) → List LogEntry → Type 0
+abbrev pub ModelsStand : Parties → ConversingSlaves → Machines → List (List ℤ) → List LogEntry → Type 0
 ModelsStand w x m rows log = (s : ℕ) → IsSlaveOf w s → ModelStands x m rows log s
 
 -- a data message is of an id of its sender, and carries the row that its ordinal stands for
-pub record IsOwn (w : Parties) (x : Slaves) (m : Machines) (rows : List (List ℤ)) (from : Address) (id o : ℕ) (n : Note) : Type 0 where
+pub record IsOwnNote (w : Parties) (x : ConversingSlaves) (m : Machines) (rows : List (List ℤ)) (from : Address) (id o : ℕ) (n : Note) : Type 0 where
   pub slave : ℕ
   pub is : IsSlaveOf w slave
   pub sends : from ≡ w.slave slave
   pub owns : m.from id ≡ slave
-  pub right : IsRight x m rows id o n
+  pub right : IsRightNote x m rows id o n
 
 -- the ordinal of a send is how many ordinals there are with it, less one
-abbrev pub DataCarryRows : Parties → Slaves → Machines → List (List ℤ) → List LogEntry → Type 0
+abbrev pub DataCarryRows : Parties → ConversingSlaves → Machines → List (List ℤ) → List LogEntry → Type 0
 DataCarryRows w x m rows log = (later earlier : List LogEntry) (from to : Address) (bytes : List ℕ) (id : ℕ) (n : Note) → log ≡ later ++ Sent from to bytes ∷ earlier → role_heard w bytes ≡ Value id n
-    → IsOwn w x m rows from id (length (values_sent w id (Sent from to bytes ∷ earlier)) - 1) n
+    → IsOwnNote w x m rows from id (length (values_sent w id (Sent from to bytes ∷ earlier)) - 1) n
 
 -- what a slave steps on, under an id that feeds it, is what was sent under the ordinal that stands for its place
-pub record StepsOnSent (w : Parties) (x : Slaves) (m : Machines) (rows : List (List ℤ)) (log : List LogEntry) (s id : ℕ) : Type 0 where
+pub record StepsOnSent (w : Parties) (x : ConversingSlaves) (m : Machines) (rows : List (List ℤ)) (log : List LogEntry) (s id : ℕ) : Type 0 where
   pub kept : KeptNote
   pub is : (m.store s log).kept id ≡ Some kept
   pub ordinal : kept.ordinal ≡ ordinal_here x m id (x.bench s log)
   pub sent : at_ordinal (values_sent w id log) kept.ordinal ≡ Some kept.note
-  pub right : IsRight x m rows id kept.ordinal kept.note
+  pub right : IsRightNote x m rows id kept.ordinal kept.note
 
-abbrev pub StepsOnRows : Parties → Slaves → Machines → List (List ℤ) → List LogEntry → Type 0
+abbrev pub StepsOnRows : Parties → ConversingSlaves → Machines → List (List ℤ) → List LogEntry → Type 0
 StepsOnRows w x m rows log = (later earlier : List LogEntry) (e : LogEntry) → log ≡ later ++ e ∷ earlier → (s : ℕ) → IsSlaveOf w s → StepsOn (x.bench s earlier) (x.bench s (e ∷ earlier)) → (id : ℕ) → m.feeds s id ≡ true → StepsOnSent w x m rows earlier s id
 
 -- the master's rows are a front of the reference's
@@ -66,4 +66,4 @@ RowsAreFrontOf c rows fault log = RowsAreFront c rows log
 
 -- at every moment of every log in which all behave and the rows are collected so
 abbrev pub AlwaysCollected : (Collector → List (List ℤ) → Option RefFault → List LogEntry → Type 0) → Type 0
-AlwaysCollected HoldsData = (w : Parties) (x : Slaves) (m : Machines) (c : Collector) → AreSlaves w x → AreMachines w x m → (rows : List (List ℤ)) (fault : Option RefFault) → IsReference m.sc rows fault → (later log : List LogEntry) → Behaves w x (later ++ log) → Collects w x m c (later ++ log) → HoldsData c rows fault log
+AlwaysCollected HoldsData = (w : Parties) (x : ConversingSlaves) (m : Machines) (c : Collector) → AreSlaves w x → AreMachines w x m → (rows : List (List ℤ)) (fault : Option RefFault) → IsReference m.sc rows fault → (later log : List LogEntry) → Behaves w x (later ++ log) → Collects w x m c (later ++ log) → HoldsData c rows fault log

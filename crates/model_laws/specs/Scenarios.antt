@@ -14,10 +14,10 @@ abbrev pub parties_of : Scenario → (other : SlaveDesc) → (List ℕ → Optio
 parties_of sc other read = record { count = length sc.slaves; master = sc.master; slave = λ s. (slave_numbered sc other s).address; read = read }
 
 -- they are apart, there is one, and each is described by the scenario
-pub record AreOf (sc : Scenario) (other : SlaveDesc) (w : Parties) : Type 0 where
+pub record AreScenarioParties (sc : Scenario) (other : SlaveDesc) (w : Parties) : Type 0 where
   pub apart : PartiesApart w
   pub some : 0 < w.count
   pub desc : (s : ℕ) → IsSlaveOf w s → slice_get sc.slaves (s - 1) ≡ Some (slave_numbered sc other s)
 
 abbrev pub ScenarioHasParties : Type 0
-ScenarioHasParties = (sc : Scenario) (other : SlaveDesc) → IsScenario sc → (read : List ℕ → Option Message) → AreOf sc other (parties_of sc other read)
+ScenarioHasParties = (sc : Scenario) (other : SlaveDesc) → IsScenario sc → (read : List ℕ → Option Message) → AreScenarioParties sc other (parties_of sc other read)

@@ -18,7 +18,7 @@ use Rattle.net_world.specs.declared.mailboxes.Mailbox.{Mailbox}
 use Rattle.net_world.specs.declared.watches.Watch.{Watch}
 use Rattle.net_world.specs.Chances.{after_steps, generator_at, lags_by_chance, after_draws}
 use Rattle.net_world.specs.Deliveries.{all_placed, delivery, due, is_due_now, is_ready_for, is_young, lags, lags_by, waiting}
-use Rattle.net_world.specs.Lines.{end_named, line_for, line_names, seen_by, code_named}
+use Rattle.net_world.specs.Lines.{end_named, line_for, line_names, seen_by, line_code}
 use Rattle.net_world.specs.Mailboxes.{queue_of}
 use Rattle.net_world.specs.Messages.{is_call_of, is_message, is_from_end, messages, messages_from}
 use Rattle.net_world.specs.Queues.{AllShort, InOrder}
@@ -33,8 +33,8 @@ use Rattle.net_world.proofs.Kept.{Queues-later, Queues-sent, Queues-sent_other, 
 module _ (all : List Address) (calls : List LogEntry) (from to : Address) (bytes : List ℕ) where
   one_counted : (line : NetLine) → watch_counted all from bytes (watch_after all calls line) ≡ watch_after all (calls ++ Sent from to bytes ∷ []) line
   one_counted line =
-      let more = count_more (is_call_of all (end_named line) (code_named line)) calls (Sent from to bytes) in
-      elim (cases_Bool (is_from_end all (end_named line) (code_named line) from bytes)) [
+      let more = count_more (is_call_of all (end_named line) (line_code line)) calls (Sent from to bytes) in
+      elim (cases_Bool (is_from_end all (end_named line) (line_code line) from bytes)) [
         | inl named ↦ rw (more, named) refl
         | inr other ↦ rw (more, other, add-zero) refl
       ]
@@ -53,8 +53,8 @@ same_counts : (all : List Address) (calls : List LogEntry) (call : LogEntry) →
     → map (watch_after all calls) lines ≡ map (watch_after all (calls ++ call ∷ [])) lines
 same_counts all calls call none [] = refl
 same_counts all calls call none (line ∷ lines) =
-    let more = count_more (is_call_of all (end_named line) (code_named line)) calls call in
-    rw (more, none (end_named line) (code_named line), add-zero, same_counts all calls call none lines) refl
+    let more = count_more (is_call_of all (end_named line) (line_code line)) calls call in
+    rw (more, none (end_named line) (line_code line), add-zero, same_counts all calls call none lines) refl
 
 -- ---- the generator
 
@@ -109,7 +109,7 @@ all_seen all end type_id (call ∷ calls) =
     omega (arith, one, rest, seen, sent)
 
 few_seen : (all : List Address) (calls : List LogEntry) (line : NetLine) → messages calls + 1 < 2 ^ 64 → seen_by all calls line + 1 < 2 ^ 64
-few_seen all calls line few = let le = all_seen all (end_named line) (code_named line) calls in omega (arith, le)
+few_seen all calls line few = let le = all_seen all (end_named line) (line_code line) calls in omega (arith, le)
 
 module _ (o : Opening) (calls : List LogEntry) (watches : List Watch) (generator sent : ℕ) (boxes : List Mailbox) (tied : IsTied o calls watches generator sent boxes) where
   pub lags_told : (from : Address) (bytes lagged : List ℕ) → lagged ≡ lags_by (option_map line_watched (first_that (watch_names o.all from bytes) watches)) (lags_by_chance o.plan.chaos generator)

@@ -13,10 +13,10 @@ end_named (Drop end type_id nth) = end
 end_named (Copy end type_id nth lag) = end
 end_named (Hold end type_id nth lag) = end
 
-abbrev pub code_named : NetLine → ℕ
-code_named (Drop end type_id nth) = type_id
-code_named (Copy end type_id nth lag) = type_id
-code_named (Hold end type_id nth lag) = type_id
+abbrev pub line_code : NetLine → ℕ
+line_code (Drop end type_id nth) = type_id
+line_code (Copy end type_id nth lag) = type_id
+line_code (Hold end type_id nth lag) = type_id
 
 abbrev pub nth_named : NetLine → ℕ
 nth_named (Drop end type_id nth) = nth
@@ -25,12 +25,12 @@ nth_named (Hold end type_id nth lag) = nth
 
 -- how many messages were sent in these calls that the line's end and type code name
 abbrev pub seen_by : List Address → List LogEntry → NetLine → ℕ
-seen_by all calls line = messages_from all (end_named line) (code_named line) calls
+seen_by all calls line = messages_from all (end_named line) (line_code line) calls
 
 -- the line names the message that is sent after these calls: every one of its end and type code, or the nth
 abbrev pub line_names : List Address → List LogEntry → Address → List ℕ → NetLine → Bool
 line_names all calls from bytes line =
-    is_from_end all (end_named line) (code_named line) from bytes && ((nth_named line == 0) || (seen_by all calls line == nth_named line - 1))
+    is_from_end all (end_named line) (line_code line) from bytes && ((nth_named line == 0) || (seen_by all calls line == nth_named line - 1))
 
 -- the line that applies to this message: the first that names it
 abbrev pub line_for : List Address → List NetLine → List LogEntry → Address → List ℕ → Option NetLine

@@ -4,7 +4,7 @@ use Rattle.dcp_types.specs.declared.addresses.Address.{Address}
 use Rattle.dcp_ends.specs.declared.entries.LogEntry.{LogEntry}
 use Rattle.scenario.specs.declared.net_plans.NetLine.{NetLine}
 use Rattle.net_world.specs.declared.watches.Watch.{Watch}
-use Rattle.net_world.specs.Lines.{end_named, code_named, nth_named, seen_by}
+use Rattle.net_world.specs.Lines.{end_named, line_code, nth_named, seen_by}
 use Rattle.net_world.specs.Messages.{is_from_end}
 
 abbrev pub line_watched : Watch → NetLine
@@ -20,9 +20,9 @@ watch_after all calls line = record { line = line; seen = seen_by all calls line
 -- the line names the message that is sent now
 abbrev pub watch_names : List Address → Address → List ℕ → Watch → Bool
 watch_names all from bytes watch =
-    is_from_end all (end_named watch.line) (code_named watch.line) from bytes && ((nth_named watch.line == 0) || (watch.seen == nth_named watch.line - 1))
+    is_from_end all (end_named watch.line) (line_code watch.line) from bytes && ((nth_named watch.line == 0) || (watch.seen == nth_named watch.line - 1))
 
 -- the line after the message that is sent now
 abbrev pub watch_counted : List Address → Address → List ℕ → Watch → Watch
 watch_counted all from bytes watch =
-    if is_from_end all (end_named watch.line) (code_named watch.line) from bytes then record { line = watch.line; seen = watch.seen + 1 } else watch
+    if is_from_end all (end_named watch.line) (line_code watch.line) from bytes then record { line = watch.line; seen = watch.seen + 1 } else watch

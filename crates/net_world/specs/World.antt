@@ -30,9 +30,9 @@ calls_of None = Some []
 calls_of (Some carried) = Some carried.calls
 
 -- what it was opened with; before that it tells nothing
-abbrev pub opening_of : Option Carried → Option Opening
-opening_of None = None
-opening_of (Some carried) = Some carried.opening
+abbrev pub carried_opening : Option Carried → Option Opening
+carried_opening None = None
+carried_opening (Some carried) = Some carried.opening
 
 -- how many messages were sent since then
 abbrev pub sent_of : Option Carried → ℕ

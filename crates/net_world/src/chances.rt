@@ -1,8 +1,8 @@
 //! What chance does with a message that no line of the plan names.
 
-ghost use Rattle.std.specs.Prelude.{◌≡◌, ◌++◌, ◌<◌, ◌^◌, List, Option};
+ghost use Rattle.std.specs.Prelude.{◌≡◌, ◌++◌, ◌<◌, ◌^◌, Option};
 ghost use Rattle.scenario.specs.declared.net_plans.NetLine.{NetLine};
-ghost use Rattle.net_world.specs.Chances.{draw, held, lags_by_chance, lags_of_chaos, lags_of_draws, generator_step, after_draws};
+ghost use Rattle.net_world.specs.Chances.{draw, lags_by_chance, lags_of_draws, generator_step, after_draws};
 ghost use Rattle.net_world.specs.Lags.{lags_in};
 ghost use Rattle.net_world.specs.Lines.{lags_of_line};
 

@@ -3,13 +3,12 @@
 ghost use Rattle.std.specs.Prelude.{◌≡◌, ◌≤◌, ◌<◌, ◌+◌, ◌++◌, IfOk, IfSome, length, false};
 ghost use Rattle.std.specs.List.{filter};
 ghost use Rattle.std.specs.Option.{option_to_list};
-ghost use Rattle.std.specs.VecDeque.{deque_len, deque_capacity};
 ghost use Rattle.dcp_types.specs.declared.addresses.Address.{Address};
 ghost use Rattle.dcp_ends.specs.Logs.{same_address};
 ghost use Rattle.dcp_net.specs.Firsts.{first_that, without_first};
 ghost use Rattle.net_world.specs.Deliveries.{all_placed, is_due_now, is_young};
 ghost use Rattle.net_world.specs.Queues.{AllShort, InOrder};
-ghost use Rattle.net_world.specs.Mailboxes.{FindsBox, HasRoomAt, IsFirstBox, is_box, queue_of};
+ghost use Rattle.net_world.specs.Mailboxes.{FindsBox, HasRoomAt, IsFirstBox, queue_of};
 
 use crate::deliveries::Arrival;
 use crate::queues::{next_due, place_all};

@@ -1,10 +1,10 @@
 //! The network in memory.
 
-ghost use Rattle.std.specs.Prelude.{◌≡◌, ◌≤◌, ◌+◌, ◌-◌, ◌↔◌, [], true, false, length, IfSome, IsTrue, MatchOption, Some, None, is_some, ⊤, if◌then◌else◌};
+ghost use Rattle.std.specs.Prelude.{◌≡◌, ◌≤◌, ◌+◌, ◌-◌, ◌↔◌, [], true, false, length, IfSome, IsTrue, MatchOption, Some, None, ⊤, if◌then◌else◌};
 ghost use Rattle.dcp_io.specs.Faults.{Rose};
 ghost use Rattle.dcp_net.specs.Nets.{HasCause, IsWithinRoom, sent_entries, told_more, took_entries};
 ghost use Rattle.net_world.specs.Calls.{AllRecent, GivesDue};
-ghost use Rattle.net_world.specs.World.{TakesOpened, calls_of, fails_now, is_opened, is_chosen, opening_of, sent_of};
+ghost use Rattle.net_world.specs.World.{TakesOpened, calls_of, fails_now, is_opened, is_chosen, carried_opening, sent_of};
 
 use crate::sure_nets::SureNet;
 use dcp_net::{Done, Net, Opening, Taken};
@@ -108,7 +108,7 @@ fn is_chosen(call: NetCall, chosen: Option<NetCall>) -> bool
 impl Net for MemoryNet {
     ghost calls = { λ s. calls_of s.net.traffic };
 
-    ghost opening = { λ s. opening_of s.net.traffic };
+    ghost opening = { λ s. carried_opening s.net.traffic };
 
     ghost count = { λ s. s.faults };
 
@@ -117,7 +117,7 @@ impl Net for MemoryNet {
     fn begin(&mut self, plan: &Opening) -> Done
         ensures opened { result ≡ Done.Ok → IsTrue (is_opened self.new.net.traffic) }
         ensures empty { result ≡ Done.Ok → MatchOption (calls_of self.new.net.traffic) ⊤ (λ l. l ≡ []) }
-        ensures plan { result ≡ Done.Ok → MatchOption (opening_of self.new.net.traffic) ⊤ (λ o. o ≡ plan.now) }
+        ensures plan { result ≡ Done.Ok → MatchOption (carried_opening self.new.net.traffic) ⊤ (λ o. o ≡ plan.now) }
         ensures cause { HasCause self.old.faults self.new.faults (result ≡ Done.Failed) }
         ensures fails { (result ≡ Done.Failed) ↔ IsTrue (fails_now NetCall.Begin self.old.fails self.old.before_it) }
     {
@@ -133,7 +133,7 @@ impl Net for MemoryNet {
         requires high { length bytes.now ≤ 1024 }
         ensures is_open { IsTrue (is_opened self.new.net.traffic) }
         ensures calls { calls_of self.new.net.traffic ≡ told_more (calls_of self.old.net.traffic) (sent_entries result from to bytes.now) }
-        ensures opening { opening_of self.new.net.traffic ≡ opening_of self.old.net.traffic }
+        ensures opening { carried_opening self.new.net.traffic ≡ carried_opening self.old.net.traffic }
         ensures cause { HasCause self.old.faults self.new.faults (result ≡ Done.Failed) }
         ensures fails { (result ≡ Done.Failed) ↔ IsTrue (fails_now NetCall.Send self.old.fails self.old.before_it) }
     {
@@ -149,7 +149,7 @@ impl Net for MemoryNet {
         ensures is_open { IsTrue (is_opened self.new.net.traffic) }
         ensures len { IsWithinRoom result }
         ensures calls { calls_of self.new.net.traffic ≡ told_more (calls_of self.old.net.traffic) (took_entries at result room.new) }
-        ensures opening { opening_of self.new.net.traffic ≡ opening_of self.old.net.traffic }
+        ensures opening { carried_opening self.new.net.traffic ≡ carried_opening self.old.net.traffic }
         ensures cause { HasCause self.old.faults self.new.faults (result ≡ Taken.Failed) }
         ensures due { TakesOpened self.old.net.traffic at result room.new }
         ensures ample { result ≡ Taken.OutOfMemory → ⊥ }

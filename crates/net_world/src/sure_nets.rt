@@ -1,9 +1,9 @@
 //! The network in memory of which no call fails.
 
-ghost use Rattle.std.specs.Prelude.{◌≡◌, ◌≤◌, ◌↔◌, [], Some, length, IfSome, IsTrue, MatchOption, is_some, ⊤};
+ghost use Rattle.std.specs.Prelude.{◌≡◌, ◌≤◌, ◌↔◌, [], Some, length, IfSome, IsTrue, MatchOption, ⊤};
 ghost use Rattle.dcp_net.specs.Nets.{HasCause, IsWithinRoom, sent_entries, told_more, took_entries};
 ghost use Rattle.net_world.specs.Calls.{AllRecent, GivesDue};
-ghost use Rattle.net_world.specs.World.{TakesOpened, calls_of, is_opened, opening_of, sent_of};
+ghost use Rattle.net_world.specs.World.{TakesOpened, calls_of, is_opened, carried_opening, sent_of};
 
 use crate::traffics::Traffic;
 use dcp_net::{Done, Net, Opening, Taken};
@@ -50,7 +50,7 @@ impl SureNet {
 impl Net for SureNet {
     ghost calls = { λ s. calls_of s.traffic };
 
-    ghost opening = { λ s. opening_of s.traffic };
+    ghost opening = { λ s. carried_opening s.traffic };
 
     ghost count = { λ s. 0 };
 
@@ -59,7 +59,7 @@ impl Net for SureNet {
     fn begin(&mut self, plan: &Opening) -> Done
         ensures opened { result ≡ Done.Ok → IsTrue (is_opened self.new.traffic) }
         ensures empty { result ≡ Done.Ok → MatchOption (calls_of self.new.traffic) ⊤ (λ l. l ≡ []) }
-        ensures plan { result ≡ Done.Ok → MatchOption (opening_of self.new.traffic) ⊤ (λ o. o ≡ plan.now) }
+        ensures plan { result ≡ Done.Ok → MatchOption (carried_opening self.new.traffic) ⊤ (λ o. o ≡ plan.now) }
         ensures cause { HasCause 0 0 (result ≡ Done.Failed) }
         ensures never { result ≡ Done.Failed → ⊥ }
     {
@@ -78,7 +78,7 @@ impl Net for SureNet {
         requires high { length bytes.now ≤ 1024 }
         ensures is_open { IsTrue (is_opened self.new.traffic) }
         ensures calls { calls_of self.new.traffic ≡ told_more (calls_of self.old.traffic) (sent_entries result from to bytes.now) }
-        ensures opening { opening_of self.new.traffic ≡ opening_of self.old.traffic }
+        ensures opening { carried_opening self.new.traffic ≡ carried_opening self.old.traffic }
         ensures cause { HasCause 0 0 (result ≡ Done.Failed) }
         ensures never { result ≡ Done.Failed → ⊥ }
     {
@@ -97,7 +97,7 @@ impl Net for SureNet {
         ensures is_open { IsTrue (is_opened self.new.traffic) }
         ensures len { IsWithinRoom result }
         ensures calls { calls_of self.new.traffic ≡ told_more (calls_of self.old.traffic) (took_entries at result room.new) }
-        ensures opening { opening_of self.new.traffic ≡ opening_of self.old.traffic }
+        ensures opening { carried_opening self.new.traffic ≡ carried_opening self.old.traffic }
         ensures cause { HasCause 0 0 (result ≡ Taken.Failed) }
         ensures due { TakesOpened self.old.traffic at result room.new }
         ensures never { result ≡ Taken.Failed → ⊥ }

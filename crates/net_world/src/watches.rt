@@ -1,10 +1,10 @@
 //! The lines of the plan, each with how many messages of its end and type code were sent.
 
-ghost use Rattle.std.specs.Prelude.{◌≡◌, ◌≤◌, ◌<◌, ◌+◌, ◌^◌, length, map, slice_index, IfOk};
+ghost use Rattle.std.specs.Prelude.{◌≡◌, ◌≤◌, ◌<◌, ◌+◌, ◌^◌, length, map, IfOk};
 ghost use Rattle.std.specs.List.{All};
 ghost use Rattle.std.specs.Option.{option_map};
 ghost use Rattle.dcp_net.specs.Firsts.{first_that};
-ghost use Rattle.net_world.specs.Lines.{end_named, code_named, nth_named};
+ghost use Rattle.net_world.specs.Lines.{end_named, line_code, nth_named};
 ghost use Rattle.net_world.specs.Messages.{is_end, is_from_end};
 ghost use Rattle.net_world.specs.Watches.{watch_counted, unseen, line_watched, watch_names};
 
@@ -29,7 +29,7 @@ struct Subject {
 
 /// What this line names.
 fn subject_of(line: NetLine) -> Subject
-    ensures { result ≡ record { end = end_named line; type_id = code_named line; nth = nth_named line } }
+    ensures { result ≡ record { end = end_named line; type_id = line_code line; nth = nth_named line } }
 {
     match line {
         NetLine::Drop { end, type_id, nth }
@@ -61,7 +61,7 @@ fn is_end(all: &[Address], end: u8, from: Address) -> bool
 /// Whether the message has the end and the type code that the line names.
 fn is_from_end(line: NetLine, all: &[Address], from: Address, bytes: &[u8]) -> bool
     requires { 1 ≤ length bytes.now }
-    ensures { result ≡ is_from_end all.now (end_named line) (code_named line) from bytes.now }
+    ensures { result ≡ is_from_end all.now (end_named line) (line_code line) from bytes.now }
 {
     let subject = subject_of(line);
     is_end(all, subject.end, from) && bytes[0] == subject.type_id

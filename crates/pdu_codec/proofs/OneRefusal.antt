@@ -4,7 +4,7 @@ use Rattle.std.proofs.lemmas.List.{length-append, length-take, length-drop, take
 use Rattle.std.proofs.lemmas.Bool.{cases_lt, lt-ltb, le-ltb, and_parts}
 use Rattle.pdu_layout.specs.declared.fields.FieldKind.{FieldKind}
 use Rattle.pdu_layout.specs.declared.fields.FieldKind.TheVariants.{StateCode, TypeCode, Rest}
-use Rattle.pdu_layout.specs.Fields.{width, bytes_of, type_after, spelled, FitEach, kind_at, FieldValue}
+use Rattle.pdu_layout.specs.Fields.{field_width, bytes_of, type_after, spelled, FitEach, kind_at, FieldValue}
 use Rattle.pdu_layout.specs.Table.{kinds_for}
 use Rattle.pdu_layout.specs.Message.{Message, Spells}
 use Rattle.pdu_codec.specs.declared.faults.DecodeWhy.{DecodeWhy}
@@ -83,7 +83,7 @@ same_next (k ∷ ks) t (v ∷ vs) (w ∷ ws) x l m a b r f g d e h i =
       | inl s ↦
           let y = bytes_of k t v in
           let z = bytes_of k t w in
-          let n = width k t in
+          let n = field_width k t in
           let wy : length y ≡ n = length-bytes_of k t v s f.0 in
           let wz : length z ≡ n = length-bytes_of k t w s g.0 in
           elim (cases_lt (length x) n) [

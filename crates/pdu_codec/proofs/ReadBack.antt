@@ -14,7 +14,7 @@ use Rattle.dcp_types.proofs.Digits.{IsBytes}
 use Rattle.dcp_types.proofs.Residues.{value_of, value_of-residue, residue_below}
 use Rattle.pdu_layout.specs.declared.fields.FieldKind.{FieldKind}
 use Rattle.pdu_layout.specs.declared.fields.FieldKind.TheVariants.{U8, U16, U32, U64, I64, StateCode, TypeCode, Value, Uuid, Ip, Rest}
-use Rattle.pdu_layout.specs.Fields.{FieldValue, type_from, width, type_after, spelled, bytes_of, Fits, FitEach}
+use Rattle.pdu_layout.specs.Fields.{FieldValue, type_from, field_width, type_after, spelled, bytes_of, Fits, FitEach}
 use Rattle.pdu_layout.specs.Fields.FieldValue.{Number, Signed, Bytes}
 use Rattle.pdu_layout.specs.Message.{Message, Spells}
 use Rattle.pdu_layout.specs.Table.{kinds_for}
@@ -85,7 +85,7 @@ known_read TypeCode t (Signed z) h = absurd h
 known_read TypeCode t (Bytes x) h = absurd h
 known_read k t v h = refl
 
-extent_sized : (k : FieldKind) (t : ℕ) (x : List ℕ) → IsSized k → extent k t x ≡ width k t
+extent_sized : (k : FieldKind) (t : ℕ) (x : List ℕ) → IsSized k → extent k t x ≡ field_width k t
 extent_sized Rest t x s = absurd s
 extent_sized k t x s = refl
 
@@ -114,7 +114,7 @@ fields_read (k ∷ ks) t [] r f = absurd f
 fields_read (k ∷ ks) t (v ∷ vs) r f =
     elim (sized_or_rest k) [
       | inl s ↦
-          field_then k ks t (width k t) (bytes_of k t v) (spelled ks (type_after k t (bytes_of k t v)) vs) v vs (extent_sized k t _ s) (length-bytes_of k t v s f.0)
+          field_then k ks t (field_width k t) (bytes_of k t v) (spelled ks (type_after k t (bytes_of k t v)) vs) v vs (extent_sized k t _ s) (length-bytes_of k t v s f.0)
           (known_read k t v f.0) (field_read k t v f.0) (fields_read ks (type_after k t (bytes_of k t v)) vs (rest_after k ks s r) f.1)
       | inr is ↦ subst (λ (j : FieldKind). rest_is_last (j ∷ ks) ≡ true → FitEach (j ∷ ks) t (v ∷ vs) → fields_in (j ∷ ks) t (spelled (j ∷ ks) t (v ∷ vs)) ≡ Some (v ∷ vs)) (sym is) (rest_read ks t v vs) r f
     ]

@@ -11,7 +11,7 @@ use Rattle.pdu_codec.specs.declared.faults.DecodeWhy.{DecodeWhy}
 use Rattle.pdu_codec.specs.declared.faults.DecodeWhy.TheVariants.{Empty, UnknownType, Short, Long, BadState, BadType, TooLong}
 use Rattle.dcp_types.specs.Values.{digits}
 use Rattle.dcp_types.specs.Values as values
-use Rattle.pdu_layout.specs.Fields.{type_from, width, limit, Fits, bytes_of, type_after, spelled, FitEach, kind_at, FieldValue}
+use Rattle.pdu_layout.specs.Fields.{type_from, field_width, limit, Fits, bytes_of, type_after, spelled, FitEach, kind_at, FieldValue}
 use Rattle.pdu_layout.specs.Fields.FieldValue.{Number, Signed, Bytes}
 use Rattle.pdu_codec.specs.Pieces.{IsPiece, Holds, IsSized}
 use Rattle.pdu_codec.proofs.Digits.{IsBytes-take}
@@ -85,7 +85,7 @@ begun_after k ks t m v x r h le s = record {
 }
 
 -- what begins with the bytes of the field goes on as the fields after it
-begun_rest : (k : FieldKind) (ks : List FieldKind) (t m : ℕ) (x r : List ℕ) → IsSized k → length x ≡ width k t → Begun (k ∷ ks) t m (x ++ r) → Begun ks (type_after k t x) (m - length x) r
+begun_rest : (k : FieldKind) (ks : List FieldKind) (t m : ℕ) (x r : List ℕ) → IsSized k → length x ≡ field_width k t → Begun (k ∷ ks) t m (x ++ r) → Begun ks (type_after k t x) (m - length x) r
 begun_rest k ks t m x r s len b =
     elim b.values as (λ vs. FitEach (k ∷ ks) t vs → (x ++ r) ++ b.more ≡ spelled (k ∷ ks) t vs → Begun ks (type_after k t x) (m - length x) r) [
       | [] ↦ λ f e. absurd f
@@ -100,7 +100,7 @@ begun_rest k ks t m x r s len b =
           }
     ] b.fits b.bytes
 
-spelled_rest : (k : FieldKind) (ks : List FieldKind) (t m : ℕ) (x r : List ℕ) → IsSized k → length x ≡ width k t → Spelled (k ∷ ks) t m (x ++ r) → Spelled ks (type_after k t x) (m - length x) r
+spelled_rest : (k : FieldKind) (ks : List FieldKind) (t m : ℕ) (x r : List ℕ) → IsSized k → length x ≡ field_width k t → Spelled (k ∷ ks) t m (x ++ r) → Spelled ks (type_after k t x) (m - length x) r
 spelled_rest k ks t m x r s len b =
     elim b.values as (λ vs. FitEach (k ∷ ks) t vs → x ++ r ≡ spelled (k ∷ ks) t vs → Spelled ks (type_after k t x) (m - length x) r) [
       | [] ↦ λ f e. absurd f
@@ -124,7 +124,7 @@ next_after kind k ks t m v x r h le n =
       next = rw h.bytes (rw (past, rest) n.next);
     }
 
-module _ (k : FieldKind) (ks : List FieldKind) (t m : ℕ) (v : FieldValue) (x r : List ℕ) (s : IsSized k) (h : Holds k t v x) (len : length x ≡ width k t) (le : length x ≤ m) where
+module _ (k : FieldKind) (ks : List FieldKind) (t m : ℕ) (v : FieldValue) (x r : List ℕ) (s : IsSized k) (h : Holds k t v x) (len : length x ≡ field_width k t) (le : length x ≤ m) where
   why_after : (at : ℕ) (why : DecodeWhy) → at ≤ length r → Why ks (type_after k t x) (m - length x) r at why → Why (k ∷ ks) t m (x ++ r) (length x + at) why
   why_after at Empty in_r w = absurd w
   why_after at UnknownType in_r w = absurd w
@@ -213,15 +213,15 @@ IsBytes-pad r n h i =
         ]
 
 -- the bytes that are there, and zeros
-padded_is_piece : (k : FieldKind) (t : ℕ) (r : List ℕ) → IsSized k → length r < width k t → IsPiece k t (r ++ replicate (width k t - length r) 0)
+padded_is_piece : (k : FieldKind) (t : ℕ) (r : List ℕ) → IsSized k → length r < field_width k t → IsPiece k t (r ++ replicate (field_width k t - length r) 0)
 padded_is_piece StateCode t [] s lt = (refl, omega arith)
 padded_is_piece TypeCode t [] s lt = (refl, omega arith)
 padded_is_piece StateCode t (c ∷ r) s lt = absurd (omega arith)
 padded_is_piece TypeCode t (c ∷ r) s lt = absurd (omega arith)
 padded_is_piece Rest t r s lt = absurd s
-padded_is_piece k t r s lt = length-append r (replicate (width k t - length r) 0) ∙ omega (arith, length-replicate {A = ℕ} (width k t - length r) 0)
+padded_is_piece k t r s lt = length-append r (replicate (field_width k t - length r) 0) ∙ omega (arith, length-replicate {A = ℕ} (field_width k t - length r) 0)
 
-pub width-at_most : (k : FieldKind) (t : ℕ) → width k t ≤ 16
+pub width-at_most : (k : FieldKind) (t : ℕ) → field_width k t ≤ 16
 width-at_most Value t = omega (arith, width-below t)
 width-at_most U8 t = omega arith
 width-at_most U16 t = omega arith
@@ -234,18 +234,18 @@ width-at_most Uuid t = omega arith
 width-at_most Ip t = omega arith
 width-at_most Rest t = omega arith
 
-spelled_long : (k : FieldKind) (ks : List FieldKind) (t m : ℕ) (r : List ℕ) → IsSized k → Spelled (k ∷ ks) t m r → width k t ≤ length r
+spelled_long : (k : FieldKind) (ks : List FieldKind) (t m : ℕ) (r : List ℕ) → IsSized k → Spelled (k ∷ ks) t m r → field_width k t ≤ length r
 spelled_long k ks t m r s b =
-    elim b.values as (λ vs. FitEach (k ∷ ks) t vs → r ≡ spelled (k ∷ ks) t vs → width k t ≤ length r) [
+    elim b.values as (λ vs. FitEach (k ∷ ks) t vs → r ≡ spelled (k ∷ ks) t vs → field_width k t ≤ length r) [
       | [] ↦ λ f e. absurd f
       | v ∷ vs ↦ λ f e. omega (arith, ap length e, length-append (bytes_of k t v) (spelled ks (type_after k t (bytes_of k t v)) vs), length-bytes_of k t v s f.0)
     ] b.fits b.bytes
 
-pub short_refused : (k : FieldKind) (ks : List FieldKind) (t m : ℕ) (r : List ℕ) → IsSized k → IsBytes r → length r < width k t → 16 * length (k ∷ ks) ≤ m → Refused (k ∷ ks) t m r (length r) Short
+pub short_refused : (k : FieldKind) (ks : List FieldKind) (t m : ℕ) (r : List ℕ) → IsSized k → IsBytes r → length r < field_width k t → 16 * length (k ∷ ks) ≤ m → Refused (k ∷ ks) t m r (length r) Short
 short_refused k ks t m r s fits lt room =
-    let pad : List ℕ = replicate (width k t - length r) 0 in
-    let h = holds k t (r ++ pad) (IsBytes-pad r (width k t - length r) fits) (padded_is_piece k t r s lt) in
-    let len : length (r ++ pad) ≡ width k t = length-append r pad ∙ omega (arith, length-replicate {A = ℕ} (width k t - length r) 0) in
+    let pad : List ℕ = replicate (field_width k t - length r) 0 in
+    let h = holds k t (r ++ pad) (IsBytes-pad r (field_width k t - length r) fits) (padded_is_piece k t r s lt) in
+    let len : length (r ++ pad) ≡ field_width k t = length-append r pad ∙ omega (arith, length-replicate {A = ℕ} (field_width k t - length r) 0) in
     record {
       unspelled = λ b. absurd (omega (arith, spelled_long k ks t m r s b));
       within = omega arith;
@@ -255,7 +255,7 @@ short_refused k ks t m r s fits lt room =
     }
 
 -- the byte of a field of one byte, which begins some spelling
-begun_first : (k : FieldKind) (ks : List FieldKind) (t m c : ℕ) (r : List ℕ) → width k t ≡ 1 → IsSized k → Begun (k ∷ ks) t m (c ∷ r) → (v : FieldValue) × Fits k t v × (bytes_of k t v ≡ c ∷ [])
+begun_first : (k : FieldKind) (ks : List FieldKind) (t m c : ℕ) (r : List ℕ) → field_width k t ≡ 1 → IsSized k → Begun (k ∷ ks) t m (c ∷ r) → (v : FieldValue) × Fits k t v × (bytes_of k t v ≡ c ∷ [])
 begun_first k ks t m c r one s b =
     elim b.values as (λ vs. FitEach (k ∷ ks) t vs → (c ∷ r) ++ b.more ≡ spelled (k ∷ ks) t vs → (v : FieldValue) × Fits k t v × (bytes_of k t v ≡ c ∷ [])) [
       | [] ↦ λ f e. absurd f
@@ -270,7 +270,7 @@ code_below k t (Number w) c n e small d no_signed no_bytes f b =
 code_below k t (Signed z) c n e small d no_signed no_bytes f b = absurd (no_signed z f)
 code_below k t (Bytes bs) c n e small d no_signed no_bytes f b = absurd (no_bytes bs f)
 
-next_here : (k : FieldKind) (ks : List FieldKind) (t m : ℕ) → IsSized k → width k t ≡ 1 → 16 * length (k ∷ ks) ≤ m → NextIn k (k ∷ ks) t m []
+next_here : (k : FieldKind) (ks : List FieldKind) (t m : ℕ) → IsSized k → field_width k t ≡ 1 → 16 * length (k ∷ ks) ≤ m → NextIn k (k ∷ ks) t m []
 unfolding begun_nothing any_values
 next_here k ks t m s one room =
     let len : length (bytes_of k t (any_value k)) ≡ 1 = length-bytes_of k t (any_value k) s (fits-any k t).0 ∙ one in
@@ -279,7 +279,7 @@ next_here k ks t m s one room =
       next = rw len refl;
     }
 
-bad_refused : (k : FieldKind) (ks : List FieldKind) (t m c : ℕ) (r : List ℕ) (why : DecodeWhy) → IsSized k → width k t ≡ 1 → ((v : FieldValue) → Fits k t v → bytes_of k t v ≡ c ∷ [] → ⊥) → 16 * length (k ∷ ks) ≤ m → Why (k ∷ ks) t m (c ∷ r) 0 why → Refused (k ∷ ks) t m (c ∷ r) 0 why
+bad_refused : (k : FieldKind) (ks : List FieldKind) (t m c : ℕ) (r : List ℕ) (why : DecodeWhy) → IsSized k → field_width k t ≡ 1 → ((v : FieldValue) → Fits k t v → bytes_of k t v ≡ c ∷ [] → ⊥) → 16 * length (k ∷ ks) ≤ m → Why (k ∷ ks) t m (c ∷ r) 0 why → Refused (k ∷ ks) t m (c ∷ r) 0 why
 bad_refused k ks t m c r why s one none room w = record {
   unspelled = λ b. let f = begun_first k ks t m c r one s (record { values = b.values; more = []; fits = b.fits; bytes = append-nil (c ∷ r) ∙ b.bytes; at_most = omega (arith, b.at_most, ap length (append-nil (c ∷ r))) }) in none f.0 f.1 f.2;
   within = omega arith;

@@ -5,7 +5,7 @@ use Rattle.std.proofs.lemmas.List.{length-reverse, reverse-reverse}
 use Rattle.pdu_layout.specs.declared.fields.FieldKind.{FieldKind}
 use Rattle.pdu_layout.specs.declared.fields.FieldKind.TheVariants.{U8, U16, U32, U64, I64, StateCode, TypeCode, Value, Uuid, Ip, Rest}
 use Rattle.dcp_types.specs.Values.{digits, residue}
-use Rattle.pdu_layout.specs.Fields.{type_from, width, Fits, bytes_of, FieldValue}
+use Rattle.pdu_layout.specs.Fields.{type_from, field_width, Fits, bytes_of, FieldValue}
 use Rattle.pdu_layout.specs.Fields.FieldValue.{Number, Signed, Bytes}
 use Rattle.std.specs.Prelude.{IsTrue}
 use Rattle.std.proofs.lemmas.Bool.Decides.{nat_tests}
@@ -19,9 +19,9 @@ use Rattle.pdu_codec.proofs.Digits.{number}
 use Rattle.pdu_codec.proofs.Digits.{IsBytes-reverse, digits-number, number_below}
 use Rattle.dcp_types.proofs.Digits.{length-digits, IsBytes}
 
-pub length-bytes_of : (k : FieldKind) (t : ℕ) (v : FieldValue) → IsSized k → Fits k t v → length (bytes_of k t v) ≡ width k t
+pub length-bytes_of : (k : FieldKind) (t : ℕ) (v : FieldValue) → IsSized k → Fits k t v → length (bytes_of k t v) ≡ field_width k t
 length-bytes_of Uuid t (Number n) s f = rw length-reverse (length-digits 16 n)
-length-bytes_of k t (Number n) s f = length-digits (width k t) n
+length-bytes_of k t (Number n) s f = length-digits (field_width k t) n
 length-bytes_of I64 t (Signed z) s f = length-digits 8 (residue 8 z)
 length-bytes_of Value t (Signed z) s f = length-digits (values.width (type_from t)) (residue (values.width (type_from t)) z)
 length-bytes_of k t (Signed z) s f = absurd f

@@ -10,7 +10,7 @@ use Rattle.pdu_codec.specs.declared.faults.DecodeWhy.{DecodeWhy}
 use Rattle.pdu_codec.specs.declared.faults.DecodeWhy.TheVariants.{Empty, UnknownType, Short, Long, BadState, BadType, TooLong}
 use Rattle.pdu_layout.specs.declared.fields.Field.{Field}
 use Rattle.pdu_layout.specs.Table.{kinds_of, kinds_in, Row, table, row_in, kinds_for}
-use Rattle.pdu_layout.specs.Fields.{width, type_after}
+use Rattle.pdu_layout.specs.Fields.{field_width, type_after}
 use Rattle.pdu_codec.specs.Refusals.{Refusal}
 use Rattle.pdu_codec.specs.Pieces.{AreEnds, IsPiece, IsSized, FieldFault}
 use Rattle.pdu_codec.proofs.Digits.{IsBytes-drop, IsBytes-take}
@@ -59,7 +59,7 @@ pub sized_or_rest : (k : FieldKind) → IsSized k ⊎ (k ≡ Rest)
 sized_or_rest Rest = inr refl
 sized_or_rest k = inl tt
 
-piece_length : (k : FieldKind) (t : ℕ) (x : List ℕ) → IsSized k → IsPiece k t x → length x ≡ width k t
+piece_length : (k : FieldKind) (t : ℕ) (x : List ℕ) → IsSized k → IsPiece k t x → length x ≡ field_width k t
 piece_length StateCode t x s p = p.0
 piece_length TypeCode t x s p = p.0
 piece_length Rest t x s p = absurd s

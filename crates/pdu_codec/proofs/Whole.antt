@@ -10,7 +10,7 @@ use Rattle.std.proofs.lemmas.Bool.{ne_eqb}
 use Rattle.pdu_layout.specs.Message.{Message, Spells}
 use Rattle.pdu_layout.specs.Table.{Row, table, row_in, kinds_in, kinds_for}
 use Rattle.pdu_layout.specs.Fields.{spelled, FitEach, kind_at, FieldValue, bytes_of, type_after}
-use Rattle.pdu_codec.specs.Refusals.{Begins, IsSpelling, NextIsIn, Cause, Refusal}
+use Rattle.pdu_codec.specs.Refusals.{BeginsSpelling, IsSpelling, NextIsIn, IsCauseAt, Refusal}
 use Rattle.pdu_codec.specs.Pieces.{AreEnds, HeldFrom, begin_of, Holds}
 use Rattle.pdu_codec.proofs.Suffix.{Begun, Spelled, NextIn, Why, Refused, any_values}
 
@@ -21,7 +21,7 @@ module _ (code : ℕ) (kinds : List FieldKind) (listed : kinds_for code ≡ Some
   abbrev as_message : List FieldValue → Message
   as_message values = record { code = code; values = values }
 
-  begins : (x : List ℕ) → Begun kinds 0 1023 x → Begins (code ∷ x)
+  begins : (x : List ℕ) → Begun kinds 0 1023 x → BeginsSpelling (code ∷ x)
   begins x b = (as_message b.values, b.more, record { kinds = kinds; listed = listed; fits = b.fits; bytes = ap (λ (l : List ℕ). code ∷ l) b.bytes; at_most = omega (arith, b.at_most) })
 
   is_spelling : (x : List ℕ) → Spelled kinds 0 1023 x → IsSpelling (code ∷ x)
@@ -39,7 +39,7 @@ module _ (code : ℕ) (kinds : List FieldKind) (listed : kinds_for code ≡ Some
       let e : code ≡ p.code = ap (λ (l : List ℕ). get_or l 0 0) s.bytes in
       some_is s.kinds kinds (kinds_for code) (subst (λ n. kinds_for n ≡ Some s.kinds) (sym e) s.listed) listed
 
-  begun_from : (x : List ℕ) → Begins (code ∷ x) → Begun kinds 0 1023 x
+  begun_from : (x : List ℕ) → BeginsSpelling (code ∷ x) → Begun kinds 0 1023 x
   begun_from x b =
       let s = b.2 in
       let e = row_is b.0 (x ++ b.1) s in
@@ -52,7 +52,7 @@ module _ (code : ℕ) (kinds : List FieldKind) (listed : kinds_for code ≡ Some
       let at_most = s.at_most in
       record { values = p.values; fits = subst (λ ks. FitEach ks 0 p.values) e s.fits; bytes = ap (drop 1) s.bytes ∙ ap (λ ks. spelled ks 0 p.values) e; at_most = omega arith }
 
-  cause_from : (body : List ℕ) (at : ℕ) (why : DecodeWhy) → Why kinds 0 1023 body at why → Cause (code ∷ body) (suc at) why
+  cause_from : (body : List ℕ) (at : ℕ) (why : DecodeWhy) → Why kinds 0 1023 body at why → IsCauseAt (code ∷ body) (suc at) why
   cause_from body at Empty w = absurd w
   cause_from body at UnknownType w = absurd w
   cause_from body at Short w = (λ e. let f : code ∷ body ≡ [] = e in cc, omega (arith, w))
@@ -70,7 +70,7 @@ module _ (code : ℕ) (kinds : List FieldKind) (listed : kinds_for code ≡ Some
     cause = cause_from body at why f.why_is;
   }
     where
-      beyond : (n : ℕ) → suc at < n → n ≤ length (code ∷ body) → Begins (take n (code ∷ body)) → ⊥
+      beyond : (n : ℕ) → suc at < n → n ≤ length (code ∷ body) → BeginsSpelling (take n (code ∷ body)) → ⊥
       beyond zero above below b = absurd (omega arith)
       beyond (suc n) above below b = f.longest n (omega arith) (omega arith) (begun_from (take n body) b)
 
@@ -92,11 +92,11 @@ unknown_refused c body none = record {
         let g : None ≡ Some s.kinds = sym none ∙ f in
         cc
 
-    beyond : (n : ℕ) → 0 < n → Begins (take n (c ∷ body)) → ⊥
+    beyond : (n : ℕ) → 0 < n → BeginsSpelling (take n (c ∷ body)) → ⊥
     beyond zero above b = absurd (omega arith)
     beyond (suc n) above b = no_row b.0 (take n body ++ b.1) b.2
 
-    some_begins : Begins []
+    some_begins : BeginsSpelling []
     some_begins =
         let any = any_values (U16 ∷ U8 ∷ []) 0 in
         (record { code = 128; values = any.0 }, 128 ∷ spelled (U16 ∷ U8 ∷ []) 0 any.0, record { kinds = U16 ∷ U8 ∷ []; listed = refl; fits = any.1; bytes = refl; at_most = omega (arith, any.2) })

@@ -14,7 +14,7 @@ use Rattle.pdu_layout.specs.Parts.{value_of, values_of, AreParts}
 use Rattle.pdu_layout.specs.Table.{kinds_of}
 use Rattle.pdu_layout.specs.Message.{Message, Spells}
 use Rattle.pdu_layout.proofs.Spellings.{kinds_listed}
-use Rattle.pdu_layout.specs.Fields.{width, limit, Fits, bytes_of, type_after, spelled, FieldValue}
+use Rattle.pdu_layout.specs.Fields.{field_width, limit, Fits, bytes_of, type_after, spelled, FieldValue}
 use Rattle.pdu_layout.specs.Ranges.{Fill}
 use Rattle.pdu_layout.proofs.Contents.{length-number, length-signed, Judged, judged_start, judged_more, fit_here, size_here}
 
@@ -92,15 +92,15 @@ spells_parts p parts a f =
 
 -- ---- numbers
 
-width_same : (k : FieldKind) (t n : ℕ) → n < limit k → width k t ≡ width k 0
+width_same : (k : FieldKind) (t n : ℕ) → n < limit k → field_width k t ≡ field_width k 0
 width_same Value t n lt = absurd (omega arith)
 width_same k t n lt = refl
 
-pub number_length : (k : FieldKind) (t : ℕ) (d : FieldContent) (n : ℕ) → d ≡ contents.Number n → Fits k t (value_of d) → width k 0 ≡ length (bytes_of k t (value_of d))
+pub number_length : (k : FieldKind) (t : ℕ) (d : FieldContent) (n : ℕ) → d ≡ contents.Number n → Fits k t (value_of d) → field_width k 0 ≡ length (bytes_of k t (value_of d))
 number_length k t d n is f =
     let lt : n < limit k = subst (λ (e : FieldContent). Fits k t (value_of e)) is f in
     sym (width_same k t n lt) ∙ sym (length-number k t n) ∙ ap (λ (e : FieldContent). length (bytes_of k t (value_of e))) (sym is)
 
-pub signed_length : (k : FieldKind) (t : ℕ) (d : FieldContent) (z : ℤ) → d ≡ contents.Signed z → Fits k t (value_of d) → width k t ≡ length (bytes_of k t (value_of d))
+pub signed_length : (k : FieldKind) (t : ℕ) (d : FieldContent) (z : ℤ) → d ≡ contents.Signed z → Fits k t (value_of d) → field_width k t ≡ length (bytes_of k t (value_of d))
 signed_length k t d z is f =
     sym (length-signed k t z (subst (λ (e : FieldContent). Fits k t (value_of e)) is f)) ∙ ap (λ (e : FieldContent). length (bytes_of k t (value_of e))) (sym is)

@@ -4,14 +4,14 @@ use Rattle.pdu_layout.specs.declared.fields.FieldKind.{FieldKind}
 use Rattle.pdu_layout.specs.declared.fields.FieldKind.TheVariants.{StateCode, TypeCode, Value, Rest}
 use Rattle.pdu_codec.specs.declared.faults.DecodeWhy.{DecodeWhy}
 use Rattle.pdu_codec.specs.declared.faults.DecodeWhy.TheVariants.{Short, BadState, BadType, TooLong}
-use Rattle.pdu_layout.specs.Fields.{FieldValue, width, Fits, bytes_of, type_after}
+use Rattle.pdu_layout.specs.Fields.{FieldValue, field_width, Fits, bytes_of, type_after}
 
 -- these bytes are those of some value of the field
 abbrev pub IsPiece : FieldKind → ℕ → List ℕ → Type 0
 IsPiece StateCode t x = (length x ≡ 1) × (slice_index x 0 < 19)
 IsPiece TypeCode t x = (length x ≡ 1) × (slice_index x 0 < 8)
 IsPiece Rest t x = Unit {0}
-IsPiece kind t x = length x ≡ width kind t
+IsPiece kind t x = length x ≡ field_width kind t
 
 -- the bytes are those of the value
 pub record Holds (kind : FieldKind) (t : ℕ) (v : FieldValue) (x : List ℕ) : Type 0 where
@@ -49,7 +49,7 @@ IsSized _ = Unit {0}
 
 -- why no value of the field stands in b from a place on
 abbrev pub FieldFault : FieldKind → ℕ → List ℕ → ℕ → ℕ → DecodeWhy → Type 0
-FieldFault kind t b from at Short = IsSized kind × (length b < from + width kind t) × (at ≡ length b)
+FieldFault kind t b from at Short = IsSized kind × (length b < from + field_width kind t) × (at ≡ length b)
 FieldFault kind t b from at BadState = (kind ≡ StateCode) × (from < length b) × (18 < slice_index b from) × (at ≡ from)
 FieldFault kind t b from at BadType = (kind ≡ TypeCode) × (from < length b) × (7 < slice_index b from) × (at ≡ from)
 FieldFault kind t b from at TooLong = (kind ≡ Rest) × (1024 < length b) × (at ≡ 1024)

@@ -1,8 +1,8 @@
 //! The bytes of a message, cut into its fields.
 
-ghost use Rattle.std.specs.Prelude.{◌≡◌, ◌∷◌, [], ◌<◌, ◌≤◌, ◌-◌, ℕ, List, IfOk, IfErr, length, slice_get, slice_index, slice_range, Some};
+ghost use Rattle.std.specs.Prelude.{◌≡◌, ◌∷◌, [], ◌<◌, ◌≤◌, ◌-◌, ℕ, IfOk, IfErr, length, slice_get, slice_index, slice_range, Some};
 ghost use Rattle.pdu_layout.specs.Table.{kinds_for, kinds_of};
-ghost use Rattle.pdu_layout.specs.Held.{AreKinds, HoldEach, layout_of};
+ghost use Rattle.pdu_layout.specs.Held.{AreKinds, layout_of};
 ghost use Rattle.pdu_layout.specs.Message.{Spells};
 ghost use Rattle.pdu_codec.specs.Cuts.{IsCut};
 ghost use Rattle.pdu_codec.specs.Facts.{cut_prop};

@@ -1,10 +1,10 @@
 //! Writing a message as its bytes.
 
-ghost use Rattle.std.specs.Prelude.{◌≡◌, ◌<◌, ◌≤◌, ◌++◌, ◌∷◌, ◌+◌, ℕ, IsTrue, List, length, drop, map, take, reverse};
+ghost use Rattle.std.specs.Prelude.{◌≡◌, ◌<◌, ◌≤◌, ◌++◌, ◌∷◌, ◌+◌, ℕ, IsTrue, length, drop, map, take, reverse};
 ghost use Rattle.dcp_types.specs.Codes.{type_code};
 ghost use Rattle.dcp_types.specs.Values as values;
 ghost use Rattle.dcp_types.specs.Values.{fits, digits, value_bytes};
-ghost use Rattle.pdu_layout.specs.Fields.{width, limit, Fits, bytes_of, spelled};
+ghost use Rattle.pdu_layout.specs.Fields.{field_width, limit, Fits, bytes_of, spelled};
 ghost use Rattle.pdu_layout.specs.Fields.FieldValue.{Number, Signed, Bytes};
 ghost use Rattle.pdu_layout.specs.Table.{kinds_of};
 ghost use Rattle.pdu_layout.specs.Message.{message_of, Spells, HasSpelling};
@@ -64,9 +64,9 @@ fn put_uuid(n: u128, room: &mut [u8]) -> usize
 
 fn put_number(kind: FieldKind, n: u128, room: &mut [u8]) -> usize
     requires fits { n < limit kind }
-    requires room { width kind 0 ≤ length room.old }
-    ensures length { result ≡ width kind 0 }
-    ensures bytes { room.new ≡ bytes_of kind 0 (Number n) ++ drop (width kind 0) room.old }
+    requires room { field_width kind 0 ≤ length room.old }
+    ensures length { result ≡ field_width kind 0 }
+    ensures bytes { room.new ≡ bytes_of kind 0 (Number n) ++ drop (field_width kind 0) room.old }
 {
     match kind {
         FieldKind::U8 => put_u8(n as u8, room),
@@ -94,9 +94,9 @@ fn put_typed(kind: DataType, value: i128, room: &mut [u8]) -> usize
 
 fn put_signed(kind: FieldKind, last: DataType, value: i128, room: &mut [u8]) -> usize
     requires fits { Fits kind (type_code last) (Signed value) }
-    requires room { width kind (type_code last) ≤ length room.old }
-    ensures length { result ≡ width kind (type_code last) }
-    ensures bytes { room.new ≡ bytes_of kind (type_code last) (Signed value) ++ drop (width kind (type_code last)) room.old }
+    requires room { field_width kind (type_code last) ≤ length room.old }
+    ensures length { result ≡ field_width kind (type_code last) }
+    ensures bytes { room.new ≡ bytes_of kind (type_code last) (Signed value) ++ drop (field_width kind (type_code last)) room.old }
 {
     match kind {
         FieldKind::I64 => put_typed(DataType::I64, value, room),

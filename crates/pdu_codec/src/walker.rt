@@ -1,8 +1,8 @@
 //! Cutting the bytes of a message into its fields.
 
-ghost use Rattle.std.specs.Prelude.{◌≡◌, ◌∷◌, [], ◌<◌, ◌≤◌, ◌+◌, length, List, slice_index, slice_get, slice_range, IfOk, IfErr, Some};
+ghost use Rattle.std.specs.Prelude.{◌≡◌, ◌∷◌, [], ◌<◌, ◌≤◌, ◌+◌, length, slice_index, slice_range, IfOk, IfErr, Some};
 ghost use Rattle.dcp_types.specs.Codes.{type_code};
-ghost use Rattle.pdu_layout.specs.Fields.{width, type_after};
+ghost use Rattle.pdu_layout.specs.Fields.{type_after};
 ghost use Rattle.pdu_layout.specs.Table.{kinds_for, kinds_of};
 ghost use Rattle.pdu_codec.specs.Refusals.{Refusal};
 ghost use Rattle.pdu_codec.specs.Pieces.{AreEnds, IsPiece, FieldFault};

@@ -14,7 +14,7 @@ use Rattle.pdu_layout.specs.declared.fields.FieldKind.TheVariants.{U8, U16, U32,
 use Rattle.pdu_layout.specs.declared.fields.Field.{Field}
 use Rattle.pdu_layout.specs.declared.message_parts.FieldContent.{FieldContent}
 use Rattle.pdu_layout.specs.declared.message_parts.FieldContent.TheVariants as contents
-use Rattle.pdu_layout.specs.Fields.{type_from, width, Fits, bytes_of, type_after, spelled, FitEach, FieldValue}
+use Rattle.pdu_layout.specs.Fields.{type_from, field_width, Fits, bytes_of, type_after, spelled, FitEach, FieldValue}
 use Rattle.pdu_layout.specs.Fields.FieldValue.{Number, Signed, Bytes}
 use Rattle.pdu_layout.specs.Table.{kinds_of}
 use Rattle.pdu_layout.specs.Parts.{value_of}
@@ -31,11 +31,11 @@ type_from-code types.I32 = refl
 type_from-code types.I64 = refl
 
 -- a number or a signed number that fits has the field's width
-pub length-number : (k : FieldKind) (t n : ℕ) → length (bytes_of k t (Number n)) ≡ width k t
+pub length-number : (k : FieldKind) (t n : ℕ) → length (bytes_of k t (Number n)) ≡ field_width k t
 length-number Uuid t n = length-reverse (digits 16 n) ∙ length-digits 16 n
-length-number k t n = length-digits (width k t) n
+length-number k t n = length-digits (field_width k t) n
 
-pub length-signed : (k : FieldKind) (t : ℕ) (z : ℤ) → Fits k t (Signed z) → length (bytes_of k t (Signed z)) ≡ width k t
+pub length-signed : (k : FieldKind) (t : ℕ) (z : ℤ) → Fits k t (Signed z) → length (bytes_of k t (Signed z)) ≡ field_width k t
 length-signed I64 t z f = length-digits 8 (residue 8 z)
 length-signed Value t z f = length-digits (values.width (type_from t)) (residue (values.width (type_from t)) z)
 length-signed k t z f = absurd f

@@ -25,18 +25,18 @@ type_from (suc (suc (suc (suc (suc (suc zero)))))) = types.I32
 type_from (suc (suc (suc (suc (suc (suc (suc code))))))) = types.I64
 
 -- how many bytes a field has, after a type field of code t; a rest has what is left
-abbrev pub width : FieldKind → ℕ → ℕ
-width U8 t = 1
-width U16 t = 2
-width U32 t = 4
-width U64 t = 8
-width I64 t = 8
-width StateCode t = 1
-width TypeCode t = 1
-width Value t = values.width (type_from t)
-width Uuid t = 16
-width Ip t = 4
-width Rest t = 0
+abbrev pub field_width : FieldKind → ℕ → ℕ
+field_width U8 t = 1
+field_width U16 t = 2
+field_width U32 t = 4
+field_width U64 t = 8
+field_width I64 t = 8
+field_width StateCode t = 1
+field_width TypeCode t = 1
+field_width Value t = values.width (type_from t)
+field_width Uuid t = 16
+field_width Ip t = 4
+field_width Rest t = 0
 
 -- a field of this kind holds the numbers below this
 abbrev pub limit : FieldKind → ℕ
@@ -63,7 +63,7 @@ Fits _ t _ = ⊥
 -- the bytes of a value in a field: the lowest first, but for an identity, which stands in the order of its printed form
 abbrev pub bytes_of : FieldKind → ℕ → FieldValue → List ℕ
 bytes_of Uuid t (Number n) = reverse (digits 16 n)
-bytes_of kind t (Number n) = digits (width kind t) n
+bytes_of kind t (Number n) = digits (field_width kind t) n
 bytes_of I64 t (Signed z) = value_bytes types.I64 z
 bytes_of kind t (Signed z) = value_bytes (type_from t) z
 bytes_of kind t (Bytes bytes) = bytes

@@ -1,8 +1,8 @@
 //! Whether a message has a spelling.
 
-ghost use Rattle.std.specs.Prelude.{◌≡◌, ◌<◌, ◌≤◌, List, length, map, take, MatchBool};
+ghost use Rattle.std.specs.Prelude.{◌≡◌, ◌<◌, ◌≤◌, length, map, take, MatchBool};
 ghost use Rattle.dcp_types.specs.Codes.{type_code};
-ghost use Rattle.pdu_layout.specs.Fields.{width, limit, Fits, bytes_of, type_after};
+ghost use Rattle.pdu_layout.specs.Fields.{field_width, limit, Fits, bytes_of, type_after};
 ghost use Rattle.pdu_layout.specs.Table.{kinds_of};
 ghost use Rattle.pdu_layout.specs.Fields.FieldValue.{Signed, Bytes};
 ghost use Rattle.pdu_layout.specs.Message.{message_of, HasSpelling};
@@ -18,7 +18,7 @@ use dcp_types::{DataType, fits};
 impl FieldKind {
     /// How many bytes a field has, after a type field of this type; 0 for a rest.
     pub fn width(self, last: DataType) -> usize
-        ensures { result ≡ width self (type_code last) }
+        ensures { result ≡ field_width self (type_code last) }
     {
         match self {
             FieldKind::U8 | FieldKind::StateCode | FieldKind::TypeCode => 1,

@@ -14,7 +14,7 @@ use Rattle.dcp_types.specs.declared.data_types.DataType.{DataType}
 use Rattle.dcp_types.specs.declared.data_types.DataType.TheVariants as types
 use Rattle.dcp_types.specs.declared.states.State.{State}
 use Rattle.text_lines.specs.Causes as lines
-use Rattle.text_lines.specs.Numbers.{number, signed_number}
+use Rattle.text_lines.specs.Numbers.{decimal_number, signed_number}
 use Rattle.text_lines.specs.Addresses.{ip, ip_part, ip_of_parts}
 use Rattle.text_lines.specs.Identities.{identity}
 use Rattle.text_lines.specs.declared.reasons.TextWhy.{TextWhy}
@@ -28,8 +28,8 @@ use Rattle.pdu_layout.specs.Fields.FieldValue.{Number, Signed, Bytes}
 use Rattle.pdu_layout.specs.Table.{FieldRow, Row, row_of, kinds_in}
 use Rattle.pdu_layout.specs.Message.{Message, HasSpelling}
 use Rattle.pdu_layout.proofs.Contents.{length-number, length-signed}
-use Rattle.pdu_text.specs.Reasons.{◌>>=◌, or_why, within}
-use Rattle.pdu_text.specs.Words.{word_said, state_named, is_signed, below_said, typed_said, value_said, size_of, placed, text_after, field_said, type_said}
+use Rattle.pdu_text.specs.Reasons.{◌>>=◌, or_why, within_room}
+use Rattle.pdu_text.specs.Words.{word_said, state_named, is_signed_type, below_said, typed_said, value_said, size_of, placed_value, text_behind, field_said, type_said}
 use Rattle.pdu_text.specs.Machine.{SayInRoom}
 use Rattle.pdu_text.specs.Reading.{SayEach}
 use Rattle.pdu_text.specs.declared.reasons.PduTextWhy.{PduTextWhy}
@@ -42,7 +42,7 @@ field_ok v = Ok v
 same_field : (v w : FieldValue) → field_ok v ≡ field_ok w → v ≡ w
 same_field v w e = cc
 
-within_ok : (b : Bool) (x y : FieldValue) → within b x ≡ field_ok y → (b ≡ true) × (x ≡ y)
+within_ok : (b : Bool) (x y : FieldValue) → within_room b x ≡ field_ok y → (b ≡ true) × (x ≡ y)
 within_ok true x y e = (refl, same_field x y e)
 within_ok false x y e = cc
 
@@ -78,13 +78,13 @@ signed_stands k t z f = record { fits = f; size = length-signed k t z f; type = 
 
 below_stands : (k : FieldKind) (t : ℕ) (w : List ℕ) (v : FieldValue) → below_said (limit k) w ≡ Ok v → Stands k t v
 below_stands k t w v e =
-    let a = bind_ok (or_why (number w) why.BadNumber) (λ n. within (ltb n (limit k)) (Number n)) v e in
+    let a = bind_ok (or_why (decimal_number w) why.BadNumber) (λ n. within_room (ltb n (limit k)) (Number n)) v e in
     let b = within_ok (ltb a.0 (limit k)) (Number a.0) v a.2 in
     subst (Stands k t) b.1 (number_stands k t a.0 (less a.0 (limit k) b.0))
 
 typed_is : (kind : DataType) (w : List ℕ) (v : FieldValue) → typed_said kind w ≡ Ok v → (z : ℤ) × (fits kind z ≡ true) × (Signed z ≡ v)
 typed_is kind w v e =
-    let a = bind_ok (or_why (signed_number (is_signed kind) w) why.BadNumber) (λ z. within (fits kind z) (Signed z)) v e in
+    let a = bind_ok (or_why (signed_number (is_signed_type kind) w) why.BadNumber) (λ z. within_room (fits kind z) (Signed z)) v e in
     let b = within_ok (fits kind a.0) (Signed a.0) v a.2 in
     (a.0, b.0, b.1)
 
@@ -92,7 +92,7 @@ state_small : (state : State) → state_code state < 19
 state_small state = grind (arith)
 
 ip_part_small : (w : List ℕ) (n : ℕ) → ip_part w ≡ Some n → n < 256
-ip_part_small w n e = small (number w) n e
+ip_part_small w n e = small (decimal_number w) n e
   where
     picked : (b : Bool) (m n : ℕ) → cond b (Some m) None ≡ Some n → (b ≡ true) × (m ≡ n)
     picked true m n e = (refl, cc)
@@ -155,8 +155,8 @@ value_stands k t w v e = below_stands k t w v e
 said_stands : (f : FieldRow) (room t : ℕ) (w : List ℕ) (v : FieldValue) → field_said f room t w ≡ Ok v → Stands f.kind t v × (size_of f.kind t v ≤ room)
 unfolding field_said
 said_stands f room t w v e =
-    let a = bind_ok (or_why (text_after f.name w) why.UnknownKey) (λ text. value_said f.kind t text >>= λ value. placed f.kind room t value) v e in
-    let b = bind_ok (value_said f.kind t a.0) (λ value. placed f.kind room t value) v a.2 in
+    let a = bind_ok (or_why (text_behind f.name w) why.UnknownKey) (λ text. value_said f.kind t text >>= λ value. placed_value f.kind room t value) v e in
+    let b = bind_ok (value_said f.kind t a.0) (λ value. placed_value f.kind room t value) v a.2 in
     let c = within_ok (leb (size_of f.kind t b.0) room) b.0 v b.2 in
     subst (λ (x : FieldValue). Stands f.kind t x × (size_of f.kind t x ≤ room)) c.1 (value_stands f.kind t a.0 b.0 b.1, at_most (size_of f.kind t b.0) room c.0)
 
@@ -204,18 +204,18 @@ room_left m n h = grind (arith, nat_tests)
 said_word : (f : FieldRow) (room t : ℕ) (w : List ℕ) (v : FieldValue) → field_said f room t w ≡ Ok v → word_said f t w ≡ Ok v
 unfolding field_said word_said
 said_word f room t w v e =
-    let a = bind_ok (or_why (text_after f.name w) why.UnknownKey) (λ text. value_said f.kind t text >>= λ value. placed f.kind room t value) v e in
-    let b = bind_ok (value_said f.kind t a.0) (λ value. placed f.kind room t value) v a.2 in
+    let a = bind_ok (or_why (text_behind f.name w) why.UnknownKey) (λ text. value_said f.kind t text >>= λ value. placed_value f.kind room t value) v e in
+    let b = bind_ok (value_said f.kind t a.0) (λ value. placed_value f.kind room t value) v a.2 in
     let c = within_ok (leb (size_of f.kind t b.0) room) b.0 v b.2 in
     ap (λ r. r >>= λ text. value_said f.kind t text) a.1 ∙ b.1 ∙ ap field_ok c.1
 
 word_in_room : (f : FieldRow) (room t : ℕ) (w : List ℕ) (v : FieldValue) → word_said f t w ≡ Ok v → size_of f.kind t v ≤ room → field_said f room t w ≡ Ok v
 unfolding field_said word_said
 word_in_room f room t w v e small =
-    let a = bind_ok (or_why (text_after f.name w) why.UnknownKey) (λ text. value_said f.kind t text) v e in
-    ap (λ r. r >>= λ text. value_said f.kind t text >>= λ value. placed f.kind room t value) a.1
-    ∙ ap (λ r. r >>= λ value. placed f.kind room t value) a.2
-    ∙ ap (λ (b : Bool). within b v) (room_left (size_of f.kind t v) room small)
+    let a = bind_ok (or_why (text_behind f.name w) why.UnknownKey) (λ text. value_said f.kind t text) v e in
+    ap (λ r. r >>= λ text. value_said f.kind t text >>= λ value. placed_value f.kind room t value) a.1
+    ∙ ap (λ r. r >>= λ value. placed_value f.kind room t value) a.2
+    ∙ ap (λ (b : Bool). within_room b v) (room_left (size_of f.kind t v) room small)
 
 pub drop_room : (fs : List FieldRow) (room t : ℕ) (ws : List (List ℕ)) (vs : List FieldValue) → SayInRoom fs room t ws vs → SayEach fs t ws vs
 drop_room [] room t [] [] h = tt

@@ -1,8 +1,8 @@
 -- Each text reads as one message or breaks one rule first.
 use Rattle.std.proofs.Common.{◌≡◌, ◌⊎◌, inl, inr, ℕ, List, Result, Ok, Err, refl, sym, ◌∙◌}
 use Rattle.pdu_layout.specs.Message.{Message}
-use Rattle.pdu_text.specs.Reading.{Reads}
-use Rattle.pdu_text.specs.Refusals.{Refused}
+use Rattle.pdu_text.specs.Reading.{ReadsMessage}
+use Rattle.pdu_text.specs.Refusals.{RefusedFor}
 use Rattle.pdu_text.specs.Machine.{text_said}
 use Rattle.pdu_text.specs.Laws.{ReadsOrBreaks, NeverBoth, OneMessage, OneCause}
 use Rattle.pdu_text.specs.declared.reasons.PduTextWhy.{PduTextWhy}
@@ -14,7 +14,7 @@ good p = Ok p
 abbrev bad : PduTextWhy → Result Message PduTextWhy
 bad why = Err why
 
-judge : (text : List ℕ) (r : Result Message PduTextWhy) → text_said text ≡ r → ((p : Message) × Reads text p) ⊎ ((why : PduTextWhy) × Refused text why)
+judge : (text : List ℕ) (r : Result Message PduTextWhy) → text_said text ≡ r → ((p : Message) × ReadsMessage text p) ⊎ ((why : PduTextWhy) × RefusedFor text why)
 judge text (Ok p) e = inl (p, said_reads text p e)
 judge text (Err why) e = inr (why, said_refused text why e)
 

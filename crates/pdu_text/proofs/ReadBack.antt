@@ -23,10 +23,10 @@ use Rattle.pdu_layout.specs.Fields.FieldValue.{Number, Signed, Bytes}
 use Rattle.pdu_layout.specs.Table.{FieldRow, Row, table, row_in, row_of, kinds_in}
 use Rattle.pdu_layout.specs.Message.{Message, HasSpelling}
 use Rattle.pdu_text.specs.Reasons.{◌>>=◌, or_why}
-use Rattle.pdu_text.specs.Words.{value_said, text_after, word_said, type_said}
-use Rattle.pdu_text.specs.Lines.{first_of, has_words, code_named}
-use Rattle.pdu_text.specs.Printed.{value_text, fields_text, line_in, line_of}
-use Rattle.pdu_text.specs.Reading.{SayEach, Reads}
+use Rattle.pdu_text.specs.Words.{value_said, text_behind, word_said, type_said}
+use Rattle.pdu_text.specs.Lines.{leading_word, has_words, code_named}
+use Rattle.pdu_text.specs.Printed.{value_text, fields_text, printed_row, line_of_message}
+use Rattle.pdu_text.specs.Reading.{SayEach, ReadsMessage}
 use Rattle.pdu_text.specs.declared.reasons.PduTextWhy.{PduTextWhy}
 use Rattle.pdu_text.specs.declared.reasons.PduTextWhy.TheVariants as why
 use Rattle.pdu_text.proofs.Fitting.{stands, kinds, Room}
@@ -95,7 +95,7 @@ abbrev is_equals : ℕ → Bool
 is_equals b = eqb b 61
 
 -- what stands behind the name of a field
-text_back : (name x : List ℕ) → list_all is_name_byte name ≡ true → text_after name (name ++ (61 ∷ x)) ≡ Some x
+text_back : (name x : List ℕ) → list_all is_name_byte name ≡ true → text_behind name (name ++ (61 ∷ x)) ≡ Some x
 text_back name x h =
     let w = name ++ (61 ∷ x) in
     let longer : length name < length w = omega (arith, length-append name (61 ∷ x)) in
@@ -171,7 +171,7 @@ one_line ws h = ap lines (sym (append-nil (printed.line_of ws))) ∙ lines_joine
 
 -- ---- the message
 
-words_read : (p : Message) (row : Row) → row_of p.code ≡ Some row → FitEach (kinds row.fields) 0 p.values → HasSpelling p → Reads (printed.line_of (row.name ∷ given row.fields p.values)) p
+words_read : (p : Message) (row : Row) → row_of p.code ≡ Some row → FitEach (kinds row.fields) 0 p.values → HasSpelling p → ReadsMessage (printed.line_of (row.name ∷ given row.fields p.values)) p
 words_read p row listed fit spelling =
     let ws = row.name ∷ given row.fields p.values in
     let f = found_in table p.code row listed table_told in
@@ -185,7 +185,7 @@ words_read p row listed fit spelling =
       given = given row.fields p.values;
       row = row;
       utf8 = utf8_line ws plain;
-      line = ap (λ (ls : List (List ℕ)). words (first_of ls)) cut ∙ words_joined row.name (given row.fields p.values) plain;
+      line = ap (λ (ls : List (List ℕ)). words (leading_word ls)) cut ∙ words_joined row.name (given row.fields p.values) plain;
       named = code_is (code_named row.name) row.code t.1 ∙ ap (λ k. Some k) f.1;
       listed = listed;
       said = each.0;
@@ -194,12 +194,12 @@ words_read p row listed fit spelling =
     }
 
 -- what is printed of a message that has a spelling reads as the message
-pub printed_reads : (p : Message) → HasSpelling p → Reads (line_of p) p
-unfolding line_of
+pub printed_reads : (p : Message) → HasSpelling p → ReadsMessage (line_of_message p) p
+unfolding line_of_message
 printed_reads p h =
     let s = h.1 in
     let r = listed_row (row_of p.code) s.kinds s.listed in
     let row = r.0 in
     let fit : FitEach (kinds row.fields) 0 p.values = subst (λ ks. FitEach ks 0 p.values) (sym r.2) s.fits in
-    let text : line_of p ≡ printed.line_of (row.name ∷ given row.fields p.values) = ap (λ (o : Option Row). line_in o p.values) r.1 ∙ line_words row.name row.fields p.values in
-    subst (λ (l : List ℕ). Reads l p) (sym text) (words_read p row r.1 fit h)
+    let text : line_of_message p ≡ printed.line_of (row.name ∷ given row.fields p.values) = ap (λ (o : Option Row). printed_row o p.values) r.1 ∙ line_words row.name row.fields p.values in
+    subst (λ (l : List ℕ). ReadsMessage l p) (sym text) (words_read p row r.1 fit h)

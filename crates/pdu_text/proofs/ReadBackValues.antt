@@ -18,7 +18,7 @@ use Rattle.dcp_types.specs.Values.{fits}
 use Rattle.dcp_types.specs.declared.data_types.DataType.{DataType}
 use Rattle.dcp_types.specs.declared.data_types.DataType.TheVariants as types
 use Rattle.text_lines.specs.Printed.{ip_word, identity_word}
-use Rattle.text_lines.specs.Numbers.{number, signed_number, has_minus}
+use Rattle.text_lines.specs.Numbers.{decimal_number, signed_number, has_minus}
 use Rattle.text_lines.proofs.PlainWords.{is_plain_byte, is_plain, and_both, both}
 use Rattle.text_lines.proofs.NumberWords.{number_decimal, plain_decimal, ip_back, plain_ip}
 use Rattle.text_lines.proofs.IdentityWords.{identity_back, plain_identity}
@@ -27,8 +27,8 @@ use Rattle.pdu_layout.specs.declared.fields.FieldKind.{FieldKind}
 use Rattle.pdu_layout.specs.declared.fields.FieldKind.TheVariants.{U8, U16, U32, U64, I64, StateCode, TypeCode, Value, Uuid, Ip, Rest}
 use Rattle.pdu_layout.specs.Fields.{FieldValue, Fits, limit, type_from}
 use Rattle.pdu_layout.specs.Fields.FieldValue.{Number, Signed, Bytes}
-use Rattle.pdu_text.specs.Reasons.{◌>>=◌, or_why, within}
-use Rattle.pdu_text.specs.Words.{is_signed, state_named, below_said, typed_said, value_said}
+use Rattle.pdu_text.specs.Reasons.{◌>>=◌, or_why, within_room}
+use Rattle.pdu_text.specs.Words.{is_signed_type, state_named, below_said, typed_said, value_said}
 use Rattle.pdu_text.specs.Printed.{state_word, value_text}
 use Rattle.pdu_text.specs.declared.reasons.PduTextWhy.TheVariants as why
 use Rattle.pdu_text.proofs.Fitting.{field_ok}
@@ -54,8 +54,8 @@ below m n h = grind (arith, nat_tests)
 
 below_back : (limit n : ℕ) → n < limit → limit ≤ 2 ^ 64 → below_said limit (decimal n) ≡ Ok (Number n)
 below_back limit n h most =
-    ap (λ (o : Option ℕ). or_why o why.BadNumber >>= λ n. within (ltb n limit) (Number n)) (number_decimal n (omega (arith, h, most)))
-    ∙ ap (λ (b : Bool). within b (Number n)) (less n limit h)
+    ap (λ (o : Option ℕ). or_why o why.BadNumber >>= λ n. within_room (ltb n limit) (Number n)) (number_decimal n (omega (arith, h, most)))
+    ∙ ap (λ (b : Bool). within_room b (Number n)) (less n limit h)
 
 plain_number : (limit n : ℕ) → n < limit → limit ≤ 2 ^ 64 → are_plain (decimal n) ≡ true
 plain_number limit n h most = plain_bytes (decimal n) (plain_decimal n (omega (arith, h, most)))
@@ -70,7 +70,7 @@ no_minus : (b : ℕ) → is_ascii_digit b ≡ true → eqb b 45 ≡ false
 no_minus b h = grind (arith, nat_tests)
 
 -- a number does not begin with a minus sign
-unsigned : (w : List ℕ) (n : ℕ) → number w ≡ Some n → has_minus w ≡ false
+unsigned : (w : List ℕ) (n : ℕ) → decimal_number w ≡ Some n → has_minus w ≡ false
 unsigned w n e =
     let a = and_both (ltb 0 (length w) && leb (length w) 20) (list_all is_ascii_digit w) (passes _ _ n e) in
     let b = and_both (ltb 0 (length w)) (leb (length w) 20) a.0 in
@@ -78,7 +78,7 @@ unsigned w n e =
 
 signed_pos : (signed : Bool) (n : ℕ) → n < 2 ^ 64 → signed_number signed (decimal n) ≡ Some (pos n)
 signed_pos signed n small =
-    ap (λ (b : Bool). cond b (option_and_then (λ n. Some (neg_ℤ (pos n))) (number (drop 1 (decimal n)))) (option_and_then (λ n. Some (pos n)) (number (decimal n)))) (never signed (has_minus (decimal n)) (unsigned (decimal n) n (number_decimal n small)))
+    ap (λ (b : Bool). cond b (option_and_then (λ n. Some (neg_ℤ (pos n))) (decimal_number (drop 1 (decimal n)))) (option_and_then (λ n. Some (pos n)) (decimal_number (decimal n)))) (never signed (has_minus (decimal n)) (unsigned (decimal n) n (number_decimal n small)))
     ∙ ap (option_and_then (λ n. Some (pos n))) (number_decimal n small)
   where
     never : (a b : Bool) → b ≡ false → (a && b) ≡ false
@@ -96,7 +96,7 @@ pos_small types.I16 n h = grind (arith, nat_tests)
 pos_small types.I32 n h = grind (arith, nat_tests)
 pos_small types.I64 n h = grind (arith, nat_tests)
 
-neg_small : (kind : DataType) (n : ℕ) → fits kind (negsuc n) ≡ true → (is_signed kind ≡ true) × (n < 2 ^ 63)
+neg_small : (kind : DataType) (n : ℕ) → fits kind (negsuc n) ≡ true → (is_signed_type kind ≡ true) × (n < 2 ^ 63)
 neg_small types.U8 n h = absurd (false≢true h)
 neg_small types.U16 n h = absurd (false≢true h)
 neg_small types.U32 n h = absurd (false≢true h)
@@ -106,8 +106,8 @@ neg_small types.I16 n h = (refl, grind (arith, nat_tests))
 neg_small types.I32 n h = (refl, grind (arith, nat_tests))
 neg_small types.I64 n h = (refl, grind (arith, nat_tests))
 
-signed_back : (kind : DataType) (z : ℤ) → fits kind z ≡ true → signed_number (is_signed kind) (signed_decimal z) ≡ Some z
-signed_back kind (pos n) h = signed_pos (is_signed kind) n (pos_small kind n h)
+signed_back : (kind : DataType) (z : ℤ) → fits kind z ≡ true → signed_number (is_signed_type kind) (signed_decimal z) ≡ Some z
+signed_back kind (pos n) h = signed_pos (is_signed_type kind) n (pos_small kind n h)
 signed_back kind (negsuc n) h =
     let s = neg_small kind n h in
     let small = s.1 in
@@ -115,7 +115,7 @@ signed_back kind (negsuc n) h =
 
 typed_back : (kind : DataType) (z : ℤ) → fits kind z ≡ true → typed_said kind (signed_decimal z) ≡ Ok (Signed z)
 typed_back kind z h =
-    ap (λ (o : Option ℤ). or_why o why.BadNumber >>= λ z. within (fits kind z) (Signed z)) (signed_back kind z h) ∙ ap (λ (b : Bool). within b (Signed z)) h
+    ap (λ (o : Option ℤ). or_why o why.BadNumber >>= λ z. within_room (fits kind z) (Signed z)) (signed_back kind z h) ∙ ap (λ (b : Bool). within_room b (Signed z)) h
 
 plain_typed : (kind : DataType) (z : ℤ) → fits kind z ≡ true → are_plain (signed_decimal z) ≡ true
 plain_typed kind (pos n) h = plain_bytes (decimal n) (plain_decimal n (pos_small kind n h))

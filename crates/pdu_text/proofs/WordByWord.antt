@@ -8,7 +8,7 @@ use Rattle.pdu_text.specs.Reasons.{◌>>=◌}
 use Rattle.pdu_text.specs.Words.{field_said, size_of, type_said}
 use Rattle.pdu_text.specs.Lines.{first_words, goes_on, code_named}
 use Rattle.pdu_text.specs.Machine.{SayInRoom}
-use Rattle.pdu_text.specs.Refusals.{Breaks, BreaksRow, BreaksCode, BreaksLine, Refused}
+use Rattle.pdu_text.specs.Refusals.{Breaks, BreaksRow, BreaksCode, BreaksLine, RefusedFor}
 use Rattle.pdu_text.specs.Machine.{fields_said, row_said, code_said, line_said, text_said}
 use Rattle.pdu_text.specs.declared.reasons.PduTextWhy.{PduTextWhy}
 use Rattle.pdu_text.specs.declared.reasons.PduTextWhy.TheVariants.{NotUtf8, UnknownKey, Words}
@@ -176,10 +176,10 @@ ok_text : (utf8 more : Bool) (ws : List (List ℕ)) (p : Message) → told utf8 
 ok_text true more ws p e = (refl, e)
 ok_text false more ws p e = cc
 
-pub refused_said : (text : List ℕ) (why : PduTextWhy) → Refused text why → text_said text ≡ Err why
+pub refused_said : (text : List ℕ) (why : PduTextWhy) → RefusedFor text why → text_said text ≡ Err why
 refused_said text why h = text_err (is_utf8 text) (goes_on text) (first_words text) why h
 
-pub said_refused : (text : List ℕ) (why : PduTextWhy) → text_said text ≡ Err why → Refused text why
+pub said_refused : (text : List ℕ) (why : PduTextWhy) → text_said text ≡ Err why → RefusedFor text why
 said_refused text why e = err_text (is_utf8 text) (goes_on text) (first_words text) why e
 
 -- the text reads as the message, and at each word the message has room

@@ -7,10 +7,10 @@ use Rattle.pdu_text.specs.declared.contents.Said.{Said}
 use Rattle.pdu_text.specs.declared.contents.Said.TheVariants as said
 use Rattle.pdu_text.specs.declared.contents.SaidMessage.{SaidMessage}
 
-abbrev pub value_in : Said → FieldValue
-value_in (said.Number n) = Number n
-value_in (said.Signed z) = Signed z
-value_in (said.Bytes bytes) = Bytes bytes.items
+abbrev pub value_of_said : Said → FieldValue
+value_of_said (said.Number n) = Number n
+value_of_said (said.Signed z) = Signed z
+value_of_said (said.Bytes bytes) = Bytes bytes.items
 
-abbrev pub message_in : SaidMessage → Message
-message_in m = record { code = m.code; values = map value_in m.values.items }
+abbrev pub message_of_said : SaidMessage → Message
+message_of_said m = record { code = m.code; values = map value_of_said m.values.items }

@@ -6,13 +6,13 @@ use Rattle.std.specs.Str.Lines.{lines}
 use Rattle.text_lines.specs.Texts.{words}
 use Rattle.pdu_layout.specs.Table.{Row, table}
 
-abbrev pub first_of : List (List ℕ) → List ℕ
-first_of [] = []
-first_of (l ∷ ls) = l
+abbrev pub leading_word : List (List ℕ) → List ℕ
+leading_word [] = []
+leading_word (l ∷ ls) = l
 
 -- the words of line 1
 abbrev pub first_words : List ℕ → List (List ℕ)
-first_words text = words (first_of (lines text))
+first_words text = words (leading_word (lines text))
 
 abbrev pub has_words : List ℕ → Bool
 has_words line = nat_lt 0 (length (words line))
@@ -22,10 +22,10 @@ abbrev pub goes_on : List ℕ → Bool
 goes_on text = list_any has_words (drop 1 (lines text))
 
 -- the type code of the first row with this name
-abbrev pub code_in : List Row → List ℕ → Option ℕ
-code_in [] w = None
-code_in (row ∷ rows) w = if bytes_eq w row.name then Some row.code else code_in rows w
+abbrev pub code_in_rows : List Row → List ℕ → Option ℕ
+code_in_rows [] w = None
+code_in_rows (row ∷ rows) w = if bytes_eq w row.name then Some row.code else code_in_rows rows w
 
 -- the type code of the message with this name
 unfoldable pub code_named : List ℕ → Option ℕ
-code_named w = code_in table w
+code_named w = code_in_rows table w

@@ -9,7 +9,7 @@ use Rattle.pdu_layout.specs.Table.{FieldRow, Row, row_of}
 use Rattle.pdu_layout.specs.Message.{Message}
 use Rattle.pdu_text.specs.Reasons.{◌>>=◌}
 use Rattle.pdu_text.specs.Words.{field_said, size_of, type_said}
-use Rattle.pdu_text.specs.Lines.{first_of, has_words, code_named}
+use Rattle.pdu_text.specs.Lines.{leading_word, has_words, code_named}
 use Rattle.pdu_text.specs.declared.reasons.PduTextWhy.{PduTextWhy}
 use Rattle.pdu_text.specs.declared.reasons.PduTextWhy.TheVariants as why
 
@@ -37,7 +37,7 @@ line_said more [] = Err why.Words
 line_said more (name ∷ ws) = code_said (code_named name) more ws
 
 abbrev pub lines_said : List (List ℕ) → Result Message PduTextWhy
-lines_said ls = line_said (list_any has_words (drop 1 ls)) (words (first_of ls))
+lines_said ls = line_said (list_any has_words (drop 1 ls)) (words (leading_word ls))
 
 abbrev pub text_said : List ℕ → Result Message PduTextWhy
 text_said text = if is_utf8 text then lines_said (lines text) else Err why.NotUtf8

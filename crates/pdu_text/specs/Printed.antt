@@ -42,10 +42,10 @@ fields_text (f ∷ fs) (v ∷ vs) = 32 ∷ (f.name ++ (61 ∷ (value_text f.kind
 abbrev pub row_line : List ℕ → List FieldRow → List FieldValue → List ℕ
 row_line name fields values = name ++ fields_text fields values
 
-abbrev pub line_in : Option Row → List FieldValue → List ℕ
-line_in None values = []
-line_in (Some row) values = row_line row.name row.fields values
+abbrev pub printed_row : Option Row → List FieldValue → List ℕ
+printed_row None values = []
+printed_row (Some row) values = row_line row.name row.fields values
 
 -- the line of a message, by its row of the table
-unfoldable pub line_of : Message → List ℕ
-line_of p = line_in (row_of p.code) p.values
+unfoldable pub line_of_message : Message → List ℕ
+line_of_message p = printed_row (row_of p.code) p.values

@@ -14,7 +14,7 @@ SayEach (f ∷ fs) t (w ∷ ws) (v ∷ vs) = (word_said f t w ≡ Ok v) × SayEa
 SayEach _ t _ _ = ⊥
 
 -- The text is one line of words, the first names the message, and the others say what its fields hold, in their order; and the message has a spelling.
-pub record Reads (text : List ℕ) (p : Message) : Type 0 where
+pub record ReadsMessage (text : List ℕ) (p : Message) : Type 0 where
   pub name : List ℕ
   pub given : List (List ℕ)
   pub row : Row

@@ -25,8 +25,8 @@ or_why (Some x) why = Ok x
 or_why None why = Err why
 
 -- the value where it passes the test, or LIMIT
-abbrev pub within : {A : Type 0} → Bool → A → Result A PduTextWhy
-within passes x = if passes then Ok x else Err why.Limit
+abbrev pub within_room : {A : Type 0} → Bool → A → Result A PduTextWhy
+within_room passes x = if passes then Ok x else Err why.Limit
 
 -- what was returned, seen by view, is what is meant
 abbrev pub Sees : {X Y : Type 0} → (X → Y) → Result X PduTextWhy → Result Y PduTextWhy → Type 0

@@ -29,5 +29,5 @@ BreaksLine more [] why = why ≡ Words
 BreaksLine more (name ∷ ws) why = BreaksCode (code_named name) more ws why
 
 -- the first rule that the text breaks
-abbrev pub Refused : List ℕ → PduTextWhy → Type 0
-Refused text why = MatchBool (is_utf8 text) (BreaksLine (goes_on text) (first_words text) why) (why ≡ NotUtf8)
+abbrev pub RefusedFor : List ℕ → PduTextWhy → Type 0
+RefusedFor text why = MatchBool (is_utf8 text) (BreaksLine (goes_on text) (first_words text) why) (why ≡ NotUtf8)

@@ -4,7 +4,7 @@ ghost use Rattle.std.specs.Prelude.{◌≡◌, ◌≤◌, IfOk, IfErr, map, take
 ghost use Rattle.pdu_layout.specs.Message.{HasSpelling, Spells};
 ghost use Rattle.pdu_codec.specs.Refusals.{IsSpelling};
 ghost use Rattle.pdu_layout.specs.Parts.{value_of};
-ghost use Rattle.pdu_text.specs.Contents.{value_in, message_in};
+ghost use Rattle.pdu_text.specs.Contents.{value_of_said, message_of_said};
 ghost use Rattle.pdu_text.specs.Takers.{Adds, Handed, IsRefused, ReadsAndSpells};
 
 use crate::contents::{Said, SaidMessage};
@@ -17,7 +17,7 @@ use pdu_layout::{FieldContent, listed_row};
 use std::alloc::Global;
 
 fn content(value: &Said) -> FieldContent<'_>
-    ensures { value_of result ≡ value_in value.now }
+    ensures { value_of result ≡ value_of_said value.now }
 {
     match value {
         Said::Number(n) => FieldContent::Number(*n),
@@ -28,7 +28,7 @@ fn content(value: &Said) -> FieldContent<'_>
 
 /// What was read, as contents of fields.
 fn contents(alloc: Global, values: &[Said]) -> Result<Vec<FieldContent<'_>>, OutOfMemory>
-    ensures { IfOk result (λ v. map value_of v.items ≡ map value_in values.now) }
+    ensures { IfOk result (λ v. map value_of v.items ≡ map value_of_said values.now) }
 {
     let mut out = Vec::new(alloc);
     for value in values {
@@ -41,9 +41,9 @@ fn contents(alloc: Global, values: &[Said]) -> Result<Vec<FieldContent<'_>>, Out
 ///
 /// The message has a spelling.
 fn put_said(alloc: Global, said: &SaidMessage, room: &mut [u8; 1024]) -> Result<usize, OutOfMemory>
-    requires { HasSpelling (message_in said.now) }
+    requires { HasSpelling (message_of_said said.now) }
     ensures at_most { IfOk result (λ n. n ≤ 1024) }
-    ensures spelled { IfOk result (λ n. Spells (message_in said.now) (take n room.new)) }
+    ensures spelled { IfOk result (λ n. Spells (message_of_said said.now) (take n room.new)) }
 {
     let contents = contents(alloc, &said.values)?;
     match listed_row(said.code) {

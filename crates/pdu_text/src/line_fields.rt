@@ -2,7 +2,7 @@
 
 ghost use Rattle.std.specs.Prelude.{◌≡◌, map};
 ghost use Rattle.pdu_layout.specs.Table.{rows_of};
-ghost use Rattle.pdu_text.specs.Contents.{value_in};
+ghost use Rattle.pdu_text.specs.Contents.{value_of_said};
 ghost use Rattle.pdu_text.specs.Machine.{fields_said};
 ghost use Rattle.pdu_text.specs.Reasons.{Gives};
 
@@ -22,7 +22,7 @@ pub fn read_fields(
     more: bool,
     words: &[&[u8]],
 ) -> Result<Vec<Said>, PduTextRefused>
-    ensures { Gives (λ v. map value_in v.items) result (fields_said (rows_of fields.now) 1023 0 more (map (λ w. w.now) words.now)) }
+    ensures { Gives (λ v. map value_of_said v.items) result (fields_said (rows_of fields.now) 1023 0 more (map (λ w. w.now) words.now)) }
 {
     let mut values = Vec::new(alloc);
     let mut rest = words;

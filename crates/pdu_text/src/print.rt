@@ -4,8 +4,8 @@ ghost use Rattle.std.specs.Prelude.{◌≡◌, ◌++◌, ◌∷◌, ◌≤◌, m
 ghost use Rattle.pdu_layout.specs.Parts.{value_of, values_of};
 ghost use Rattle.pdu_layout.specs.Table.{rows_of};
 ghost use Rattle.pdu_layout.specs.Message.{HasSpelling, message_of};
-ghost use Rattle.pdu_text.specs.Printed.{value_text, row_line, line_of};
-ghost use Rattle.pdu_text.specs.Reading.{Reads};
+ghost use Rattle.pdu_text.specs.Printed.{value_text, row_line, line_of_message};
+ghost use Rattle.pdu_text.specs.Reading.{ReadsMessage};
 
 use crate::value_texts::put_content;
 use dcp_types::OutOfMemory;
@@ -58,8 +58,8 @@ fn print_parts(alloc: Global, parts: &Parts<'_>) -> Result<String, AllocError>
 
 /// The line of a message, with its line feed. It reads back as the message, where that has a spelling.
 pub fn print_pdu(alloc: Global, pdu: &Pdu<'_>) -> Result<String, OutOfMemory>
-    ensures line { IfOk result (λ s. string_bytes s ≡ line_of (message_of pdu.now)) }
-    ensures back { HasSpelling (message_of pdu.now) → IfOk result (λ s. Reads (string_bytes s) (message_of pdu.now)) }
+    ensures line { IfOk result (λ s. string_bytes s ≡ line_of_message (message_of pdu.now)) }
+    ensures back { HasSpelling (message_of pdu.now) → IfOk result (λ s. ReadsMessage (string_bytes s) (message_of pdu.now)) }
 {
     let parts = parts_of(pdu);
     let line = print_parts(alloc, &parts)?;

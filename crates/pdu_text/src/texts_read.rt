@@ -3,10 +3,10 @@
 ghost use Rattle.std.specs.Prelude.{◌≡◌, IfOk, IfErr, map};
 ghost use Rattle.std.specs.List.{list_any};
 ghost use Rattle.pdu_layout.specs.Table.{row_of};
-ghost use Rattle.pdu_text.specs.Contents.{value_in, message_in};
+ghost use Rattle.pdu_text.specs.Contents.{value_of_said, message_of_said};
 ghost use Rattle.pdu_text.specs.Lines.{has_words};
 ghost use Rattle.pdu_text.specs.Machine.{row_said, line_said, lines_said, text_said};
-ghost use Rattle.pdu_text.specs.Reading.{Reads};
+ghost use Rattle.pdu_text.specs.Reading.{ReadsMessage};
 ghost use Rattle.pdu_text.specs.Reasons.{Gives};
 ghost use Rattle.pdu_text.specs.Takers.{IsRefused};
 
@@ -38,7 +38,7 @@ fn read_row(
     more: bool,
     words: &[&[u8]],
 ) -> Result<Vec<Said>, PduTextRefused>
-    ensures { Gives (λ v. map value_in v.items) result (row_said (row_of code) more (map (λ w. w.now) words.now)) }
+    ensures { Gives (λ v. map value_of_said v.items) result (row_said (row_of code) more (map (λ w. w.now) words.now)) }
 {
     match listed_row(code) {
         Some(row) => read_fields(alloc, row.fields, more, words),
@@ -48,7 +48,7 @@ fn read_row(
 
 /// The message that the words of a line say. `more` tells that a later line has a word.
 fn read_words(alloc: Global, more: bool, words: &[&[u8]]) -> Result<SaidMessage, PduTextRefused>
-    ensures { Gives message_in result (line_said more (map (λ w. w.now) words.now)) }
+    ensures { Gives message_of_said result (line_said more (map (λ w. w.now) words.now)) }
 {
     match words {
         [name, others @ ..] => match code_of(name) {
@@ -63,7 +63,7 @@ fn read_words(alloc: Global, more: bool, words: &[&[u8]]) -> Result<SaidMessage,
 }
 
 fn read_lines(alloc: Global, lines: &[&[u8]]) -> Result<SaidMessage, PduTextRefused>
-    ensures { Gives message_in result (lines_said (map (λ l. l.now) lines.now)) }
+    ensures { Gives message_of_said result (lines_said (map (λ l. l.now) lines.now)) }
 {
     match lines {
         [first, others @ ..] => {
@@ -77,7 +77,7 @@ fn read_lines(alloc: Global, lines: &[&[u8]]) -> Result<SaidMessage, PduTextRefu
 
 /// The message that a text says, word by word.
 fn read_text(alloc: Global, text: &[u8]) -> Result<SaidMessage, PduTextRefused>
-    ensures { Gives message_in result (text_said text.now) }
+    ensures { Gives message_of_said result (text_said text.now) }
 {
     if !is_utf8(text) {
         return Err(PduTextWhy::NotUtf8.into());
@@ -88,7 +88,7 @@ fn read_text(alloc: Global, text: &[u8]) -> Result<SaidMessage, PduTextRefused>
 
 /// The message as which a text reads, or the first rule that the text breaks.
 pub fn read_message(alloc: Global, text: &[u8]) -> Result<SaidMessage, PduTextRefused>
-    ensures ok { IfOk result (λ m. Reads text.now (message_in m)) }
+    ensures ok { IfOk result (λ m. ReadsMessage text.now (message_of_said m)) }
     ensures err { IfErr result (λ e. IsRefused text.now e) }
 {
     read_text(alloc, text)

@@ -1,13 +1,12 @@
 //! The value that a word says.
 
-ghost use Rattle.std.specs.Prelude.{◌≡◌, ◌==◌, ◌-◌, Ok, IfOk};
+ghost use Rattle.std.specs.Prelude.{◌≡◌, ◌==◌, ◌-◌, Ok};
 ghost use Rattle.std.specs.List.{position};
 ghost use Rattle.std.specs.Option.{option_map};
-ghost use Rattle.pdu_layout.specs.Fields.{limit, type_from, width};
-ghost use Rattle.pdu_layout.specs.Table.{FieldRow};
-ghost use Rattle.pdu_text.specs.Contents.{value_in};
+ghost use Rattle.pdu_layout.specs.Fields.{limit, type_from, field_width};
+ghost use Rattle.pdu_text.specs.Contents.{value_of_said};
 ghost use Rattle.pdu_text.specs.Reasons.{Gives, Sees};
-ghost use Rattle.pdu_text.specs.Words.{state_in, early_states, late_states, state_named, is_signed, below_said, typed_said, state_said, identity_said, ip_said, bytes_said, value_said, size_of, placed, text_after, field_said, type_said};
+ghost use Rattle.pdu_text.specs.Words.{state_in, early_states, late_states, state_named, is_signed_type, below_said, typed_said, state_said, identity_said, ip_said, bytes_said, value_said, size_of, placed_value, text_behind, field_said, type_said};
 
 use crate::contents::Said;
 use crate::reasons::{PduTextRefused, PduTextWhy};
@@ -98,7 +97,7 @@ fn state_named(word: &[u8]) -> Option<State>
 }
 
 fn below(limit: u128, word: &[u8]) -> Result<Said, PduTextWhy>
-    ensures { Sees value_in result (below_said limit word.now) }
+    ensures { Sees value_of_said result (below_said limit word.now) }
 {
     let n = number(word).ok_or(PduTextWhy::BadNumber)?;
     if n < limit {
@@ -109,13 +108,13 @@ fn below(limit: u128, word: &[u8]) -> Result<Said, PduTextWhy>
 }
 
 fn is_signed(kind: DataType) -> bool
-    ensures { result ≡ is_signed kind }
+    ensures { result ≡ is_signed_type kind }
 {
     kind.code() >= 4
 }
 
 fn typed(kind: DataType, word: &[u8]) -> Result<Said, PduTextWhy>
-    ensures { Sees value_in result (typed_said kind word.now) }
+    ensures { Sees value_of_said result (typed_said kind word.now) }
 {
     let n = signed_number(is_signed(kind), word).ok_or(PduTextWhy::BadNumber)?;
     if fits(kind, n) {
@@ -126,7 +125,7 @@ fn typed(kind: DataType, word: &[u8]) -> Result<Said, PduTextWhy>
 }
 
 fn state(word: &[u8]) -> Result<Said, PduTextWhy>
-    ensures { Sees value_in result (state_said word.now) }
+    ensures { Sees value_of_said result (state_said word.now) }
 {
     match state_named(word) {
         Some(state) => Ok(Said::Number(state.code() as u128)),
@@ -135,7 +134,7 @@ fn state(word: &[u8]) -> Result<Said, PduTextWhy>
 }
 
 fn identity_number(word: &[u8]) -> Result<Said, PduTextWhy>
-    ensures { Sees value_in result (identity_said word.now) }
+    ensures { Sees value_of_said result (identity_said word.now) }
 {
     match identity(word) {
         Ok(n) => Ok(Said::Number(n)),
@@ -144,7 +143,7 @@ fn identity_number(word: &[u8]) -> Result<Said, PduTextWhy>
 }
 
 fn ip_number(alloc: Global, word: &[u8]) -> Result<Said, PduTextRefused>
-    ensures { Gives value_in result (ip_said word.now) }
+    ensures { Gives value_of_said result (ip_said word.now) }
 {
     match ip(alloc, word) {
         Ok(n) => Ok(Said::Number(n as u128)),
@@ -156,7 +155,7 @@ fn ip_number(alloc: Global, word: &[u8]) -> Result<Said, PduTextRefused>
 }
 
 fn payload(alloc: Global, word: &[u8]) -> Result<Said, PduTextRefused>
-    ensures { Gives value_in result (bytes_said word.now) }
+    ensures { Gives value_of_said result (bytes_said word.now) }
 {
     match hex::decode(alloc, word) {
         Ok(bytes) => Ok(Said::Bytes(bytes)),
@@ -184,7 +183,7 @@ fn type_with(code: u128) -> DataType
 }
 
 fn value(alloc: Global, kind: FieldKind, last: u128, word: &[u8]) -> Result<Said, PduTextRefused>
-    ensures { Gives value_in result (value_said kind last word.now) }
+    ensures { Gives value_of_said result (value_said kind last word.now) }
 {
     match kind {
         FieldKind::U8 => Ok(below(256, word)?),
@@ -202,7 +201,7 @@ fn value(alloc: Global, kind: FieldKind, last: u128, word: &[u8]) -> Result<Said
 }
 
 fn width(kind: FieldKind, last: u128) -> usize
-    ensures { result ≡ width kind last }
+    ensures { result ≡ field_width kind last }
 {
     match kind {
         FieldKind::U8 | FieldKind::StateCode | FieldKind::TypeCode => 1,
@@ -217,7 +216,7 @@ fn width(kind: FieldKind, last: u128) -> usize
 
 /// How many bytes the value has in a message, after a type field of code `last`.
 pub fn size_of(kind: FieldKind, last: u128, value: &Said) -> usize
-    ensures { result ≡ size_of kind last (value_in value.now) }
+    ensures { result ≡ size_of kind last (value_of_said value.now) }
 {
     match value {
         Said::Bytes(bytes) => bytes.len(),
@@ -227,7 +226,7 @@ pub fn size_of(kind: FieldKind, last: u128, value: &Said) -> usize
 
 /// The code of the type that the fields after this one go by.
 pub fn type_after(kind: FieldKind, last: u128, value: &Said) -> u128
-    ensures { result ≡ type_said kind last (value_in value.now) }
+    ensures { result ≡ type_said kind last (value_of_said value.now) }
 {
     match (kind, value) {
         (FieldKind::TypeCode, Said::Number(n)) => *n,
@@ -242,7 +241,7 @@ fn equals_sign(word: &[u8]) -> Option<usize>
 }
 
 fn text_after<'a>(name: &str, word: &'a [u8]) -> Option<&'a [u8]>
-    ensures { option_map (λ v. v.now) result ≡ text_after name.now word.now }
+    ensures { option_map (λ v. v.now) result ≡ text_behind name.now word.now }
 {
     match equals_sign(word) {
         Some(at) => {
@@ -259,7 +258,7 @@ fn text_after<'a>(name: &str, word: &'a [u8]) -> Option<&'a [u8]>
 }
 
 fn placed(kind: FieldKind, room: usize, last: u128, value: Said) -> Result<Said, PduTextRefused>
-    ensures { Gives value_in result (placed kind room last (value_in value)) }
+    ensures { Gives value_of_said result (placed_value kind room last (value_of_said value)) }
 {
     if size_of(kind, last, &value) <= room {
         Ok(value)
@@ -280,7 +279,7 @@ pub fn read_field(
     last: u128,
     word: &[u8],
 ) -> Result<Said, PduTextRefused>
-    ensures { Gives value_in result (field_said (record { name = field.now.name.now; kind = field.now.kind }) room last word.now) }
+    ensures { Gives value_of_said result (field_said (record { name = field.now.name.now; kind = field.now.kind }) room last word.now) }
 {
     match text_after(field.name, word) {
         Some(text) => {

@@ -17,7 +17,7 @@ use Rattle.master_spec.specs.declared.requests.Latest.TheVariants as latests
 use Rattle.master_spec.specs.declared.tasks.Task.{Task}
 use Rattle.master_spec.specs.Tasks.{target_of, asks_step}
 use Rattle.master_spec.specs.Jobs.{Job}
-use Rattle.master_spec.specs.Marks.{Mark, Begun, Asked, Again, Answered, Hinted, Brought, Turned, Ended, count, this_phase, acks_configuration, wants_inputs, refuses_inputs, names, asked, latest, configured, refusals, is_named_by, is_reached}
+use Rattle.master_spec.specs.Marks.{Mark, Begun, Asked, Again, Answered, Hinted, Brought, Turned, Ended, count, this_phase, acks_configuration, wants_inputs, refuses_inputs, names, asked, latest, settings_answered, refusals, is_named_by, is_reached}
 use Rattle.master_spec.specs.Conversation.{is_state}
 use Rattle.master_spec.specs.Requests.{Asking, Decision, decided_by, is_state_question, is_ack}
 use Rattle.master_spec.specs.Shown.{names_in, names_target}
@@ -196,7 +196,7 @@ conf_kind (Answered r a) = by r a ∙ ap (λ (b : Bool). b && is_ack a) (sym (co
     by AskState a = refl
     by AskError a = refl
 
-pub configured_now : (limits : Limits) (js : List Job) (xs : List Placed) → AreLegal limits js (marks_of xs) → configured (marks_of xs) ≡ count_by (counts conf_code is_ack) (now xs)
+pub configured_now : (limits : Limits) (js : List Job) (xs : List Placed) → AreLegal limits js (marks_of xs) → settings_answered (marks_of xs) ≡ count_by (counts conf_code is_ack) (now xs)
 configured_now limits js xs l = count_now conf_code is_ack acks_configuration limits js xs conf_kind l
 
 -- ---- refused steps

@@ -11,7 +11,7 @@ use Rattle.master_spec.specs.declared.requests.Answer.TheVariants.{StateAck}
 use Rattle.master_spec.specs.declared.reactions.Reaction.TheVariants.{Wait, Ask, Repeat, GiveUp}
 use Rattle.master_spec.specs.declared.reactions.Awaited.{Awaited}
 use Rattle.master_spec.specs.declared.reactions.Awaited.TheVariants.{TheAnswer, TheState, TheInputs, TheOutputs, TheOthers}
-use Rattle.master_spec.specs.Tasks.{is_by_end, is_at_once, asks_step, target_of, passing_of, step_of}
+use Rattle.master_spec.specs.Tasks.{is_by_end, is_at_once, asks_step, target_of, passing_of, task_step}
 use Rattle.master_spec.specs.Jobs.{Job}
 use Rattle.master_spec.specs.Marks.{Mark, newest_number, job_of, cause_of, turns_since, is_sending, is_answer, sendings, is_hinted, is_missing, refusals, is_reached}
 use Rattle.master_spec.specs.Conversation.{is_state, is_error, is_late, first_of, configuration_at, on_nack, on_acknowledged, on_state, on_silence, on_turn, on_hint, on_mark, reaction_in, reaction, unexpected}
@@ -58,7 +58,7 @@ ack_asks job marks r h = by (is_by_end job.task) (is_at_once job.task) (is_hinte
 pub nack_asks : (limits : Limits) (job : Job) (request : Request) (code : ℕ) (marks : List Mark) (r : Request) → on_nack limits job request code marks ≡ Ask r → ⊥
 nack_asks limits job request code marks r h = by (is_missing code && asks_step request) (nat_le limits.step_tries (refusals marks)) h
   where
-    by : (a b : Bool) → (if a then (if b then GiveUp (causes.InputsMissing (newest_number marks) (step_of job.task)) else Wait) else GiveUp (causes.Refused (newest_number marks) code)) ≡ Ask r → ⊥
+    by : (a b : Bool) → (if a then (if b then GiveUp (causes.InputsMissing (newest_number marks) (task_step job.task)) else Wait) else GiveUp (causes.Refused (newest_number marks) code)) ≡ Ask r → ⊥
     by true true z = cc
     by true false z = cc
     by false b z = cc
@@ -66,7 +66,7 @@ nack_asks limits job request code marks r h = by (is_missing code && asks_step r
 pub nack_waits : (limits : Limits) (job : Job) (request : Request) (code : ℕ) (marks : List Mark) → on_nack limits job request code marks ≡ Wait → ((is_missing code && asks_step request) ≡ true) × (nat_le limits.step_tries (refusals marks) ≡ false)
 nack_waits limits job request code marks h = by (is_missing code && asks_step request) (nat_le limits.step_tries (refusals marks)) h
   where
-    by : (a b : Bool) → (if a then (if b then GiveUp (causes.InputsMissing (newest_number marks) (step_of job.task)) else Wait) else GiveUp (causes.Refused (newest_number marks) code)) ≡ Wait → (a ≡ true) × (b ≡ false)
+    by : (a b : Bool) → (if a then (if b then GiveUp (causes.InputsMissing (newest_number marks) (task_step job.task)) else Wait) else GiveUp (causes.Refused (newest_number marks) code)) ≡ Wait → (a ≡ true) × (b ≡ false)
     by true true z = absurd cc
     by true false z = (refl, refl)
     by false b z = absurd cc
@@ -128,7 +128,7 @@ turn_asks limits job (TheInputs q) settled marks r h = by (nat_le limits.retry_t
     by false z = absurd cc
 turn_asks limits job TheOutputs settled marks r h = by (nat_le limits.data_turns (turns_since is_answer marks)) h
   where
-    by : (b : Bool) → (if b then GiveUp (causes.DataMissing (step_of job.task)) else Wait) ≡ Ask r → (TheOutputs ≡ TheInputs r) ⊎ ((r ≡ AskState) × ((TheOutputs ≡ TheState) ⊎ (TheOutputs ≡ TheOthers)))
+    by : (b : Bool) → (if b then GiveUp (causes.DataMissing (task_step job.task)) else Wait) ≡ Ask r → (TheOutputs ≡ TheInputs r) ⊎ ((r ≡ AskState) × ((TheOutputs ≡ TheState) ⊎ (TheOutputs ≡ TheOthers)))
     by true z = absurd cc
     by false z = absurd cc
 turn_asks limits job TheOthers settled marks r h = by (is_by_end job.task || settled) (nat_le limits.watch_turns (turns_since is_answer marks)) h

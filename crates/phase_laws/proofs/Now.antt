@@ -10,15 +10,15 @@ use Rattle.master_spec.specs.Marks.{Mark, Begun, Asked, Again, Answered, Hinted,
 use Rattle.master_spec.specs.Requests.{Asking, Decision, decided_by}
 use Rattle.master_spec.specs.declared.reactions.Reaction.TheVariants.{Repeat}
 use Rattle.asking_laws.specs.Legal.{Does, IsLegal, AreLegal}
-use Rattle.index_laws.specs.Index.{Placed, marks_of, code_of, more_of, first_at, again_at, decided_at, told_by, told}
+use Rattle.index_laws.specs.Index.{Placed, marks_of, code_of, more_of, first_at, again_at, decided_at, askings_told_by, askings_told}
 use Rattle.index_laws.proofs.Events.{repeats_open}
 
 -- the requests of this phase
 abbrev pub now_by : ℕ → Mark → List Mark → List Asking → List Asking
 now_by place (Begun job) marks bs = []
-now_by place (Asked request) marks bs = told_by place (Asked request) marks bs
-now_by place Again marks bs = told_by place Again marks bs
-now_by place (Answered request answer) marks bs = told_by place (Answered request answer) marks bs
+now_by place (Asked request) marks bs = askings_told_by place (Asked request) marks bs
+now_by place Again marks bs = askings_told_by place Again marks bs
+now_by place (Answered request answer) marks bs = askings_told_by place (Answered request answer) marks bs
 now_by place Hinted marks bs = bs
 now_by place (Brought number payload) marks bs = bs
 now_by place (Turned settled) marks bs = bs
@@ -105,23 +105,23 @@ decided_split n a (latests.Asked q) [] cs r o k = absurd k
 decided_split n a (latests.Asked q) (b ∷ bs) cs r o k = refl
 decided_split n a (latests.Answered q b) bs cs r o k = absurd cc
 
-pub split : (limits : Limits) (js : List Job) (xs : List Placed) → AreLegal limits js (marks_of xs) → told xs ≡ now xs ++ told (past xs)
+pub split : (limits : Limits) (js : List Job) (xs : List Placed) → AreLegal limits js (marks_of xs) → askings_told xs ≡ now xs ++ askings_told (past xs)
 split limits js [] l = refl
 split limits js (x ∷ xs) l = by x.mark l.0 (linked limits js xs l.1) (split limits js xs l.1)
   where
-    again : (r : Request) → open_in (latest (marks_of xs)) ≡ Some r → Linked (latest (marks_of xs)) (now xs) → told xs ≡ now xs ++ told (past xs) → again_at x.place (told xs) ≡ again_at x.place (now xs) ++ told (past xs)
-    again r o k h = ap (again_at x.place) h ∙ again_split x.place (latest (marks_of xs)) (now xs) (told (past xs)) r o k
+    again : (r : Request) → open_in (latest (marks_of xs)) ≡ Some r → Linked (latest (marks_of xs)) (now xs) → askings_told xs ≡ now xs ++ askings_told (past xs) → again_at x.place (askings_told xs) ≡ again_at x.place (now xs) ++ askings_told (past xs)
+    again r o k h = ap (again_at x.place) h ∙ again_split x.place (latest (marks_of xs)) (now xs) (askings_told (past xs)) r o k
 
     repeated : (ms : List Mark) → Does limits ms Repeat → (r : Request) × (open_request ms ≡ Some r)
     repeated [] d = absurd d
     repeated (m ∷ ms) d = repeats_open limits m ms d
 
-    by : (m : Mark) → IsLegal limits js m (marks_of xs) → Linked (latest (marks_of xs)) (now xs) → told xs ≡ now xs ++ told (past xs)
-        → told_by x.place m (marks_of xs) (told xs) ≡ now_by x.place m (marks_of xs) (now xs) ++ told (past_by m xs (past xs))
+    by : (m : Mark) → IsLegal limits js m (marks_of xs) → Linked (latest (marks_of xs)) (now xs) → askings_told xs ≡ now xs ++ askings_told (past xs)
+        → askings_told_by x.place m (marks_of xs) (askings_told xs) ≡ now_by x.place m (marks_of xs) (now xs) ++ askings_told (past_by m xs (past xs))
     by (Begun job) k i h = refl
     by (Asked r) k i h = ap (λ (z : List Asking). first_at x.place (asked (marks_of xs) % 65536) r ∷ z) h
     by Again k i h = let o = repeated (marks_of xs) k in again o.0 o.1 i h
-    by (Answered r a) k i h = ap (decided_at x.place a) h ∙ decided_split x.place a (latest (marks_of xs)) (now xs) (told (past xs)) r k.1 i
+    by (Answered r a) k i h = ap (decided_at x.place a) h ∙ decided_split x.place a (latest (marks_of xs)) (now xs) (askings_told (past xs)) r k.1 i
     by Hinted k i h = h
     by (Brought number payload) k i h = h
     by (Turned settled) k i h = h

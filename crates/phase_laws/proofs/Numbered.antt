@@ -13,8 +13,8 @@ use Rattle.master_spec.specs.Requests.{Asking, Decision, decided_by, asks}
 use Rattle.asking_laws.specs.Legal.{Does, IsLegal, AreLegal, GoesByRule}
 use Rattle.asking_laws.proofs.Closed.{asks_open}
 use Rattle.asking_laws.proofs.Legal.{going}
-use Rattle.index_laws.specs.Runs.{events, course_at, owed}
-use Rattle.index_laws.specs.Index.{Placed, marks_of, again_at, decided_at, told_by, told, ReadBack, IsAsked, IsAgain, Owes}
+use Rattle.index_laws.specs.Runs.{events_of_master, course_at, owed}
+use Rattle.index_laws.specs.Index.{Placed, marks_of, again_at, decided_at, askings_told_by, askings_told, ReadBack, IsAsked, IsAgain, Owes}
 use Rattle.index_laws.specs.Follows.{mine, talk_with}
 use Rattle.index_laws.specs.Late.{AreLate}
 use Rattle.index_laws.proofs.Laws.{listens}
@@ -59,11 +59,11 @@ closed_ask : (limits : Limits) (ms : List Mark) (r : Request) → Does limits ms
 closed_ask limits [] r d = absurd d
 closed_ask limits (m ∷ ms) r d = asks_open limits m ms r d
 
-pub ordered : (limits : Limits) (js : List Job) (xs : List Placed) → AreLegal limits js (marks_of xs) → Ordered (marks_of xs) (told xs)
+pub ordered : (limits : Limits) (js : List Job) (xs : List Placed) → AreLegal limits js (marks_of xs) → Ordered (marks_of xs) (askings_told xs)
 ordered limits js [] l = record { one_by_one = tt; long = refl; decided = λ o. tt }
 ordered limits js (x ∷ xs) l = by x.mark l.0 (ordered limits js xs l.1)
   where
-    by : (m : Mark) → IsLegal limits js m (marks_of xs) → Ordered (marks_of xs) (told xs) → Ordered (m ∷ marks_of xs) (told_by x.place m (marks_of xs) (told xs))
+    by : (m : Mark) → IsLegal limits js m (marks_of xs) → Ordered (marks_of xs) (askings_told xs) → Ordered (m ∷ marks_of xs) (askings_told_by x.place m (marks_of xs) (askings_told xs))
     by (Begun j) k h = record { one_by_one = h.one_by_one; long = h.long; decided = λ o. h.decided (k.1).free }
     by (Asked r) k h =
         let n = h.long in
@@ -75,8 +75,8 @@ ordered limits js (x ∷ xs) l = by x.mark l.0 (ordered limits js xs l.1)
       where
         clash : Some r ≡ None → ⊥
         clash z = cc
-    by Again k h = record { one_by_one = again_order x.place (told xs) h.one_by_one; long = again_long x.place (told xs) ∙ h.long; decided = λ o. again_decided x.place (told xs) (h.decided o) }
-    by (Answered r a) k h = record { one_by_one = answered_order x.place a (told xs) h.one_by_one; long = answered_long x.place a (told xs) ∙ h.long; decided = λ o. answered_decided x.place a (told xs) h.one_by_one }
+    by Again k h = record { one_by_one = again_order x.place (askings_told xs) h.one_by_one; long = again_long x.place (askings_told xs) ∙ h.long; decided = λ o. again_decided x.place (askings_told xs) (h.decided o) }
+    by (Answered r a) k h = record { one_by_one = answered_order x.place a (askings_told xs) h.one_by_one; long = answered_long x.place a (askings_told xs) ∙ h.long; decided = λ o. answered_decided x.place a (askings_told xs) h.one_by_one }
     by Hinted k h = record { one_by_one = h.one_by_one; long = h.long; decided = h.decided }
     by (Brought n p) k h = record { one_by_one = h.one_by_one; long = h.long; decided = h.decided }
     by (Turned t) k h = record { one_by_one = h.one_by_one; long = h.long; decided = h.decided }
@@ -109,7 +109,7 @@ pub one_by_one : RequestsGoOneByOne
 one_by_one setup h log run i slave e = by (course_at setup log).report refl
   where
     legal_at : (marks : List Mark) → slice_get (course_at setup log).talks i ≡ Some (talk_with slave marks) → AreLegal setup.limits (jobs_of setup slave) marks
-    legal_at marks here = (with_at (λ u m. GoesByRule setup.limits (jobs_of setup u) (course_at setup log).phase m) (course_at setup log).talks i (talk_with slave marks) (going setup h.runs (events setup log)).goes here).legal
+    legal_at marks here = (with_at (λ u m. GoesByRule setup.limits (jobs_of setup u) (course_at setup log).phase m) (course_at setup log).talks i (talk_with slave marks) (going setup h.runs (events_of_master setup log)).goes here).legal
 
     by : (o : Option Report) → (course_at setup log).report ≡ o → AreOneByOne (asks setup.address slave log)
     by None r =
@@ -119,4 +119,4 @@ one_by_one setup h log run i slave e = by (course_at setup log).report refl
         subst P (sym (f.tracks).is) (ordered setup.limits (jobs_of setup slave) f.xs l).one_by_one
     by (Some report) r =
         let s = (reported setup (ReadBack slave.id) i slave (listens setup h i slave e) h.runs log run report r).0 in
-        late_order s.until (asks setup.address slave log) (told s.xs) s.late (ordered setup.limits (jobs_of setup slave) s.xs (legal_at (marks_of s.xs) s.here)).one_by_one
+        late_order s.until (asks setup.address slave log) (askings_told s.xs) s.late (ordered setup.limits (jobs_of setup slave) s.xs (legal_at (marks_of s.xs) s.here)).one_by_one

@@ -20,12 +20,12 @@ use Rattle.master_spec.specs.declared.requests.Answer.{Answer}
 use Rattle.master_spec.specs.declared.requests.Latest.{Latest}
 use Rattle.master_spec.specs.declared.requests.Latest.TheVariants as latests
 use Rattle.master_spec.specs.declared.setups.Setup.{Setup}
-use Rattle.master_spec.specs.Tasks.{is_by_end, row_of}
+use Rattle.master_spec.specs.Tasks.{is_by_end, task_row}
 use Rattle.master_spec.specs.Jobs.{Job, asked_by}
 use Rattle.master_spec.specs.Setup.{jobs_of}
-use Rattle.master_spec.specs.Marks.{turns_since, is_answer, Mark, Begun, Asked, Again, Answered, Hinted, Brought, Turned, Ended, acks_change, asked, this_phase, latest, open_in, open_request, job_of, cause_of, verdict_by, verdict_of, configured, is_reached, has_outputs, is_passed}
-use Rattle.master_spec.specs.Conversation.{first_of, on_hint, on_turn, awaited_by, reaction, done, after, extended}
-use Rattle.master_spec.specs.Course.{Talk, Course, course, mark_of_gram, marked, is_settled_as, is_settled, is_quiet, failed, begun_with, begun, phases, with_next, with_report, decided, with_turns, decided_if, turned, still, after_gram, after_turn, step}
+use Rattle.master_spec.specs.Marks.{turns_since, is_answer, Mark, Begun, Asked, Again, Answered, Hinted, Brought, Turned, Ended, acks_change, asked, this_phase, latest, open_in, open_request, job_of, cause_of, verdict_by, verdict_of, settings_answered, is_reached, has_row_outputs, is_passed}
+use Rattle.master_spec.specs.Conversation.{first_of, on_hint, on_turn, awaited_by, reaction, done, marks_after, extended}
+use Rattle.master_spec.specs.Course.{CourseTalk, Course, course, mark_of_gram, marked, is_settled_as, is_settled, is_quiet, failed, begun_with, task_begun, phases, with_next, with_report, decided, with_turns, decided_if, course_turned, still, after_gram, course_after_turn, step}
 use Rattle.master_spec.specs.Requests.{Asking, is_main}
 use Rattle.asking_laws.specs.Closed.{MayCome, AllTalks}
 use Rattle.asking_laws.specs.Legal.{AreLegal, GoesByRule, AllWith}
@@ -91,10 +91,10 @@ idle_passed marks k =
   where
     by : Asks k.job → is_passed k.job marks ≡ true
     by (by_list l a) =
-        ap (λ (b : Bool). if b then nat_le (length (k.job).list) (configured marks) else if is_by_end (k.job).task then list_any acks_change (this_phase marks) else (is_reached (k.job).task marks && has_outputs (row_of (k.job).task) marks)) l
-        ∙ le-leb (length (k.job).list) (configured marks) (none_short (empty (k.job).list (sym a ∙ k.none)))
+        ap (λ (b : Bool). if b then nat_le (length (k.job).list) (settings_answered marks) else if is_by_end (k.job).task then list_any acks_change (this_phase marks) else (is_reached (k.job).task marks && has_row_outputs (task_row (k.job).task) marks)) l
+        ∙ le-leb (length (k.job).list) (settings_answered marks) (none_short (empty (k.job).list (sym a ∙ k.none)))
       where
-        none_short : length (k.job).list ≡ 0 → length (k.job).list ≤ configured marks
+        none_short : length (k.job).list ≡ 0 → length (k.job).list ≤ settings_answered marks
         none_short z = omega (arith, z)
 
         empty : (list : List Cfg) → map Configure list ≡ [] → length list ≡ 0
@@ -116,14 +116,14 @@ asked_done (Ask q) marks h = by (is_main_request q)
 asked_done Repeat marks h = h
 asked_done (GiveUp cause) marks h = h
 
-idle_waits : (limits : Limits) (m : Mark) (marks : List Mark) → reaction limits m marks ≡ Wait → IsIdle (m ∷ marks) → IsIdle (after limits m marks)
+idle_waits : (limits : Limits) (m : Mark) (marks : List Mark) → reaction limits m marks ≡ Wait → IsIdle (m ∷ marks) → IsIdle (marks_after limits m marks)
 idle_waits limits m marks e k = let P : Reaction → Type 0 = λ r. IsIdle (done r (m ∷ marks)) in subst P (sym e) k
 
 closed : (marks : List Mark) (r : Request) → IsIdle marks → open_request marks ≡ Some r → ⊥
 closed marks r k o = let z : None ≡ Some r = sym (ap open_in k.latest_is) ∙ o in cc
 
 -- what comes from outside
-coming : (limits : Limits) (m : Mark) (marks : List Mark) → MayCome m marks → ((job : Job) → m ≡ Begun job → ⊥) → ((settled : Bool) → m ≡ Turned settled → settled ≡ true ⊎ (IsIdle marks → ⊥)) → Stays marks (after limits m marks)
+coming : (limits : Limits) (m : Mark) (marks : List Mark) → MayCome m marks → ((job : Job) → m ≡ Begun job → ⊥) → ((settled : Bool) → m ≡ Turned settled → settled ≡ true ⊎ (IsIdle marks → ⊥)) → Stays marks (marks_after limits m marks)
 coming limits (Begun j) marks c n s = absurd (n j refl)
 coming limits (Asked r) marks c n s = absurd c
 coming limits Again marks c n s = absurd c
@@ -148,7 +148,7 @@ coming limits (Turned t) marks c n s = (
     or_true true c e = refl
     or_true false c e = e
 
-    by : (t ≡ true) ⊎ (IsIdle marks → ⊥) → IsIdle marks → IsIdle (after limits (Turned t) marks)
+    by : (t ≡ true) ⊎ (IsIdle marks → ⊥) → IsIdle marks → IsIdle (marks_after limits (Turned t) marks)
     by (inl e) k =
         idle_waits limits (Turned t) marks
         (reacts limits (Turned t) marks k.job k.cause_is k.job_is ∙ ap (λ (x : Latest). on_turn limits k.job (awaited_by k.job x (Turned t ∷ marks)) t (Turned t ∷ marks)) k.latest_is
@@ -157,7 +157,7 @@ coming limits (Turned t) marks c n s = (
     by (inr n) k = absurd (n k)
 
 -- a phase begins
-begins : (limits : Limits) (j : Job) (marks : List Mark) → cause_of marks ≡ None → (has_asked (after limits (Begun j) marks) ≡ true) ⊎ IsIdle (after limits (Begun j) marks)
+begins : (limits : Limits) (j : Job) (marks : List Mark) → cause_of marks ≡ None → (has_asked (marks_after limits (Begun j) marks) ≡ true) ⊎ IsIdle (marks_after limits (Begun j) marks)
 begins limits j marks c = by (asked_by j) refl
   where
     e : reaction limits (Begun j) marks ≡ first_of (asked_by j)
@@ -173,43 +173,43 @@ begins limits j marks c = by (asked_by j) refl
         subst P (sym (e ∙ ap first_of a)) (inl (ap (λ (b : Bool). b || false) m))
 
 -- ---- all conversations
-abbrev pub Someone : List Talk → Type 0
-Someone talks = (i : ℕ) × ((u : Talk) × ((slice_get talks i ≡ Some u) × (has_asked u.marks ≡ true)))
+abbrev pub Someone : List CourseTalk → Type 0
+Someone talks = (i : ℕ) × ((u : CourseTalk) × ((slice_get talks i ≡ Some u) × (has_asked u.marks ≡ true)))
 
-abbrev pub Either : List Talk → Type 0
+abbrev pub Either : List CourseTalk → Type 0
 Either talks = Someone talks ⊎ AllTalks IsIdle talks
 
-someone_on : (f : Talk → Talk) → ((u : Talk) → has_asked u.marks ≡ true → has_asked (f u).marks ≡ true) → (us : List Talk) (i : ℕ) (u : Talk) → slice_get us i ≡ Some u → has_asked u.marks ≡ true → Someone (map f us)
+someone_on : (f : CourseTalk → CourseTalk) → ((u : CourseTalk) → has_asked u.marks ≡ true → has_asked (f u).marks ≡ true) → (us : List CourseTalk) (i : ℕ) (u : CourseTalk) → slice_get us i ≡ Some u → has_asked u.marks ≡ true → Someone (map f us)
 someone_on f a [] i u e h = absurd cc
-someone_on f a (v ∷ vs) zero u e h = let z : v ≡ u = cc in (0, (f v, (refl, a v (ap (λ (x : Talk). has_asked x.marks) z ∙ h))))
+someone_on f a (v ∷ vs) zero u e h = let z : v ≡ u = cc in (0, (f v, (refl, a v (ap (λ (x : CourseTalk). has_asked x.marks) z ∙ h))))
 someone_on f a (v ∷ vs) (suc i) u e h = let y = someone_on f a vs i u e h in (suc y.0, ((y.1).0, (((y.1).1).0, ((y.1).1).1)))
 
-map_stays : (f : Talk → Talk) (talks : List Talk) → ((u : Talk) → has_asked u.marks ≡ true → has_asked (f u).marks ≡ true) → ((u : Talk) → IsIdle u.marks → IsIdle (f u).marks) → Either talks → Either (map f talks)
+map_stays : (f : CourseTalk → CourseTalk) (talks : List CourseTalk) → ((u : CourseTalk) → has_asked u.marks ≡ true → has_asked (f u).marks ≡ true) → ((u : CourseTalk) → IsIdle u.marks → IsIdle (f u).marks) → Either talks → Either (map f talks)
 map_stays f talks a k (inl s) = inl (someone_on f a talks s.0 (s.1).0 ((s.1).1).0 ((s.1).1).1)
 map_stays f talks a k (inr s) = inr (all talks s)
   where
-    all : (us : List Talk) → AllTalks IsIdle us → AllTalks IsIdle (map f us)
+    all : (us : List CourseTalk) → AllTalks IsIdle us → AllTalks IsIdle (map f us)
     all [] h = tt
     all (u ∷ us) h = (k u h.0, all us h.1)
 
-idle_settled : (talks : List Talk) → AllTalks IsIdle talks → list_all is_settled talks ≡ true
+idle_settled : (talks : List CourseTalk) → AllTalks IsIdle talks → list_all is_settled talks ≡ true
 idle_settled [] k = refl
 idle_settled (u ∷ us) k = ap (λ (v : Verdict). is_settled_as v && list_all is_settled us) (idle_passed u.marks k.0) ∙ idle_settled us k.1
 
-gram_either : (limits : Limits) (from : Address) (bytes : List ℕ) (talks : List Talk) → Either talks → Either (map (λ talk. marked limits talk (mark_of_gram talk from bytes)) talks)
+gram_either : (limits : Limits) (from : Address) (bytes : List ℕ) (talks : List CourseTalk) → Either talks → Either (map (λ talk. marked limits talk (mark_of_gram talk from bytes)) talks)
 gram_either limits from bytes talks s = map_stays (λ talk. marked limits talk (mark_of_gram talk from bytes)) talks (λ u h. (one u).0 h) (λ u k. (one u).1 k) s
   where
-    by : (u : Talk) (o : Option Mark) → mark_of_gram u from bytes ≡ o → Stays u.marks (extended limits o u.marks)
+    by : (u : CourseTalk) (o : Option Mark) → mark_of_gram u from bytes ≡ o → Stays u.marks (extended limits o u.marks)
     by u None e = (λ h. h, λ k. k)
     by u (Some m) e = coming limits m u.marks (gram_may u from bytes m e) (λ job z. gram_no_begin u from bytes job (e ∙ ap (λ (x : Mark). Some x) z)) (λ t z. absurd (no_turn t z))
       where
         no_turn : (t : Bool) → m ≡ Turned t → ⊥
         no_turn t z = let P : Mark → Type 0 = λ x. IsNews x in subst P z (gram_news u.slave u.marks from bytes m e)
 
-    one : (u : Talk) → Stays u.marks (extended limits (mark_of_gram u from bytes) u.marks)
+    one : (u : CourseTalk) → Stays u.marks (extended limits (mark_of_gram u from bytes) u.marks)
     one u = by u (mark_of_gram u from bytes) refl
 
-turn_either : (limits : Limits) (talks : List Talk) → Either talks → Either (map (λ talk. marked limits talk (Some (Turned (list_all is_settled talks)))) talks)
+turn_either : (limits : Limits) (talks : List CourseTalk) → Either talks → Either (map (λ talk. marked limits talk (Some (Turned (list_all is_settled talks)))) talks)
 turn_either limits talks (inl s) = inl (someone_on (λ talk. marked limits talk (Some (Turned (list_all is_settled talks)))) (λ u h. asked_done (reaction limits (Turned (list_all is_settled talks)) u.marks) (Turned (list_all is_settled talks) ∷ u.marks) h) talks s.0 (s.1).0 ((s.1).1).0 ((s.1).1).1)
 turn_either limits talks (inr k) =
     map_stays (λ talk. marked limits talk (Some (Turned (list_all is_settled talks)))) talks (λ u h. asked_done (reaction limits (Turned (list_all is_settled talks)) u.marks) (Turned (list_all is_settled talks) ∷ u.marks) h)
@@ -235,29 +235,29 @@ no_cause limits js (Ended cause ∷ []) l e = absurd l.0
 no_cause limits js (Ended cause ∷ m ∷ marks) l e = let z : Wait ≡ GiveUp cause = sym (no_reaction limits m marks e) ∙ l.0 in absurd cc
 
 module _ (setup : Setup) (runs : 1 ≤ setup.runs) where
-  next_either : (phase : ℕ) (talks : List Talk) → phase < phases setup → AllWith (λ slave marks. GoesByRule setup.limits (jobs_of setup slave) phase marks) talks → AllTalks IsFreeToGo talks
-      → Either (map (λ talk. marked setup.limits talk (begun setup (phase + 1) talk)) talks)
+  next_either : (phase : ℕ) (talks : List CourseTalk) → phase < phases setup → AllWith (λ slave marks. GoesByRule setup.limits (jobs_of setup slave) phase marks) talks → AllTalks IsFreeToGo talks
+      → Either (map (λ talk. marked setup.limits talk (task_begun setup (phase + 1) talk)) talks)
   next_either phase [] l g f = inr tt
   next_either phase (u ∷ us) l g f = both (one u g.0 f.0) (next_either phase us l g.1 f.1)
     where
-      ending : (u : Talk) → GoesByRule setup.limits (jobs_of setup u.slave) phase u.marks → IsFreeToGo u.marks → cause_of u.marks ≡ None
+      ending : (u : CourseTalk) → GoesByRule setup.limits (jobs_of setup u.slave) phase u.marks → IsFreeToGo u.marks → cause_of u.marks ≡ None
       ending u g f = by f.1
         where
           by : (job_of u.marks ≡ None) ⊎ (verdict_of u.marks ≡ verdicts.Passed) → cause_of u.marks ≡ None
           by (inl e) = no_cause setup.limits (jobs_of setup u.slave) u.marks g.legal e
           by (inr v) = (verdict_passed u.marks v).cause_is
 
-      one : (u : Talk) → GoesByRule setup.limits (jobs_of setup u.slave) phase u.marks → IsFreeToGo u.marks
-          → (has_asked (extended setup.limits (begun setup (phase + 1) u) u.marks) ≡ true) ⊎ IsIdle (extended setup.limits (begun setup (phase + 1) u) u.marks)
+      one : (u : CourseTalk) → GoesByRule setup.limits (jobs_of setup u.slave) phase u.marks → IsFreeToGo u.marks
+          → (has_asked (extended setup.limits (task_begun setup (phase + 1) u) u.marks) ≡ true) ⊎ IsIdle (extended setup.limits (task_begun setup (phase + 1) u) u.marks)
       one u g f =
           let j = job_at setup runs phase u.slave l in
-          let e : begun setup (phase + 1) u ≡ Some (Begun j.0) = ap (λ (n : ℕ). begun_with (slice_get (jobs_of setup u.slave) n)) (omega arith) ∙ ap begun_with j.1 in
+          let e : task_begun setup (phase + 1) u ≡ Some (Begun j.0) = ap (λ (n : ℕ). begun_with (slice_get (jobs_of setup u.slave) n)) (omega arith) ∙ ap begun_with j.1 in
           let P : Option Mark → Type 0 = λ o. (has_asked (extended setup.limits o u.marks) ≡ true) ⊎ IsIdle (extended setup.limits o u.marks) in
           subst P (sym e) (begins setup.limits j.0 u.marks (ending u g f))
 
-      both : (has_asked (extended setup.limits (begun setup (phase + 1) u) u.marks) ≡ true) ⊎ IsIdle (extended setup.limits (begun setup (phase + 1) u) u.marks)
-          → Either (map (λ talk. marked setup.limits talk (begun setup (phase + 1) talk)) us) → Either (map (λ talk. marked setup.limits talk (begun setup (phase + 1) talk)) (u ∷ us))
-      both (inl h) s = inl (0, (marked setup.limits u (begun setup (phase + 1) u), (refl, h)))
+      both : (has_asked (extended setup.limits (task_begun setup (phase + 1) u) u.marks) ≡ true) ⊎ IsIdle (extended setup.limits (task_begun setup (phase + 1) u) u.marks)
+          → Either (map (λ talk. marked setup.limits talk (task_begun setup (phase + 1) talk)) us) → Either (map (λ talk. marked setup.limits talk (task_begun setup (phase + 1) talk)) (u ∷ us))
+      both (inl h) s = inl (0, (marked setup.limits u (task_begun setup (phase + 1) u), (refl, h)))
       both (inr h) (inl s) = inl (suc s.0, ((s.1).0, (((s.1).1).0, ((s.1).1).1)))
       both (inr h) (inr s) = inr (h, s)
 
@@ -275,17 +275,17 @@ module _ (setup : Setup) (runs : 1 ≤ setup.runs) where
           let other = eqb-false c.phase (phases setup) z in
           inr (next_either c.phase c.talks (omega (arith, few, other)) g.goes (all_passed setup runs c.phase c.talks q e))
 
-  turned_present : (c : Course) → Going setup runs c → Either c.talks → Present (turned setup c)
+  turned_present : (c : Course) → Going setup runs c → Either c.talks → Present (course_turned setup c)
   turned_present c g s = by (list_all is_quiet c.talks) refl
     where
       by : (b : Bool) → list_all is_quiet c.talks ≡ b → Present (decided_if setup b c)
       by true q = decided_present c g q s (failed c.phase c.talks) refl
       by false q = inr s
 
-  tick_present : (c : Course) → Fine c → Going setup runs c → Present c → Present (after_turn setup c)
+  tick_present : (c : Course) → Fine c → Going setup runs c → Present c → Present (course_after_turn setup c)
   tick_present c f g s = by (c.phase == 0) refl s
     where
-      by : (b : Bool) → (c.phase == 0) ≡ b → Present c → Present (if b then with_next setup (still c) else turned setup (with_turns setup (list_all is_settled c.talks) c))
+      by : (b : Bool) → (c.phase == 0) ≡ b → Present c → Present (if b then with_next setup (still c) else course_turned setup (with_turns setup (list_all is_settled c.talks) c))
       by true z s =
           let zero_is = eqb-true c.phase 0 z in
           inr (next_either c.phase c.talks (omega (arith, zero_is)) g.goes (all_before setup runs c.talks (f.before zero_is)))
@@ -303,7 +303,7 @@ step_present setup runs (Gram from bytes) c f g s = by (is_some c.report) s
     by false (inr s) = inr (gram_either setup.limits from bytes c.talks s)
 step_present setup runs Tick c f g s = by (is_some c.report)
   where
-    by : (b : Bool) → Present setup runs (if b then still c else after_turn setup c)
+    by : (b : Bool) → Present setup runs (if b then still c else course_after_turn setup c)
     by true = s
     by false = tick_present setup runs c f g s
 

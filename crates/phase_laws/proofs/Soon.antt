@@ -13,7 +13,7 @@ use Rattle.master_spec.specs.declared.requests.Latest.TheVariants as latests
 use Rattle.master_spec.specs.declared.reactions.Reaction.TheVariants.{Wait, Ask, Repeat, GiveUp}
 use Rattle.master_spec.specs.declared.reactions.Awaited.{Awaited}
 use Rattle.master_spec.specs.declared.reactions.Awaited.TheVariants.{TheAnswer}
-use Rattle.master_spec.specs.Tasks.{asks_step, step_of}
+use Rattle.master_spec.specs.Tasks.{asks_step, task_step}
 use Rattle.master_spec.specs.Jobs.{Job}
 use Rattle.master_spec.specs.Marks.{Mark, Begun, Asked, Again, Answered, Hinted, Brought, Turned, Ended, is_sending, refuses_inputs, turns_since, newest_number, latest, open_request, sendings, refusals, job_of, cause_of}
 use Rattle.master_spec.specs.Conversation.{on_answer, on_mark, on_turn, on_silence, awaited, awaited_by, reaction}
@@ -122,9 +122,9 @@ missing_few limits job r (ErrorAck s) older h w = absurd cc
 missing_few limits job r LogAck older h w = absurd cc
 
 not_missing_asks : (limits : Limits) (job : Job) (r : Request) (a : Answer) (older : List Mark) (q : Request) → on_answer limits job r a older (Answered r a ∷ older) ≡ Ask q → (refuses_inputs a && asks_step r) ≡ true → ⊥
-not_missing_asks limits job r (Nack code) older q h w = by (nat_le limits.step_tries (refusals (Answered r (Nack code) ∷ older))) (ap (λ (b : Bool). if b then (if nat_le limits.step_tries (refusals (Answered r (Nack code) ∷ older)) then GiveUp (causes.InputsMissing (newest_number (Answered r (Nack code) ∷ older)) (step_of job.task)) else Wait) else GiveUp (causes.Refused (newest_number (Answered r (Nack code) ∷ older)) code)) (sym w) ∙ h)
+not_missing_asks limits job r (Nack code) older q h w = by (nat_le limits.step_tries (refusals (Answered r (Nack code) ∷ older))) (ap (λ (b : Bool). if b then (if nat_le limits.step_tries (refusals (Answered r (Nack code) ∷ older)) then GiveUp (causes.InputsMissing (newest_number (Answered r (Nack code) ∷ older)) (task_step job.task)) else Wait) else GiveUp (causes.Refused (newest_number (Answered r (Nack code) ∷ older)) code)) (sym w) ∙ h)
   where
-    by : (b : Bool) → (if b then GiveUp (causes.InputsMissing (newest_number (Answered r (Nack code) ∷ older)) (step_of job.task)) else Wait) ≡ Ask q → ⊥
+    by : (b : Bool) → (if b then GiveUp (causes.InputsMissing (newest_number (Answered r (Nack code) ∷ older)) (task_step job.task)) else Wait) ≡ Ask q → ⊥
     by true z = cc
     by false z = cc
 not_missing_asks limits job r Ack older q h w = absurd cc

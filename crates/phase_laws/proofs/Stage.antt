@@ -12,7 +12,7 @@ use Rattle.master_spec.specs.declared.requests.Answer.TheVariants.{Ack, Nack, St
 use Rattle.master_spec.specs.declared.requests.Latest.TheVariants as latests
 use Rattle.master_spec.specs.Tasks.{is_by_list, asks_step, target_of, passing_of}
 use Rattle.master_spec.specs.Jobs.{Job, asked_by}
-use Rattle.master_spec.specs.Marks.{Mark, Begun, Asked, Again, Answered, Hinted, Brought, Turned, Ended, is_missing, latest, job_of, cause_of, configured, is_named_by, is_reached}
+use Rattle.master_spec.specs.Marks.{Mark, Begun, Asked, Again, Answered, Hinted, Brought, Turned, Ended, is_missing, latest, job_of, cause_of, settings_answered, is_named_by, is_reached}
 use Rattle.master_spec.specs.Conversation.{is_state, is_error}
 use Rattle.master_spec.specs.Requests.{Asking, Decision, decided_by, is_main, is_step, is_state_question, is_configuration, is_ack, is_acked_by, is_acked, acked}
 use Rattle.master_spec.specs.Exchanged.{IsDecided}
@@ -203,7 +203,7 @@ mains_missing job r code bs k h =
     other z = cc
 
 -- how many configurations are acknowledged
-pub by_list_count : (limits : Limits) (js : List Job) (job : Job) (xs : List Placed) → AreLegal limits js (marks_of xs) → is_by_list job.task ≡ true → AreMains job (now xs) → configured (marks_of xs) ≡ acked (now xs)
+pub by_list_count : (limits : Limits) (js : List Job) (job : Job) (xs : List Placed) → AreLegal limits js (marks_of xs) → is_by_list job.task ≡ true → AreMains job (now xs) → settings_answered (marks_of xs) ≡ acked (now xs)
 by_list_count limits js job xs l b m = configured_now limits js xs l ∙ same (now xs) ∙ sym (mains_by_list job (now xs) b m)
   where
     one : (a : Asking) → (conf_code a.code && is_as is_ack a.decision) ≡ (is_configuration a && is_acked a)

@@ -16,7 +16,7 @@ use Rattle.master_spec.specs.declared.reactions.Reaction.TheVariants.{Wait, Ask,
 use Rattle.master_spec.specs.declared.reactions.Awaited.TheVariants.{TheAnswer, TheState, TheInputs, TheOutputs, TheOthers}
 use Rattle.master_spec.specs.Tasks.{asks_step, target_of}
 use Rattle.master_spec.specs.Jobs.{Job, asked_by}
-use Rattle.master_spec.specs.Marks.{Mark, Begun, Asked, Again, Answered, Hinted, Brought, Turned, Ended, asked, is_missing, latest, open_request, job_of, cause_of, configured, is_named_by, is_passed}
+use Rattle.master_spec.specs.Marks.{Mark, Begun, Asked, Again, Answered, Hinted, Brought, Turned, Ended, asked, is_missing, latest, open_request, job_of, cause_of, settings_answered, is_named_by, is_passed}
 use Rattle.master_spec.specs.Conversation.{is_state, is_error, on_answer, on_mark, awaited, awaited_by, awaited_after, awaited_after_state, reaction}
 use Rattle.master_spec.specs.Requests.{Asking, acked}
 use Rattle.asking_laws.specs.Legal.{Rests, AreLegal}
@@ -63,7 +63,7 @@ module _ (limits : Limits) (js : List Job) (job : Job) (n : ℕ) (xs : List Plac
 
   -- the list after an acknowledgement
   list_acked : (body : Cfg) → AreLegal limits js (marks_of (New (Configure body) Ack)) → (k : Main job (Configure body) None (now xs))
-      → AreMains job (now (New (Configure body) Ack)) × ((configured (marks_of (New (Configure body) Ack)) ≡ acked (now (New (Configure body) Ack))) × ((acked (now (New (Configure body) Ack)) ≤ length (asked_by job)) × (asked_by job ≡ map Configure job.list)))
+      → AreMains job (now (New (Configure body) Ack)) × ((settings_answered (marks_of (New (Configure body) Ack)) ≡ acked (now (New (Configure body) Ack))) × ((acked (now (New (Configure body) Ack)) ≤ length (asked_by job)) × (asked_by job ≡ map Configure job.list)))
   list_acked body l k =
       let m = mains_acked job (Configure body) (now (New (Configure body) Ack)) (main_decided job n (Configure body) Ack (now xs) k) in
       let s = list_slot job (acked k.ms) body k.slot in
@@ -98,7 +98,7 @@ module _ (limits : Limits) (js : List Job) (job : Job) (n : ℕ) (xs : List Plac
   main_rests r (Nack code) l k e = trying r code refl (nack_waits limits job r code (Answered r (Nack code) ∷ Old) e).0 (main_decided job n r (Nack code) (now xs) k)
   main_rests (Configure body) Ack l k e =
       let z = list_acked body l k in
-      let long = get_none job.list (configured (marks_of (New (Configure body) Ack))) (list_waits (slice_get job.list (configured (marks_of (New (Configure body) Ack)))) e) in
+      let long = get_none job.list (settings_answered (marks_of (New (Configure body) Ack))) (list_waits (slice_get job.list (settings_answered (marks_of (New (Configure body) Ack)))) e) in
       let c = (z.1).0 in
       let b = ((z.1).1).0 in
       let g : length (asked_by job) ≡ length job.list = ap length ((z.1).1).1 ∙ length_map job.list in
@@ -149,7 +149,7 @@ module _ (limits : Limits) (js : List Job) (job : Job) (n : ℕ) (xs : List Plac
   main_asks r (Nack code) q m number l k e = absurd (nack_asks limits job r code (Answered r (Nack code) ∷ Old) q e)
   main_asks (Configure body) Ack q m number l k e =
       let z = list_acked body l k in
-      let y = list_asks (slice_get job.list (configured (marks_of (New (Configure body) Ack)))) q e in
+      let y = list_asks (slice_get job.list (settings_answered (marks_of (New (Configure body) Ack)))) q e in
       let f : slice_get job.list (acked (now (New (Configure body) Ack))) ≡ Some y.0 = ap (slice_get job.list) (sym (z.1).0) ∙ (y.1).0 in
       let g : slice_get (asked_by job) (acked (now (New (Configure body) Ack))) ≡ Some q =
       ap (λ (rs : List Request). slice_get rs (acked (now (New (Configure body) Ack)))) ((z.1).1).1 ∙ map_slot job.list (acked (now (New (Configure body) Ack))) y.0 f ∙ ap (λ (x : Request). Some x) (sym (y.1).1) in

@@ -14,15 +14,15 @@ use Rattle.master_spec.specs.declared.requests.Answer.TheVariants.{Ack, Nack, St
 use Rattle.master_spec.specs.declared.tasks.Task.{Task}
 use Rattle.master_spec.specs.declared.tasks.Task.TheVariants as tasks
 use Rattle.master_spec.specs.declared.reactions.Reaction.TheVariants.{Wait, Ask}
-use Rattle.master_spec.specs.Tasks.{is_by_list, is_by_end, asks_step, row_of}
+use Rattle.master_spec.specs.Tasks.{is_by_list, is_by_end, asks_step, task_row}
 use Rattle.master_spec.specs.Jobs.{Job, asked_by}
-use Rattle.master_spec.specs.Marks.{Mark, Begun, Asked, Again, Answered, Hinted, Brought, Turned, Ended, asked, is_missing, acks_change, count, is_begun, this_phase, open_in, open_request, configured, is_reached, has_outputs, is_passed, job_of, cause_of, verdict_by, verdict_of}
+use Rattle.master_spec.specs.Marks.{Mark, Begun, Asked, Again, Answered, Hinted, Brought, Turned, Ended, asked, is_missing, acks_change, count, is_begun, this_phase, open_in, open_request, settings_answered, is_reached, has_row_outputs, is_passed, job_of, cause_of, verdict_by, verdict_of}
 use Rattle.master_spec.specs.Conversation.{reaction_in, reaction}
 use Rattle.master_spec.specs.Requests.{Asking, is_main, acked, phase_at, phase_reached, of_phase}
 use Rattle.master_spec.specs.Shown.{names_target}
 use Rattle.asking_laws.specs.Legal.{Does, Rests, IsLegal, AreLegal}
 use Rattle.asking_laws.proofs.Legal.{own_rests}
-use Rattle.index_laws.specs.Index.{Placed, at, marks_of, first_at, again_at, decided_at, told_by, told}
+use Rattle.index_laws.specs.Index.{Placed, at, marks_of, first_at, again_at, decided_at, askings_told_by, askings_told}
 use Rattle.index_laws.proofs.Events.{acts}
 use Rattle.phase_laws.proofs.Now.{now_by, now, past_by, past, IsOf, split}
 use Rattle.phase_laws.proofs.Mains.{is_main_request, of_main, acked_append, AreMains, AreQuestions, questions_acked, slot_below}
@@ -102,7 +102,7 @@ pub no_reaction : (limits : Limits) (m : Mark) (marks : List Mark) → job_of (m
 unfolding reaction
 no_reaction limits m marks e = ap (λ (o : Option Job). reaction_in limits o m marks (m ∷ marks)) e
 
-pub none_asked : (limits : Limits) (js : List Job) (xs : List Placed) → AreLegal limits js (marks_of xs) → job_of (marks_of xs) ≡ None → (told xs ≡ []) × (count is_begun (marks_of xs) ≡ 0)
+pub none_asked : (limits : Limits) (js : List Job) (xs : List Placed) → AreLegal limits js (marks_of xs) → job_of (marks_of xs) ≡ None → (askings_told xs ≡ []) × (count is_begun (marks_of xs) ≡ 0)
 none_asked limits js [] l e = (refl, refl)
 none_asked limits js (x ∷ xs) l e = by x.mark l.0 e (λ z. none_asked limits js xs l.1 z)
   where
@@ -113,7 +113,7 @@ none_asked limits js (x ∷ xs) l e = by x.mark l.0 e (λ z. none_asked limits j
     waits [] q e d = d
     waits (m ∷ ms) q e d = let z : Wait ≡ Ask q = sym (no_reaction limits m ms e) ∙ d in cc
 
-    by : (m : Mark) → IsLegal limits js m (marks_of xs) → job_of (m ∷ marks_of xs) ≡ None → (job_of (marks_of xs) ≡ None → Result (told xs) (count is_begun (marks_of xs))) → Result (told_by x.place m (marks_of xs) (told xs)) (count is_begun (m ∷ marks_of xs))
+    by : (m : Mark) → IsLegal limits js m (marks_of xs) → job_of (m ∷ marks_of xs) ≡ None → (job_of (marks_of xs) ≡ None → Result (askings_told xs) (count is_begun (marks_of xs))) → Result (askings_told_by x.place m (marks_of xs) (askings_told xs)) (count is_begun (m ∷ marks_of xs))
     by (Begun j) k e f = absurd (clash e)
       where
         clash : Some j ≡ None → ⊥
@@ -187,10 +187,10 @@ step_task tasks.Deregister list n r h e = absurd (one_off _ r n e h refl)
 pub passed_reached : (job : Job) (marks : List Mark) → is_by_list job.task ≡ false → is_by_end job.task ≡ false → is_passed job marks ≡ true → is_reached job.task marks ≡ true
 passed_reached job marks f g h = by (is_by_list job.task) (is_by_end job.task) f g h
   where
-    by : (a b : Bool) → a ≡ false → b ≡ false → (if a then nat_le (length job.list) (configured marks) else if b then list_any acks_change (this_phase marks) else (is_reached job.task marks && has_outputs (row_of job.task) marks)) ≡ true → is_reached job.task marks ≡ true
+    by : (a b : Bool) → a ≡ false → b ≡ false → (if a then nat_le (length job.list) (settings_answered marks) else if b then list_any acks_change (this_phase marks) else (is_reached job.task marks && has_row_outputs (task_row job.task) marks)) ≡ true → is_reached job.task marks ≡ true
     by true b f g h = absurd cc
     by false true f g h = absurd cc
-    by false false f g h = (and_parts (is_reached job.task marks) (has_outputs (row_of job.task) marks) h).0
+    by false false f g h = (and_parts (is_reached job.task marks) (has_row_outputs (task_row job.task) marks) h).0
 
 -- a step that was refused has not passed
 pub tried_not_passed : (limits : Limits) (js : List Job) (job : Job) (xs : List Placed) (r : Request) (code : ℕ) → AreLegal limits js (marks_of xs) → (is_missing code && asks_step r) ≡ true → Main job r (Some (Nack code)) (now xs) → is_passed job (marks_of xs) ≡ true → ⊥
@@ -212,17 +212,17 @@ passed_done limits js job xs l (state_told s q k h) p o =
     ap acked k.is ∙ questions_acked (k.newest ∷ k.qs) k.ms (of_main AskState k.newest k.of ∙ k.asks, k.questions) ∙ k.whole
 
 -- ---- what is acknowledged before the phase
-pub base : (limits : Limits) (js : List Job) (xs : List Placed) → AreLegal limits js (marks_of xs) → (p : ℕ) → count is_begun (marks_of xs) ≡ p + 1 → acked (told (past xs)) ≡ offset js p
+pub base : (limits : Limits) (js : List Job) (xs : List Placed) → AreLegal limits js (marks_of xs) → (p : ℕ) → count is_begun (marks_of xs) ≡ p + 1 → acked (askings_told (past xs)) ≡ offset js p
 base limits js [] l p c = absurd (omega (arith, c))
 base limits js (x ∷ xs) l p c = by x.mark l.0 c (λ p c. base limits js xs l.1 p c)
   where
-    from_zero : (p : ℕ) → count is_begun (marks_of xs) ≡ p → job_of (marks_of xs) ≡ None → acked (told xs) ≡ offset js p
+    from_zero : (p : ℕ) → count is_begun (marks_of xs) ≡ p → job_of (marks_of xs) ≡ None → acked (askings_told xs) ≡ offset js p
     from_zero p c e =
         let z = none_asked limits js xs l.1 e in
         let y : p ≡ 0 = sym c ∙ z.1 in
         ap acked z.0 ∙ ap (offset js) (sym y)
 
-    from_passed : (p : ℕ) → count is_begun (marks_of xs) ≡ p → Rests limits (marks_of xs) → open_request (marks_of xs) ≡ None → HasPassed (marks_of xs) → ((q : ℕ) → count is_begun (marks_of xs) ≡ q + 1 → acked (told (past xs)) ≡ offset js q) → acked (told xs) ≡ offset js p
+    from_passed : (p : ℕ) → count is_begun (marks_of xs) ≡ p → Rests limits (marks_of xs) → open_request (marks_of xs) ≡ None → HasPassed (marks_of xs) → ((q : ℕ) → count is_begun (marks_of xs) ≡ q + 1 → acked (askings_told (past xs)) ≡ offset js q) → acked (askings_told xs) ≡ offset js p
     from_passed zero c r o h f = let z = job_none (marks_of xs) c in let y : None ≡ Some h.job = sym z ∙ h.job_is in absurd cc
       where
         job_none : (ms : List Mark) → count is_begun ms ≡ 0 → job_of ms ≡ None
@@ -240,19 +240,19 @@ base limits js (x ∷ xs) l p c = by x.mark l.0 c (λ p c. base limits js xs l.1
         let here = job_phase limits js (marks_of xs) l.1 h.job h.job_is q c' in
         let full = passed_done limits js h.job xs l.1 (stage limits js xs l.1 r h.cause_is h.job h.job_is) h.passed o in
         let before = f q c' in
-        let whole = ap acked (split limits js xs l.1) ∙ acked_append (now xs) (told (past xs)) in
+        let whole = ap acked (split limits js xs l.1) ∙ acked_append (now xs) (askings_told (past xs)) in
         let next = offset_next js q h.job here in
         let k : suc q ≡ q + 1 = omega arith in
-        let e : acked (told xs) ≡ offset js (q + 1) = omega (arith, whole, full, before, next) in
+        let e : acked (askings_told xs) ≡ offset js (q + 1) = omega (arith, whole, full, before, next) in
         e ∙ ap (offset js) (sym k)
 
-    by : (m : Mark) → IsLegal limits js m (marks_of xs) → count is_begun (m ∷ marks_of xs) ≡ p + 1 → ((q : ℕ) → count is_begun (marks_of xs) ≡ q + 1 → acked (told (past xs)) ≡ offset js q) → acked (told (past_by m xs (past xs))) ≡ offset js p
+    by : (m : Mark) → IsLegal limits js m (marks_of xs) → count is_begun (m ∷ marks_of xs) ≡ p + 1 → ((q : ℕ) → count is_begun (marks_of xs) ≡ q + 1 → acked (askings_told (past xs)) ≡ offset js q) → acked (askings_told (past_by m xs (past xs))) ≡ offset js p
     by (Begun j) k c f = begun (k.1).passed
       where
         c' : count is_begun (marks_of xs) ≡ p
         c' = omega (arith, c)
 
-        begun : (job_of (marks_of xs) ≡ None) ⊎ (verdict_of (marks_of xs) ≡ verdicts.Passed) → acked (told xs) ≡ offset js p
+        begun : (job_of (marks_of xs) ≡ None) ⊎ (verdict_of (marks_of xs) ≡ verdicts.Passed) → acked (askings_told xs) ≡ offset js p
         begun (inl e) = from_zero p c' e
         begun (inr v) = from_passed p c' k.0 (k.1).free (verdict_passed (marks_of xs) v) f
     by (Asked r) k c f = f p c
@@ -348,14 +348,14 @@ counted (Brought n q ∷ marks) job e = counted marks job e
 counted (Turned t ∷ marks) job e = counted marks job e
 counted (Ended cause ∷ marks) job e = counted marks job e
 
-pub asked_in : (limits : Limits) (js : List Job) (n : ℕ) (r : Request) (xs : List Placed) → AreLegal limits js (Asked r ∷ marks_of xs) → is_main (first_at n (asked (marks_of xs) % 65536) r) ≡ true → phase_at js (acked (now xs ++ told (past xs))) ≡ count is_begun (marks_of xs)
+pub asked_in : (limits : Limits) (js : List Job) (n : ℕ) (r : Request) (xs : List Placed) → AreLegal limits js (Asked r ∷ marks_of xs) → is_main (first_at n (asked (marks_of xs) % 65536) r) ≡ true → phase_at js (acked (now xs ++ askings_told (past xs))) ≡ count is_begun (marks_of xs)
 asked_in limits js n r xs l m =
     let v = lives limits (marks_of xs) r l.0 in
     let s = stage limits js (at n (Asked r) ∷ xs) l (own_rests limits (Asked r) (marks_of xs) tt) v.0 (v.1).0 (v.1).1 in
     let c = counted (marks_of xs) (v.1).0 (v.1).1 in
     let e = job_phase limits js (marks_of xs) l.1 (v.1).0 (v.1).1 c.0 c.1 in
     let b = base limits js xs l.1 c.0 c.1 in
-    (exactly_stage js c.0 (v.1).0 (Asked r ∷ marks_of xs) (now (at n (Asked r) ∷ xs)) (told (past xs)) e b s).0 m ∙ sym c.1
+    (exactly_stage js c.0 (v.1).0 (Asked r ∷ marks_of xs) (now (at n (Asked r) ∷ xs)) (askings_told (past xs)) e b s).0 m ∙ sym c.1
 
 exactly_again : (js : List Job) (p n : ℕ) (bs before : List Asking) → Exactly js p bs before → Exactly js p (again_at n bs) before
 exactly_again js p n [] before x = tt
@@ -366,18 +366,18 @@ exactly_decided js p n a [] before x = tt
 exactly_decided js p n a (b ∷ bs) before x = x
 
 -- the main requests of the phase stand in it
-pub exactly_now : (limits : Limits) (js : List Job) (xs : List Placed) → AreLegal limits js (marks_of xs) → Exactly js (count is_begun (marks_of xs)) (now xs) (told (past xs))
+pub exactly_now : (limits : Limits) (js : List Job) (xs : List Placed) → AreLegal limits js (marks_of xs) → Exactly js (count is_begun (marks_of xs)) (now xs) (askings_told (past xs))
 exactly_now limits js [] l = tt
 exactly_now limits js (x ∷ xs) l = by x.mark l (exactly_now limits js xs l.1)
   where
     n : ℕ
     n = count is_begun (marks_of xs)
 
-    by : (m : Mark) → AreLegal limits js (m ∷ marks_of xs) → Exactly js n (now xs) (told (past xs)) → Exactly js (count is_begun (m ∷ marks_of xs)) (now_by x.place m (marks_of xs) (now xs)) (told (past_by m xs (past xs)))
+    by : (m : Mark) → AreLegal limits js (m ∷ marks_of xs) → Exactly js n (now xs) (askings_told (past xs)) → Exactly js (count is_begun (m ∷ marks_of xs)) (now_by x.place m (marks_of xs) (now xs)) (askings_told (past_by m xs (past xs)))
     by (Begun j) k h = tt
     by (Asked r) k h = (λ m. asked_in limits js x.place r xs k m, h)
-    by Again k h = exactly_again js n x.place (now xs) (told (past xs)) h
-    by (Answered r a) k h = exactly_decided js n x.place a (now xs) (told (past xs)) h
+    by Again k h = exactly_again js n x.place (now xs) (askings_told (past xs)) h
+    by (Answered r a) k h = exactly_decided js n x.place a (now xs) (askings_told (past xs)) h
     by Hinted k h = h
     by (Brought i q) k h = h
     by (Turned t) k h = h
@@ -396,20 +396,20 @@ at_most_decided : (js : List Job) (p n : ℕ) (x : Answer) (bs : List Asking) �
 at_most_decided js p n x [] a = tt
 at_most_decided js p n x (b ∷ bs) a = a
 
-pub at_most : (limits : Limits) (js : List Job) (xs : List Placed) → AreLegal limits js (marks_of xs) → AtMost js (count is_begun (marks_of xs)) (told xs)
+pub at_most : (limits : Limits) (js : List Job) (xs : List Placed) → AreLegal limits js (marks_of xs) → AtMost js (count is_begun (marks_of xs)) (askings_told xs)
 at_most limits js [] l = tt
 at_most limits js (x ∷ xs) l = by x.mark l (at_most limits js xs l.1)
   where
-    new : (r : Request) → AreLegal limits js (Asked r ∷ marks_of xs) → is_main (first_at x.place (asked (marks_of xs) % 65536) r) ≡ true → phase_at js (acked (told xs)) ≤ count is_begun (marks_of xs)
+    new : (r : Request) → AreLegal limits js (Asked r ∷ marks_of xs) → is_main (first_at x.place (asked (marks_of xs) % 65536) r) ≡ true → phase_at js (acked (askings_told xs)) ≤ count is_begun (marks_of xs)
     new r k h =
-        let y : phase_at js (acked (told xs)) ≡ count is_begun (marks_of xs) = ap (λ (z : List Asking). phase_at js (acked z)) (split limits js xs k.1) ∙ asked_in limits js x.place r xs k h in
+        let y : phase_at js (acked (askings_told xs)) ≡ count is_begun (marks_of xs) = ap (λ (z : List Asking). phase_at js (acked z)) (split limits js xs k.1) ∙ asked_in limits js x.place r xs k h in
         omega (arith, y)
 
-    by : (m : Mark) → AreLegal limits js (m ∷ marks_of xs) → AtMost js (count is_begun (marks_of xs)) (told xs) → AtMost js (count is_begun (m ∷ marks_of xs)) (told_by x.place m (marks_of xs) (told xs))
-    by (Begun j) k a = at_most_later js (count is_begun (marks_of xs)) (told xs) a
+    by : (m : Mark) → AreLegal limits js (m ∷ marks_of xs) → AtMost js (count is_begun (marks_of xs)) (askings_told xs) → AtMost js (count is_begun (m ∷ marks_of xs)) (askings_told_by x.place m (marks_of xs) (askings_told xs))
+    by (Begun j) k a = at_most_later js (count is_begun (marks_of xs)) (askings_told xs) a
     by (Asked r) k a = (λ h. new r k h, a)
-    by Again k a = at_most_again js (count is_begun (marks_of xs)) x.place (told xs) a
-    by (Answered r v) k a = at_most_decided js (count is_begun (marks_of xs)) x.place v (told xs) a
+    by Again k a = at_most_again js (count is_begun (marks_of xs)) x.place (askings_told xs) a
+    by (Answered r v) k a = at_most_decided js (count is_begun (marks_of xs)) x.place v (askings_told xs) a
     by Hinted k a = a
     by (Brought n p) k a = a
     by (Turned t) k a = a
@@ -493,5 +493,5 @@ past_count (x ∷ xs) p c = by x.mark c (λ d. past_count xs p d)
     by (Turned t) c f = f c
     by (Ended cause) c f = f c
 
-pub past_at_most : (limits : Limits) (js : List Job) (xs : List Placed) → AreLegal limits js (marks_of xs) → (p : ℕ) → count is_begun (marks_of xs) ≡ p + 1 → AtMost js p (told (past xs))
-past_at_most limits js xs l p c = let P : ℕ → Type 0 = λ n. AtMost js n (told (past xs)) in subst P (past_count xs p c) (at_most limits js (past xs) (past_legal limits js xs l))
+pub past_at_most : (limits : Limits) (js : List Job) (xs : List Placed) → AreLegal limits js (marks_of xs) → (p : ℕ) → count is_begun (marks_of xs) ≡ p + 1 → AtMost js p (askings_told (past xs))
+past_at_most limits js xs l p c = let P : ℕ → Type 0 = λ n. AtMost js n (askings_told (past xs)) in subst P (past_count xs p c) (at_most limits js (past xs) (past_legal limits js xs l))

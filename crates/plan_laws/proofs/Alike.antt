@@ -17,17 +17,17 @@ use Rattle.pdu_layout.specs.declared.messages.Inf.{Inf}
 use Rattle.pdu_layout.specs.declared.messages.Inf.TheVariants as inf
 use Rattle.fixed_models.specs.Kinds.{takes}
 use Rattle.slave_desc.specs.declared.descriptions.SlaveDesc.{SlaveDesc}
-use Rattle.slave_wiring.specs.Changes.{Change, Set, Restart, newest, ascending, input, output, vr_for, entries, has_id, ids, source, source_given, target, target_given, time_given, complete}
+use Rattle.slave_wiring.specs.Changes.{Change, Set, Restart, newest_change, ascending, input, output, vr_for, entries, has_id, ids, source, source_given, target, target_given, time_given, complete}
 use Rattle.slave_wiring.specs.Refusals as wiring
-use Rattle.slave_wiring.specs.Refusals.{unless, is_transport, port_with, is_input_of, is_wired, input_refusal, output_refusal}
-use Rattle.slave_wiring.specs.Payloads.{Wires, brought, is_wanted}
+use Rattle.slave_wiring.specs.Refusals.{refused_unless, is_transport, port_with, is_input_of, is_wired, input_refusal, output_refusal}
+use Rattle.slave_wiring.specs.Payloads.{WiringState, brought, is_wanted}
 use Rattle.slave_spec.specs.declared.words.Asked.{Asked}
 use Rattle.slave_spec.specs.declared.words.Asked.TheVariants as asked
-use Rattle.slave_spec.specs.declared.words.Setup.{Setup}
+use Rattle.slave_spec.specs.declared.words.SlaveSetup.{SlaveSetup}
 use Rattle.slave_spec.specs.Plants.{Plant}
-use Rattle.slave_spec.specs.Requests.{refusal, accepted, answered, body_refusal, changed_to, asked_of}
+use Rattle.slave_spec.specs.Requests.{refusal, accepted, answered_plant, body_refusal, changed_to, asked_of}
 use Rattle.slave_spec.specs.Turns.{Act, Stay, Wait, Fault, Step, Pass, act, turned, is_listening}
-use Rattle.plan_laws.specs.Taking.{IsTakenByPart, TakesAll, after_all}
+use Rattle.plan_laws.specs.Taking.{IsTakenByPart, TakesAll, plant_after_all}
 use Rattle.plan_laws.specs.Runs.{Happening, Turn, Data, Move, Ask, met, met_all, TakesAmid, after_amid}
 use Rattle.plan_laws.proofs.Lists.{by_test}
 use Rattle.plan_laws.proofs.Told.{is_told, id_of}
@@ -50,14 +50,14 @@ pub record AreAlike (p q : Plant) : Type 0 where
 then_alike : (p q r : Plant) → AreAlike p q → AreAlike q r → AreAlike p r
 then_alike p q r a b = record { kind = b.kind ∙ a.kind; parameters = b.parameters ∙ a.parameters; changes = b.changes ∙ a.changes }
 
-turned_alike : (x : Setup) (p : Plant) (a : Act) → AreAlike p (turned x p a).after
+turned_alike : (x : SlaveSetup) (p : Plant) (a : Act) → AreAlike p (turned x p a).after
 turned_alike x p Stay = record { kind = refl; parameters = refl; changes = refl }
 turned_alike x p (Wait left) = record { kind = refl; parameters = refl; changes = refl }
 turned_alike x p (Fault code) = record { kind = refl; parameters = refl; changes = refl }
 turned_alike x p (Step state) = record { kind = refl; parameters = refl; changes = refl }
 turned_alike x p Pass = record { kind = refl; parameters = refl; changes = refl }
 
-moved_alike : (x : Setup) (p : Plant) (request : Stc) (state : State) → AreAlike p (changed_to x p request state)
+moved_alike : (x : SlaveSetup) (p : Plant) (request : Stc) (state : State) → AreAlike p (changed_to x p request state)
 moved_alike x p stc.Reset state = record { kind = refl; parameters = refl; changes = refl }
 moved_alike x p (stc.DoStep steps) state = record { kind = refl; parameters = refl; changes = refl }
 moved_alike x p _ state = record { kind = refl; parameters = refl; changes = refl }
@@ -67,33 +67,33 @@ asked_alike p inf.State = record { kind = refl; parameters = refl; changes = ref
 asked_alike p inf.Error = record { kind = refl; parameters = refl; changes = refl }
 asked_alike p (inf.Log category most) = record { kind = refl; parameters = refl; changes = refl }
 
-answered_alike : (x : Setup) (p : Plant) (request : Asked) (refused : Option ErrorCode) → AreAlike p (accepted x p request) → AreAlike p (answered x p request refused).after
+answered_alike : (x : SlaveSetup) (p : Plant) (request : Asked) (refused : Option ErrorCode) → AreAlike p (accepted x p request) → AreAlike p (answered_plant x p request refused).after
 answered_alike x p request None k = record { kind = k.kind; parameters = k.parameters; changes = k.changes }
 answered_alike x p request (Some code) k = record { kind = refl; parameters = refl; changes = refl }
 
-move_alike : (x : Setup) (p : Plant) (named : State) (request : Stc) → AreAlike p (accepted x p (asked.Change named request))
+move_alike : (x : SlaveSetup) (p : Plant) (named : State) (request : Stc) → AreAlike p (accepted x p (asked.Change named request))
 unfolding accepted
 move_alike x p named request = moved_alike x p request _
 
-ask_alike : (x : Setup) (p : Plant) (question : Inf) → AreAlike p (accepted x p (asked.Question question))
+ask_alike : (x : SlaveSetup) (p : Plant) (question : Inf) → AreAlike p (accepted x p (asked.Question question))
 unfolding accepted
 ask_alike x p question = asked_alike p question
 
-brought_changes : (d : SlaveDesc) (w : Wires) (from : Address) (number id : ℕ) (payload : List ℕ) (steps : ℕ) → (brought d w from number id payload steps).changes ≡ w.changes
+brought_changes : (d : SlaveDesc) (w : WiringState) (from : Address) (number id : ℕ) (payload : List ℕ) (steps : ℕ) → (brought d w from number id payload steps).changes ≡ w.changes
 brought_changes d w from number id payload steps = by_test (is_wanted d w from number id payload steps) (λ e. rw e refl) (λ e. rw e refl)
 
-data_alike : (p : Plant) (w : Wires) (b : Bool) → w.changes ≡ p.wires.changes → AreAlike p (cond b (record p { wires = w }) p)
+data_alike : (p : Plant) (w : WiringState) (b : Bool) → w.changes ≡ p.wires.changes → AreAlike p (cond b (record p { wires = w }) p)
 data_alike p w true e = record { kind = refl; parameters = refl; changes = ap settled e }
 data_alike p w false e = record { kind = refl; parameters = refl; changes = refl }
 
-met_alike : (x : Setup) (p : Plant) (h : Happening) → AreAlike p (met x p h)
+met_alike : (x : SlaveSetup) (p : Plant) (h : Happening) → AreAlike p (met x p h)
 met_alike x p (Turn quiet) = turned_alike x p (act x quiet p)
 met_alike x p (Data from number id payload) =
     data_alike p (brought x.desc p.wires from number id payload p.steps) (is_listening p.state) (brought_changes x.desc p.wires from number id payload p.steps)
 met_alike x p (Move named request) = answered_alike x p (asked.Change named request) (refusal x p (asked.Change named request)) (move_alike x p named request)
 met_alike x p (Ask question) = answered_alike x p (asked.Question question) (refusal x p (asked.Question question)) (ask_alike x p question)
 
-all_alike : (x : Setup) (p : Plant) (hs : List Happening) → AreAlike p (met_all x p hs)
+all_alike : (x : SlaveSetup) (p : Plant) (hs : List Happening) → AreAlike p (met_all x p hs)
 all_alike x p [] = record { kind = refl; parameters = refl; changes = refl }
 all_alike x p (h ∷ hs) = then_alike p (met x p h) (met_all x (met x p h) hs) (met_alike x p h) (all_alike x (met x p h) hs)
 
@@ -108,10 +108,10 @@ same_entries : (id : ℕ) (changes : List Change) → (entries input id changes 
 same_entries id changes = (not_restarted (λ change. vr_for id (input change)) (λ steps. refl) changes, not_restarted (λ change. vr_for id (output change)) (λ steps. refl) changes)
 
 same_source : (id : ℕ) (changes : List Change) → source id changes ≡ source id (settled changes)
-same_source id changes = ap newest (not_restarted (source_given id) (λ steps. refl) changes)
+same_source id changes = ap newest_change (not_restarted (source_given id) (λ steps. refl) changes)
 
 same_target : (id : ℕ) (changes : List Change) → target id changes ≡ target id (settled changes)
-same_target id changes = ap newest (not_restarted (target_given id) (λ steps. refl) changes)
+same_target id changes = ap newest_change (not_restarted (target_given id) (λ steps. refl) changes)
 
 same_inputs : (changes : List Change) → ids input changes ≡ ids input (settled changes)
 same_inputs changes = ap ascending (not_restarted (id_of input) (λ steps. refl) changes)
@@ -125,11 +125,11 @@ same_wired vr (Set body ∷ changes) = ap (λ b. is_input_of vr (Set body) || b)
 same_wired vr (Restart steps ∷ changes) = same_wired vr changes
 
 -- what is refused does not hang on restarts
-same_refusal : (d : SlaveDesc) (changes : List Change) (body : Cfg) → wiring.refusal d changes body ≡ wiring.refusal d (settled changes) body
-unfolding wiring.refusal
+same_refusal : (d : SlaveDesc) (changes : List Change) (body : Cfg) → wiring.refusal_of_setting d changes body ≡ wiring.refusal_of_setting d (settled changes) body
+unfolding wiring.refusal_of_setting
 same_refusal d changes (cfg.Steps id q) =
-    ap (λ (xs : List ℕ). unless (nat_le 1 q && nat_le q 1000 && (nat_lt 0 (length xs) || has_id output id changes)) NotSupported) (same_entries id changes).0
-    ∙ ap (λ (xs : List ℕ). unless (nat_le 1 q && nat_le q 1000 && (has_id input id (settled changes) || nat_lt 0 (length xs))) NotSupported) (same_entries id changes).1
+    ap (λ (xs : List ℕ). refused_unless (nat_le 1 q && nat_le q 1000 && (nat_lt 0 (length xs) || has_id output id changes)) NotSupported) (same_entries id changes).0
+    ∙ ap (λ (xs : List ℕ). refused_unless (nat_le 1 q && nat_le q 1000 && (has_id input id (settled changes) || nat_lt 0 (length xs))) NotSupported) (same_entries id changes).1
 same_refusal d changes (cfg.Input id i vr kind) =
     ap (λ (xs : List ℕ). input_refusal (port_with vr d.inputs) kind ((i == length xs) && not (is_wired vr changes))) (same_entries id changes).0
     ∙ ap (λ (b : Bool). input_refusal (port_with vr d.inputs) kind ((i == length (entries input id (settled changes))) && not b)) (same_wired vr changes)
@@ -137,11 +137,11 @@ same_refusal d changes (cfg.Output id i vr) =
     ap (λ (xs : List ℕ). if (not (nat_lt 0 (length xs)) && nat_le 17 (length (ids output changes))) then Some NotSupported else output_refusal (port_with vr d.outputs) ((i == length xs) && nat_lt i 8)) (same_entries id changes).1
     ∙ ap (λ (xs : List ℕ). if (not (has_id output id (settled changes)) && nat_le 17 (length xs)) then Some NotSupported else output_refusal (port_with vr d.outputs) ((i == length (entries output id (settled changes))) && nat_lt i 8)) (same_outputs changes)
 same_refusal d changes (cfg.Source net) =
-    ap (λ (xs : List ℕ). if is_transport net.protocol then unless (nat_lt 0 (length xs) && is_none (source net.data_id changes)) Position else Some NotSupported) (same_entries net.data_id changes).0
-    ∙ ap (λ (o : Option Address). if is_transport net.protocol then unless (has_id input net.data_id (settled changes) && is_none o) Position else Some NotSupported) (same_source net.data_id changes)
+    ap (λ (xs : List ℕ). if is_transport net.protocol then refused_unless (nat_lt 0 (length xs) && is_none (source net.data_id changes)) Position else Some NotSupported) (same_entries net.data_id changes).0
+    ∙ ap (λ (o : Option Address). if is_transport net.protocol then refused_unless (has_id input net.data_id (settled changes) && is_none o) Position else Some NotSupported) (same_source net.data_id changes)
 same_refusal d changes (cfg.Target net) =
-    ap (λ (xs : List ℕ). if is_transport net.protocol then unless (nat_lt 0 (length xs) && is_none (target net.data_id changes)) Position else Some NotSupported) (same_entries net.data_id changes).1
-    ∙ ap (λ (o : Option Address). if is_transport net.protocol then unless (has_id output net.data_id (settled changes) && is_none o) Position else Some NotSupported) (same_target net.data_id changes)
+    ap (λ (xs : List ℕ). if is_transport net.protocol then refused_unless (nat_lt 0 (length xs) && is_none (target net.data_id changes)) Position else Some NotSupported) (same_entries net.data_id changes).1
+    ∙ ap (λ (o : Option Address). if is_transport net.protocol then refused_unless (has_id output net.data_id (settled changes) && is_none o) Position else Some NotSupported) (same_target net.data_id changes)
 same_refusal d changes _ = refl
 
 all_same : {X : Type 0} (p q : X → Bool) (xs : List X) → ((x : X) → p x ≡ q x) → list_all p xs ≡ list_all q xs
@@ -157,10 +157,10 @@ same_complete changes =
     all_same (λ id. is_some (target id changes)) (λ id. is_some (target id (settled changes))) (ids output changes) (λ id. ap is_some (same_target id changes)) ∙ ap (list_all (λ id. is_some (target id (settled changes)))) (same_outputs changes) in
     cc
 
-unrefused_alike : (x : Setup) (p q : Plant) (body : Cfg) → AreAlike p q → wiring.refusal x.desc p.wires.changes body ≡ None → wiring.refusal x.desc q.wires.changes body ≡ None
-unrefused_alike x p q body a h = same_refusal x.desc q.wires.changes body ∙ ap (λ c. wiring.refusal x.desc c body) a.changes ∙ sym (same_refusal x.desc p.wires.changes body) ∙ h
+unrefused_alike : (x : SlaveSetup) (p q : Plant) (body : Cfg) → AreAlike p q → wiring.refusal_of_setting x.desc p.wires.changes body ≡ None → wiring.refusal_of_setting x.desc q.wires.changes body ≡ None
+unrefused_alike x p q body a h = same_refusal x.desc q.wires.changes body ∙ ap (λ c. wiring.refusal_of_setting x.desc c body) a.changes ∙ sym (same_refusal x.desc p.wires.changes body) ∙ h
 
-part_alike : (x : Setup) (p q : Plant) (body : Cfg) → AreAlike p q → IsTakenByPart x p body → IsTakenByPart x q body
+part_alike : (x : SlaveSetup) (p q : Plant) (body : Cfg) → AreAlike p q → IsTakenByPart x p body → IsTakenByPart x q body
 part_alike x p q (cfg.Parameter vr kind value) a h = (
   subst (λ (ps : List ℤ). vr < length ps) (sym a.parameters) h.0,
   h.1,
@@ -169,8 +169,8 @@ part_alike x p q (cfg.Parameter vr kind value) a h = (
 )
 part_alike x p q body alike h = unrefused_alike x p q body alike h
 
-not_of_wiring : (d : SlaveDesc) (changes : List Change) (body : Cfg) → is_told body ≡ false → body ≢ cfg.Clear → wiring.refusal d changes body ≢ None
-unfolding wiring.refusal
+not_of_wiring : (d : SlaveDesc) (changes : List Change) (body : Cfg) → is_told body ≡ false → body ≢ cfg.Clear → wiring.refusal_of_setting d changes body ≢ None
+unfolding wiring.refusal_of_setting
 not_of_wiring d changes (cfg.Parameter vr kind value) told other h = absurd cc
 not_of_wiring d changes (cfg.Tunable id i vr kind) told other h = absurd cc
 not_of_wiring d changes (cfg.ParamNet id protocol port ip) told other h = absurd cc
@@ -179,7 +179,7 @@ not_of_wiring d changes (cfg.Scope id scope) told other h = absurd cc
 not_of_wiring d changes cfg.Clear told other h = other refl
 not_of_wiring d changes _ told other h = absurd cc
 
-pub part_unrefused : (x : Setup) (p : Plant) (body : Cfg) → p.state ≡ Configuration → IsTakenByPart x p body → refusal x p (asked.Setting body) ≡ None
+pub part_unrefused : (x : SlaveSetup) (p : Plant) (body : Cfg) → p.state ≡ Configuration → IsTakenByPart x p body → refusal x p (asked.Setting body) ≡ None
 part_unrefused x p (cfg.Parameter vr kind value) here h =
     let l : nat_lt vr (length p.model.parameters) ≡ true = (let k = h.0 in grind (arith, nat_tests, k)) in
     let code : type_code kind ≡ 7 = ap type_code h.1 in
@@ -198,7 +198,7 @@ part_unrefused x p (cfg.ParamNet id protocol port ip) here h = absurd (not_of_wi
 part_unrefused x p (cfg.Logging category level mode) here h = absurd (not_of_wiring x.desc p.wires.changes (cfg.Logging category level mode) refl (λ e. absurd cc) h)
 part_unrefused x p (cfg.Scope id scope) here h = absurd (not_of_wiring x.desc p.wires.changes (cfg.Scope id scope) refl (λ e. absurd cc) h)
 
-accepted_alike : (x : Setup) (p q : Plant) (body : Cfg) → AreAlike p q → AreAlike (accepted x p (asked.Setting body)) (accepted x q (asked.Setting body))
+accepted_alike : (x : SlaveSetup) (p q : Plant) (body : Cfg) → AreAlike p q → AreAlike (accepted x p (asked.Setting body)) (accepted x q (asked.Setting body))
 unfolding accepted
 accepted_alike x p q (cfg.Parameter vr kind value) a = record { kind = a.kind; parameters = ap (λ (ps : List ℤ). slice_set ps vr value) a.parameters; changes = a.changes }
 accepted_alike x p q (cfg.Logging category level mode) a = record { kind = a.kind; parameters = a.parameters; changes = a.changes }
@@ -206,7 +206,7 @@ accepted_alike x p q cfg.Clear a = record { kind = refl; parameters = refl; chan
 accepted_alike x p q body a = record { kind = a.kind; parameters = a.parameters; changes = ap (λ (c : List Change). Set body ∷ c) a.changes }
 
 -- what is taken one after the other is taken with things between
-pub amid_taken : (x : Setup) (p q : Plant) (happened : ℕ → List Happening) (i : ℕ) (bodies : List Cfg) → AreAlike p q → TakesAll x p bodies → TakesAmid x q happened i bodies
+pub amid_taken : (x : SlaveSetup) (p q : Plant) (happened : ℕ → List Happening) (i : ℕ) (bodies : List Cfg) → AreAlike p q → TakesAll x p bodies → TakesAmid x q happened i bodies
 amid_taken x p q happened i [] a h = tt
 amid_taken x p q happened i (body ∷ bodies) a h = λ here.
     let place : Plant = met_all x q (happened i) in
@@ -217,7 +217,7 @@ amid_taken x p q happened i (body ∷ bodies) a h = λ here.
       amid_taken x (accepted x p (asked.Setting body)) (accepted x place (asked.Setting body)) happened (i + 1) bodies (accepted_alike x p place body b) h.2,
     )
 
-pub amid_alike : (x : Setup) (p q : Plant) (happened : ℕ → List Happening) (i : ℕ) (bodies : List Cfg) → AreAlike p q → AreAlike (after_all x p bodies) (after_amid x q happened i bodies)
+pub amid_alike : (x : SlaveSetup) (p q : Plant) (happened : ℕ → List Happening) (i : ℕ) (bodies : List Cfg) → AreAlike p q → AreAlike (plant_after_all x p bodies) (after_amid x q happened i bodies)
 amid_alike x p q happened i [] a = a
 amid_alike x p q happened i (body ∷ bodies) a =
     let place : Plant = met_all x q (happened i) in

@@ -10,7 +10,7 @@ use Rattle.pdu_layout.specs.declared.messages.Cfg.TheVariants as cfg
 use Rattle.slave_desc.specs.declared.ports.Port.{Port}
 use Rattle.slave_desc.specs.declared.descriptions.SlaveDesc.{SlaveDesc}
 use Rattle.slave_wiring.specs.Changes.{Change, Set, input, output, entries, has_id, ids, put_ascending}
-use Rattle.slave_wiring.specs.Refusals.{refusal, is_wired, is_full, port_with}
+use Rattle.slave_wiring.specs.Refusals.{refusal_of_setting, is_wired, is_full, port_with}
 use Rattle.plan_laws.proofs.Lists.{Pairwise, each_both}
 use Rattle.plan_laws.proofs.Told.{AreTold, onto, put_few, put_again}
 
@@ -41,8 +41,8 @@ same_type kind = grind (arith, nat_tests)
 abbrev pub IsFree : SlaveDesc → List Change → Port → Type 0
 IsFree d changes q = (port_with q.vr d.inputs ≡ Some q) × (is_wired q.vr changes ≡ false)
 
-input_fine : (d : SlaveDesc) (changes : List Change) (id i : ℕ) (q : Port) → length (entries input id changes) ≡ i → IsFree d changes q → refusal d changes (cfg.Input id i q.vr q.kind) ≡ None
-unfolding refusal
+input_fine : (d : SlaveDesc) (changes : List Change) (id i : ℕ) (q : Port) → length (entries input id changes) ≡ i → IsFree d changes q → refusal_of_setting d changes (cfg.Input id i q.vr q.kind) ≡ None
+unfolding refusal_of_setting
 input_fine d changes id i q count free =
     let t : (type_code q.kind == type_code q.kind) ≡ true = same_type q.kind in
     let n : (i == length (entries input id changes)) ≡ true = grind (arith, nat_tests, count) in
@@ -72,8 +72,8 @@ inputs_counted id i (q ∷ qs) changes =
 
 -- ---- outputs
 
-output_fine : (d : SlaveDesc) (changes : List Change) (id i : ℕ) (q : Port) → length (entries output id changes) ≡ i → i < 8 → is_full id changes ≡ false → port_with q.vr d.outputs ≡ Some q → refusal d changes (cfg.Output id i q.vr) ≡ None
-unfolding refusal
+output_fine : (d : SlaveDesc) (changes : List Change) (id i : ℕ) (q : Port) → length (entries output id changes) ≡ i → i < 8 → is_full id changes ≡ false → port_with q.vr d.outputs ≡ Some q → refusal_of_setting d changes (cfg.Output id i q.vr) ≡ None
+unfolding refusal_of_setting
 output_fine d changes id i q count few room there =
     let n : (i == length (entries output id changes)) ≡ true = grind (arith, nat_tests, count) in
     let l : nat_lt i 8 ≡ true = grind (arith, nat_tests, few) in

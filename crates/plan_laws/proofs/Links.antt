@@ -13,7 +13,7 @@ use Rattle.scenario.specs.declared.scenarios.Scenario.{Scenario}
 use Rattle.scenario.specs.Sound.{IsScenario, IsEvery}
 use Rattle.plan_spec.specs.declared.links.DataLink.{DataLink}
 use Rattle.plan_spec.specs.declared.pairs.Pair.{Pair}
-use Rattle.plan_spec.specs.Links.{pairs_from, is_wired, wired_pairs, wire_links, wire_link}
+use Rattle.plan_spec.specs.Links.{pairs_from, is_wired_pair, wired_pairs, wire_links, wire_link}
 use Rattle.slave_wiring.specs.Refusals.{is_transport}
 use Rattle.plan_laws.proofs.Lists.{Pairwise, each_weaker, each_both, each_filter, each_passes, each_from_all, pairwise_weaker, pairwise_filter, few_between}
 use Rattle.plan_laws.proofs.Pairs.{IsBefore, IsWithin, pairs_within, pairs_ascend, each_link, pairwise_links, interval_within}
@@ -34,12 +34,12 @@ intervals : (sc : Scenario) → IsScenario sc → AllByRecursion (λ (e : Every)
 intervals sc h = each_weaker (λ (e : Every). IsEvery sc.slaves sc.wires e) (λ (e : Every). (1 ≤ e.q) × (e.q ≤ 1000)) (λ e k. k.q) sc.every (each_from_all (λ (e : Every). IsEvery sc.slaves sc.wires e) sc.every h.every)
 
 abbrev IsWiredPair : Scenario → Pair → Type 0
-IsWiredPair sc p = (is_wired sc.wires p ≡ true) × (1 ≤ p.to) × (p.to ≤ length sc.slaves)
+IsWiredPair sc p = (is_wired_pair sc.wires p ≡ true) × (1 ≤ p.to) × (p.to ≤ length sc.slaves)
 
-pairs_wired : (sc : Scenario) (n : ℕ) → n ≡ length sc.slaves → AllByRecursion (IsWiredPair sc) (filter (is_wired sc.wires) (pairs_from 1 n 1 n))
+pairs_wired : (sc : Scenario) (n : ℕ) → n ≡ length sc.slaves → AllByRecursion (IsWiredPair sc) (filter (is_wired_pair sc.wires) (pairs_from 1 n 1 n))
 pairs_wired sc n e =
-    each_both (λ (p : Pair). is_wired sc.wires p ≡ true) (IsWithin 1 n 1 n) (IsWiredPair sc) (λ p h k. (h, k.to.0, omega (arith, k.to.1, e))) (filter (is_wired sc.wires) (pairs_from 1 n 1 n))
-    (each_passes (is_wired sc.wires) (pairs_from 1 n 1 n)) (each_filter (IsWithin 1 n 1 n) (is_wired sc.wires) (pairs_from 1 n 1 n) (pairs_within 1 n 1 n))
+    each_both (λ (p : Pair). is_wired_pair sc.wires p ≡ true) (IsWithin 1 n 1 n) (IsWiredPair sc) (λ p h k. (h, k.to.0, omega (arith, k.to.1, e))) (filter (is_wired_pair sc.wires) (pairs_from 1 n 1 n))
+    (each_passes (is_wired_pair sc.wires) (pairs_from 1 n 1 n)) (each_filter (IsWithin 1 n 1 n) (is_wired_pair sc.wires) (pairs_from 1 n 1 n) (pairs_within 1 n 1 n))
 
 pub links_wired : (sc : Scenario) → IsScenario sc → AllByRecursion (IsWireLink sc) (wire_links sc)
 links_wired sc h =
@@ -54,7 +54,7 @@ links_ordered sc =
     pairwise_links IsLinkBefore sc 17 (wired_pairs sc)
     (pairwise_weaker (IsWithin 1 n 1 n) IsBefore (λ (p q : Pair). (i j : ℕ) → i < j → IsLinkBefore (wire_link sc i p) (wire_link sc j q))
     (λ p q hp hq before i j less. record { apart = grind (arith, nat_tests, less); before = before })
-    (wired_pairs sc) (each_filter (IsWithin 1 n 1 n) (is_wired sc.wires) (pairs_from 1 n 1 n) (pairs_within 1 n 1 n)) (pairwise_filter IsBefore (is_wired sc.wires) (pairs_from 1 n 1 n) (pairs_ascend 1 n 1 n)))
+    (wired_pairs sc) (each_filter (IsWithin 1 n 1 n) (is_wired_pair sc.wires) (pairs_from 1 n 1 n) (pairs_within 1 n 1 n)) (pairwise_filter IsBefore (is_wired_pair sc.wires) (pairs_from 1 n 1 n) (pairs_ascend 1 n 1 n)))
 
 -- the data ids that come to a slave, and those that it sends to slaves
 abbrev pub links_to : Scenario → ℕ → List DataLink

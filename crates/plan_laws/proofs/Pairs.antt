@@ -10,7 +10,7 @@ use Rattle.scenario.specs.declared.scenarios.Every.{Every}
 use Rattle.scenario.specs.Wiring.{q_of, every_between, interval}
 use Rattle.plan_spec.specs.declared.links.DataLink.{DataLink}
 use Rattle.plan_spec.specs.declared.pairs.Pair.{Pair}
-use Rattle.plan_spec.specs.Filling.{row_from}
+use Rattle.plan_spec.specs.Filling.{pairs_in_row}
 use Rattle.plan_spec.specs.Links.{pairs_from, links_from, wire_link}
 use Rattle.plan_laws.proofs.Lists.{by_test, Pairwise, each_append, each_weaker, pairwise_append}
 
@@ -27,37 +27,37 @@ pub record IsWithin (a m b n : ℕ) (p : Pair) : Type 0 where
 abbrev IsOfRow : (x b n : ℕ) → Pair → Type 0
 IsOfRow x b n p = (p.from ≡ x) × (b ≤ p.to) × (p.to < b + n)
 
-row_within : (x b n : ℕ) → AllByRecursion (IsOfRow x b n) (row_from x b n)
+row_within : (x b n : ℕ) → AllByRecursion (IsOfRow x b n) (pairs_in_row x b n)
 row_within x b zero = tt
 row_within x b (suc n) = (
   (refl, omega arith, omega arith),
-  each_weaker (IsOfRow x (b + 1) n) (IsOfRow x b (suc n)) (λ p h. (h.0, omega (arith, h.1), omega (arith, h.2))) (row_from x (b + 1) n) (row_within x (b + 1) n),
+  each_weaker (IsOfRow x (b + 1) n) (IsOfRow x b (suc n)) (λ p h. (h.0, omega (arith, h.1), omega (arith, h.2))) (pairs_in_row x (b + 1) n) (row_within x (b + 1) n),
 )
 
-row_ascends : (x b n : ℕ) → Pairwise IsBefore (row_from x b n)
+row_ascends : (x b n : ℕ) → Pairwise IsBefore (pairs_in_row x b n)
 row_ascends x b zero = tt
 row_ascends x b (suc n) = (
-  each_weaker (IsOfRow x (b + 1) n) (IsBefore (record { from = x; to = b })) (λ p h. inr (sym h.0, omega (arith, h.1))) (row_from x (b + 1) n) (row_within x (b + 1) n),
+  each_weaker (IsOfRow x (b + 1) n) (IsBefore (record { from = x; to = b })) (λ p h. inr (sym h.0, omega (arith, h.1))) (pairs_in_row x (b + 1) n) (row_within x (b + 1) n),
   row_ascends x (b + 1) n,
 )
 
 pub pairs_within : (a m b n : ℕ) → AllByRecursion (IsWithin a m b n) (pairs_from a m b n)
 pairs_within a zero b n = tt
 pairs_within a (suc m) b n =
-    each_append (IsWithin a (suc m) b n) (row_from a b n) (pairs_from (a + 1) m b n)
-    (each_weaker (IsOfRow a b n) (IsWithin a (suc m) b n) (λ p h. record { from = (omega (arith, h.0), omega (arith, h.0)); to = (h.1, h.2) }) (row_from a b n) (row_within a b n))
+    each_append (IsWithin a (suc m) b n) (pairs_in_row a b n) (pairs_from (a + 1) m b n)
+    (each_weaker (IsOfRow a b n) (IsWithin a (suc m) b n) (λ p h. record { from = (omega (arith, h.0), omega (arith, h.0)); to = (h.1, h.2) }) (pairs_in_row a b n) (row_within a b n))
     (each_weaker (IsWithin (a + 1) m b n) (IsWithin a (suc m) b n) (λ p h. record { from = (omega (arith, h.from.0), omega (arith, h.from.1)); to = h.to }) (pairs_from (a + 1) m b n) (pairs_within (a + 1) m b n))
 
 pub pairs_ascend : (a m b n : ℕ) → Pairwise IsBefore (pairs_from a m b n)
 pairs_ascend a zero b n = tt
 pairs_ascend a (suc m) b n =
-    pairwise_append IsBefore (row_from a b n) (pairs_from (a + 1) m b n) (row_ascends a b n) (pairs_ascend (a + 1) m b n)
+    pairwise_append IsBefore (pairs_in_row a b n) (pairs_from (a + 1) m b n) (row_ascends a b n) (pairs_ascend (a + 1) m b n)
     (each_weaker (IsOfRow a b n) (λ p. AllByRecursion (IsBefore p) (pairs_from (a + 1) m b n))
     (λ p h. each_weaker (IsWithin (a + 1) m b n) (IsBefore p) (λ q k. inl (omega (arith, h.0, k.from.0))) (pairs_from (a + 1) m b n) (pairs_within (a + 1) m b n))
-    (row_from a b n) (row_within a b n))
+    (pairs_in_row a b n) (row_within a b n))
 
 -- a pair that passes a test is among those that do
-some_of_row : (p : Pair → Bool) (x b n y : ℕ) → b ≤ y → y < b + n → p (record { from = x; to = y }) ≡ true → 1 ≤ length (filter p (row_from x b n))
+some_of_row : (p : Pair → Bool) (x b n y : ℕ) → b ≤ y → y < b + n → p (record { from = x; to = y }) ≡ true → 1 ≤ length (filter p (pairs_in_row x b n))
 some_of_row p x b zero y l u t = absurd (omega arith)
 some_of_row p x b (suc n) y l u t =
     by_test (p (record { from = x; to = b }))
@@ -69,9 +69,9 @@ some_of_row p x b (suc n) y l u t =
 pub some_of_pairs : (p : Pair → Bool) (a m b n x y : ℕ) → a ≤ x → x < a + m → b ≤ y → y < b + n → p (record { from = x; to = y }) ≡ true → 1 ≤ length (filter p (pairs_from a m b n))
 some_of_pairs p a zero b n x y la ua lb ub t = absurd (omega arith)
 some_of_pairs p a (suc m) b n x y la ua lb ub t =
-    let both = filter-append p (row_from a b n) (pairs_from (a + 1) m b n) in
-    let sum : length (filter p (pairs_from a (suc m) b n)) ≡ length (filter p (row_from a b n)) + length (filter p (pairs_from (a + 1) m b n)) =
-    ap length both ∙ length-append (filter p (row_from a b n)) (filter p (pairs_from (a + 1) m b n)) in
+    let both = filter-append p (pairs_in_row a b n) (pairs_from (a + 1) m b n) in
+    let sum : length (filter p (pairs_from a (suc m) b n)) ≡ length (filter p (pairs_in_row a b n)) + length (filter p (pairs_from (a + 1) m b n)) =
+    ap length both ∙ length-append (filter p (pairs_in_row a b n)) (filter p (pairs_from (a + 1) m b n)) in
     by_test (eqb a x)
     (λ f. let same : a ≡ x = grind (arith, nat_tests, f) in
     omega (arith, sum, some_of_row p a b n y lb ub (subst (λ (z : ℕ). p (record { from = z; to = y }) ≡ true) (sym same) t)))

@@ -11,8 +11,8 @@ use Rattle.slave_desc.specs.declared.ports.Port.{Port}
 use Rattle.slave_desc.specs.declared.descriptions.SlaveDesc.{SlaveDesc}
 use Rattle.plan_spec.specs.declared.links.DataLink.{DataLink}
 use Rattle.plan_spec.specs.Setup.{told_interval}
-use Rattle.slave_wiring.specs.Changes.{Change, Set, newest, input, output, entries, has_id, ids, source, target, vr_for, source_given, target_given, ascending}
-use Rattle.slave_wiring.specs.Refusals.{refusal, is_input_of, is_wired, is_full, is_transport, port_with}
+use Rattle.slave_wiring.specs.Changes.{Change, Set, newest_change, input, output, entries, has_id, ids, source, target, vr_for, source_given, target_given, ascending}
+use Rattle.slave_wiring.specs.Refusals.{refusal_of_setting, is_input_of, is_wired, is_full, is_transport, port_with}
 use Rattle.plan_laws.proofs.Lists.{by_test, Pairwise, each_append, each_both, each_weaker, each_always}
 use Rattle.plan_laws.proofs.Told.{AreTold, id_of, onto, told_append, onto_append, silent, silent_any}
 use Rattle.plan_laws.proofs.Entries.{IsFree, inputs_under, outputs_under, each_input_under, each_output_under, inputs_told, inputs_counted, outputs_told, outputs_counted, outputs_few}
@@ -41,8 +41,8 @@ pub record IsPart (p : Part) : Type 0 where
 each_interval : (P : Cfg → Type 0) (l : DataLink) → P (cfg.Steps l.id l.every) → AllByRecursion P (told_interval l)
 each_interval P l h = elim (l.every == 1) as (λ b. AllByRecursion P (cond b [] (cfg.Steps l.id l.every ∷ []))) [ true ↦ tt | false ↦ (h, tt) ]
 
-interval_fine : (d : SlaveDesc) (changes : List Change) (id q : ℕ) → (1 ≤ q) × (q ≤ 1000) → (has_id input id changes || has_id output id changes) ≡ true → refusal d changes (cfg.Steps id q) ≡ None
-unfolding refusal
+interval_fine : (d : SlaveDesc) (changes : List Change) (id q : ℕ) → (1 ≤ q) × (q ≤ 1000) → (has_id input id changes || has_id output id changes) ≡ true → refusal_of_setting d changes (cfg.Steps id q) ≡ None
+unfolding refusal_of_setting
 interval_fine d changes id q h known =
     let a : nat_le 1 q ≡ true = grind (arith, nat_tests, h.0) in
     let b : nat_le q 1000 ≡ true = grind (arith, nat_tests, h.1) in
@@ -54,8 +54,8 @@ interval_told d changes l h known =
 
 -- ---- data that comes
 
-source_fine : (d : SlaveDesc) (changes : List Change) (net : NetInfo) (id : ℕ) → net.data_id ≡ id → is_transport net.protocol ≡ true → has_id input id changes ≡ true → source id changes ≡ None → refusal d changes (cfg.Source net) ≡ None
-unfolding refusal
+source_fine : (d : SlaveDesc) (changes : List Change) (net : NetInfo) (id : ℕ) → net.data_id ≡ id → is_transport net.protocol ≡ true → has_id input id changes ≡ true → source id changes ≡ None → refusal_of_setting d changes (cfg.Source net) ≡ None
+unfolding refusal_of_setting
 source_fine d changes net id e way known none = rw (way, e, known, none) refl
 
 known_from : (xs : List ℕ) (n : ℕ) → length xs ≡ n → 1 ≤ n → nat_lt 0 (length xs) ≡ true
@@ -85,7 +85,7 @@ come_told d changes p is apart new =
     let known : has_id input id after ≡ true = known_from (entries input id after) (length p.ports) (omega (arith, inputs_counted id 0 p.ports changes, none)) is.some in
     let silence : AllByRecursion (λ (body : Cfg). source_given id (Set body) ≡ None) (inputs_under id 0 p.ports) =
     each_input_under (λ (body : Cfg). source_given id (Set body) ≡ None) id 0 p.ports (each_always (λ (q : Port). (j : ℕ) → source_given id (Set (cfg.Input id j q.vr q.kind)) ≡ None) (λ q j. refl) p.ports) in
-    let unsaid : source id after ≡ None = ap newest (silent (source_given id) (inputs_under id 0 p.ports) changes silence) ∙ new.source_none in
+    let unsaid : source id after ≡ None = ap newest_change (silent (source_given id) (inputs_under id 0 p.ports) changes silence) ∙ new.source_none in
     told_append d changes (inputs_under id 0 p.ports) (cfg.Source p.net ∷ told_interval p.link)
     (inputs_told d id 0 p.ports changes none new.free apart) (
       refl,
@@ -111,7 +111,7 @@ come_entries p other changes e =
 
 come_source : (p : Part) (other : ℕ) (changes : List Change) → IsPart p → eqb p.link.id other ≡ false → source other (onto (come p) changes) ≡ source other changes
 come_source p other changes is e =
-    ap newest (silent (source_given other) (come p) changes
+    ap newest_change (silent (source_given other) (come p) changes
     (each_come (λ (body : Cfg). source_given other (Set body) ≡ None) p
     (each_always (λ (q : Port). (j : ℕ) → source_given other (Set (cfg.Input p.link.id j q.vr q.kind)) ≡ None) (λ q j. refl) p.ports) (other_source p.net p.link.id other is.same e) refl))
 
@@ -158,7 +158,7 @@ come_is_sourced p id changes e =
     let before : List Change = onto (inputs_under p.link.id 0 p.ports) changes in
     let then : onto (come p) changes ≡ onto (told_interval p.link) (Set (cfg.Source p.net) ∷ before) = onto_append (inputs_under p.link.id 0 p.ports) (cfg.Source p.net ∷ told_interval p.link) changes in
     let same : source id (onto (told_interval p.link) (Set (cfg.Source p.net) ∷ before)) ≡ source id (Set (cfg.Source p.net) ∷ before) =
-    ap newest (silent (source_given id) (told_interval p.link) (Set (cfg.Source p.net) ∷ before) (each_interval (λ (body : Cfg). source_given id (Set body) ≡ None) p.link refl)) in
+    ap newest_change (silent (source_given id) (told_interval p.link) (Set (cfg.Source p.net) ∷ before) (each_interval (λ (body : Cfg). source_given id (Set body) ≡ None) p.link refl)) in
     ap (λ (c : List Change). is_some (source id c)) then ∙ ap is_some same ∙ source_here p.net id before e
 
 come_sourced : (p : Part) (changes : List Change) → IsPart p → AreSourced changes → AreSourced (onto (come p) changes)
@@ -174,8 +174,8 @@ all_come_sourced changes (p ∷ ps) is h =
 
 -- ---- data that goes
 
-target_fine : (d : SlaveDesc) (changes : List Change) (net : NetInfo) (id : ℕ) → net.data_id ≡ id → is_transport net.protocol ≡ true → has_id output id changes ≡ true → target id changes ≡ None → refusal d changes (cfg.Target net) ≡ None
-unfolding refusal
+target_fine : (d : SlaveDesc) (changes : List Change) (net : NetInfo) (id : ℕ) → net.data_id ≡ id → is_transport net.protocol ≡ true → has_id output id changes ≡ true → target id changes ≡ None → refusal_of_setting d changes (cfg.Target net) ≡ None
+unfolding refusal_of_setting
 target_fine d changes net id e way known none = rw (way, e, known, none) refl
 
 pub each_go : (P : Cfg → Type 0) (p : Part) → ((j vr : ℕ) → P (cfg.Output p.link.id j vr)) → P (cfg.Target p.net) → P (cfg.Steps p.link.id p.link.every) → AllByRecursion P (go p)
@@ -205,7 +205,7 @@ go_told d changes p is few new =
     let known : has_id output id after ≡ true = known_from (entries output id after) (length p.ports) (omega (arith, outputs_counted id 0 p.ports changes, none)) is.part.some in
     let silence : AllByRecursion (λ (body : Cfg). target_given id (Set body) ≡ None) (outputs_under id 0 p.ports) =
     each_output_under (λ (body : Cfg). target_given id (Set body) ≡ None) id 0 p.ports (λ j vr. refl) in
-    let unsaid : target id after ≡ None = ap newest (silent (target_given id) (outputs_under id 0 p.ports) changes silence) ∙ new.target_none in
+    let unsaid : target id after ≡ None = ap newest_change (silent (target_given id) (outputs_under id 0 p.ports) changes silence) ∙ new.target_none in
     told_append d changes (outputs_under id 0 p.ports) (cfg.Target p.net ∷ told_interval p.link)
     (outputs_told d id 0 p.ports changes none (omega (arith, is.few)) (has_room id changes few) is.there) (
       refl,
@@ -219,7 +219,7 @@ go_entries p other changes e =
 
 go_target : (p : Part) (other : ℕ) (changes : List Change) → IsPart p → eqb p.link.id other ≡ false → target other (onto (go p) changes) ≡ target other changes
 go_target p other changes is e =
-    ap newest (silent (target_given other) (go p) changes (each_go (λ (body : Cfg). target_given other (Set body) ≡ None) p (λ j vr. refl) (other_target p.net p.link.id other is.same e) refl))
+    ap newest_change (silent (target_given other) (go p) changes (each_go (λ (body : Cfg). target_given other (Set body) ≡ None) p (λ j vr. refl) (other_target p.net p.link.id other is.same e) refl))
 
 after_targets : (p : Part) (changes : List Change) → ids output (onto (go p) changes) ≡ ids output (onto (outputs_under p.link.id 0 p.ports) changes)
 after_targets p changes =
@@ -257,7 +257,7 @@ go_is_targeted p id changes e =
     let before : List Change = onto (outputs_under p.link.id 0 p.ports) changes in
     let then : onto (go p) changes ≡ onto (told_interval p.link) (Set (cfg.Target p.net) ∷ before) = onto_append (outputs_under p.link.id 0 p.ports) (cfg.Target p.net ∷ told_interval p.link) changes in
     let same : target id (onto (told_interval p.link) (Set (cfg.Target p.net) ∷ before)) ≡ target id (Set (cfg.Target p.net) ∷ before) =
-    ap newest (silent (target_given id) (told_interval p.link) (Set (cfg.Target p.net) ∷ before) (each_interval (λ (body : Cfg). target_given id (Set body) ≡ None) p.link refl)) in
+    ap newest_change (silent (target_given id) (told_interval p.link) (Set (cfg.Target p.net) ∷ before) (each_interval (λ (body : Cfg). target_given id (Set body) ≡ None) p.link refl)) in
     ap (λ (c : List Change). is_some (target id c)) then ∙ ap is_some same ∙ target_here p.net id before e
 
 go_targeted : (p : Part) (changes : List Change) → IsPart p → AreTargeted changes → AreTargeted (onto (go p) changes)

@@ -16,7 +16,7 @@ use Rattle.scenario.specs.Settings.{changed, changed_by, setting_in, settings_un
 use Rattle.scenario.specs.Sound.{IsScenario, IsSetting, IsRerun}
 use Rattle.scenario.specs.Sound as sound
 use Rattle.scenario.proofs.Changes.{changed-append}
-use Rattle.plan_laws.specs.Taking.{IsSlaveOf}
+use Rattle.plan_laws.specs.Taking.{IsScenarioSlave}
 use Rattle.plan_laws.proofs.Lists.{by_test, Pairwise, each_weaker, each_append, each_map, each_from_all, pairwise_from_all}
 use Rattle.plan_laws.proofs.Planned.{slave_there}
 use Rattle.plan_laws.proofs.Machines.{AreFine, IsOfSlave, value_fits}
@@ -46,7 +46,7 @@ own_setting sc s d y slave is e =
     (subst (λ (ps : List ℤ). y.index < length ps) own is.index, value_fits y.value is.value)
 
 -- all settings of a scenario, those of the later runs behind those of the first
-pub all_fine : (sc : Scenario) (s : ℕ) (d : SlaveDesc) → IsSlaveOf sc s d → AreFine d.kind d.parameters s (sound.changes sc.settings sc.reruns)
+pub all_fine : (sc : Scenario) (s : ℕ) (d : SlaveDesc) → IsScenarioSlave sc s d → AreFine d.kind d.parameters s (sound.changes sc.settings sc.reruns)
 all_fine sc s d h =
     let t = slave_there sc.slaves s d h.sound.slaves h.slave in
     let own : parameters_at sc.slaves s ≡ d.parameters = ap parameters_in h.slave in
@@ -130,10 +130,10 @@ parameters_first sc s d h =
     (each_weaker (λ (r : Rerun). IsRerun sc.slaves sc.runs r) (λ (r : Rerun). nat_le r.run 1 ≡ false) (λ r k. let l : 2 ≤ r.run = k.run.0 in grind (arith, nat_tests, l)) sc.reruns (each_from_all (λ (r : Rerun). IsRerun sc.slaves sc.runs r) sc.reruns h.reruns)) in
     ap (changed d.parameters s) (sym (ap (λ (l : List Rerun). sc.settings ++ map setting_in l) none ∙ append-nil sc.settings))
 
-pub first_fine : (sc : Scenario) (s : ℕ) (d : SlaveDesc) → IsSlaveOf sc s d → AreFine d.kind d.parameters s sc.settings
+pub first_fine : (sc : Scenario) (s : ℕ) (d : SlaveDesc) → IsScenarioSlave sc s d → AreFine d.kind d.parameters s sc.settings
 first_fine sc s d h = fine_front d.kind d.parameters s sc.settings (map setting_in sc.reruns) (all_fine sc s d h)
 
-pub next_fine : (sc : Scenario) (s : ℕ) (d : SlaveDesc) (r : ℕ) → IsSlaveOf sc s d → AreFine d.kind (parameters sc s d r) s (settings_for sc r)
+pub next_fine : (sc : Scenario) (s : ℕ) (d : SlaveDesc) (r : ℕ) → IsScenarioSlave sc s d → AreFine d.kind (parameters sc s d r) s (settings_for sc r)
 next_fine sc s d r h =
     let front = until_front (r + 1) sc.reruns (in_order sc h.sound) in
     let later : List Setting = map setting_in front.0 in

@@ -22,9 +22,9 @@ use Rattle.plan_spec.specs.declared.links.DataLink.{DataLink}
 use Rattle.plan_spec.specs.declared.pairs.Pair.{Pair}
 use Rattle.plan_spec.specs.Links.{pairs_from, is_wire, wire_links, watch_link}
 use Rattle.plan_spec.specs.Setup.{net_info, numbered, input_at, output_at, incoming, outgoing, watched, told_interval}
-use Rattle.slave_wiring.specs.Changes.{Change, Set, newest, ascending, input, output, source, target, vr_for, time_given, complete, ids, entries, source_given, target_given}
+use Rattle.slave_wiring.specs.Changes.{Change, Set, newest_change, ascending, input, output, source, target, vr_for, time_given, complete, ids, entries, source_given, target_given}
 use Rattle.slave_wiring.specs.Refusals.{port_with}
-use Rattle.plan_laws.specs.Taking.{IsSlaveOf}
+use Rattle.plan_laws.specs.Taking.{IsScenarioSlave}
 use Rattle.plan_laws.proofs.Lists.{Pairwise, each_weaker, each_both, each_filter, each_from_all, each_append, each_map, each_always, each_flat_map, pairwise_filter, pairwise_weaker, pairwise_append, pairwise_from_all, pairwise_map}
 use Rattle.plan_laws.proofs.Told.{AreTold, onto, told_append, onto_append, silent, kept, all_ids, id_of}
 use Rattle.plan_laws.proofs.Entries.{IsFree}
@@ -34,7 +34,7 @@ use Rattle.plan_laws.proofs.Ports.{each_chosen, pairwise_chosen, all_chosen, por
 use Rattle.plan_laws.proofs.Planned.{IsThere, slave_there, positions_some, positions_few, positions_apart, positions_fed, fed_once, IsFed, inputs_there, outputs_there}
 use Rattle.plan_laws.proofs.Links.{IsWireLink, IsLinkBefore, links_wired, links_ordered, links_to, links_of, to_here, from_here, HaveTwoSenders, senders_apart, few_receivers, transport_taken}
 
-there : (sc : Scenario) (s : ℕ) (d : SlaveDesc) → IsSlaveOf sc s d → IsThere sc.slaves s d
+there : (sc : Scenario) (s : ℕ) (d : SlaveDesc) → IsScenarioSlave sc s d → IsThere sc.slaves s d
 there sc s d h = slave_there sc.slaves s d h.sound.slaves h.slave
 
 one_wire : (sc : Scenario) → IsScenario sc → Pairwise (λ (v w : Wire). same_input v w ≡ false) sc.wires
@@ -160,12 +160,12 @@ flat_map_parts : {A : Type 0} (f : A → List Cfg) (part : A → Part) (tell : P
 flat_map_parts f part tell [] h = refl
 flat_map_parts f part tell (x ∷ xs) h = ap (λ (l : List Cfg). l ++ flat_map f xs) h.0 ∙ ap (λ (l : List Cfg). tell (part x) ++ l) (flat_map_parts f part tell xs h.1)
 
-all_coming : (sc : Scenario) (s : ℕ) (d : SlaveDesc) → IsSlaveOf sc s d → AllByRecursion (IsComing sc d) (links_to sc s)
+all_coming : (sc : Scenario) (s : ℕ) (d : SlaveDesc) → IsScenarioSlave sc s d → AllByRecursion (IsComing sc d) (links_to sc s)
 all_coming sc s d h =
     each_both (IsWireLink sc) (λ (l : DataLink). l.to ≡ s) (IsComing sc d) (λ l w e. record { link = w; slave = ap (slave_at sc.slaves) e ∙ h.slave }) (links_to sc s)
     (each_filter (IsWireLink sc) (λ (l : DataLink). l.to == s) (wire_links sc) (links_wired sc h.sound)) (to_here sc s)
 
-all_going : (sc : Scenario) (s : ℕ) (d : SlaveDesc) → IsSlaveOf sc s d → AllByRecursion (IsGoing sc d) (links_of sc s)
+all_going : (sc : Scenario) (s : ℕ) (d : SlaveDesc) → IsScenarioSlave sc s d → AllByRecursion (IsGoing sc d) (links_of sc s)
 all_going sc s d h =
     each_both (IsWireLink sc) (λ (l : DataLink). l.from ≡ s) (IsGoing sc d) (λ l w e. record { link = w; slave = ap (slave_at sc.slaves) e ∙ h.slave }) (links_of sc s)
     (each_filter (IsWireLink sc) (λ (l : DataLink). l.from == s) (wire_links sc) (links_wired sc h.sound)) (from_here sc s)
@@ -177,30 +177,30 @@ in_parts sc s d m n = map (in_part sc d m n) (links_to sc s)
 abbrev pub out_parts : Scenario → (s : ℕ) → SlaveDesc → (m n : ℕ) → List Part
 out_parts sc s d m n = map (out_part sc d m n) (links_of sc s) ++ watch_part sc s d ∷ []
 
-in_parts_are : (sc : Scenario) (s : ℕ) (d : SlaveDesc) (m n : ℕ) → 8 ≤ m → 8 ≤ n → IsSlaveOf sc s d → AllByRecursion IsInputPart (in_parts sc s d m n)
+in_parts_are : (sc : Scenario) (s : ℕ) (d : SlaveDesc) (m n : ℕ) → 8 ≤ m → 8 ≤ n → IsScenarioSlave sc s d → AllByRecursion IsInputPart (in_parts sc s d m n)
 in_parts_are sc s d m n hm hn h =
     each_map IsInputPart (in_part sc d m n) (links_to sc s)
     (each_weaker (IsComing sc d) (λ (l : DataLink). IsInputPart (in_part sc d m n l)) (λ l c. coming_part sc d m n l hm hn h.sound (there sc s d h).desc c) (links_to sc s) (all_coming sc s d h))
 
-in_parts_apart : (sc : Scenario) (s : ℕ) (d : SlaveDesc) (m n : ℕ) → IsSlaveOf sc s d → Pairwise AreApart (in_parts sc s d m n)
+in_parts_apart : (sc : Scenario) (s : ℕ) (d : SlaveDesc) (m n : ℕ) → IsScenarioSlave sc s d → Pairwise AreApart (in_parts sc s d m n)
 in_parts_apart sc s d m n h =
     pairwise_map AreApart (in_part sc d m n) (links_to sc s)
     (pairwise_weaker (λ (l : DataLink). l.to ≡ s) HaveTwoSenders (λ (l r : DataLink). AreApart (in_part sc d m n l) (in_part sc d m n r))
     (λ l r a b two. coming_apart sc d s m n l r h.sound (there sc s d h).desc a b two) (links_to sc s) (to_here sc s) (senders_apart sc s))
 
-in_parts_new : (sc : Scenario) (s : ℕ) (d : SlaveDesc) (m n numerator denominator : ℕ) → IsSlaveOf sc s d → AllByRecursion (IsNewIn d (Set (cfg.TimeRes numerator denominator) ∷ [])) (in_parts sc s d m n)
+in_parts_new : (sc : Scenario) (s : ℕ) (d : SlaveDesc) (m n numerator denominator : ℕ) → IsScenarioSlave sc s d → AllByRecursion (IsNewIn d (Set (cfg.TimeRes numerator denominator) ∷ [])) (in_parts sc s d m n)
 in_parts_new sc s d m n numerator denominator h =
     each_map (IsNewIn d (Set (cfg.TimeRes numerator denominator) ∷ [])) (in_part sc d m n) (links_to sc s)
     (each_always (λ (l : DataLink). IsNewIn d (Set (cfg.TimeRes numerator denominator) ∷ []) (in_part sc d m n l)) (λ l. coming_new sc d m n numerator denominator l (there sc s d h).desc) (links_to sc s))
 
-out_parts_are : (sc : Scenario) (s : ℕ) (d : SlaveDesc) (m n : ℕ) → 8 ≤ m → n ≡ 8 → IsSlaveOf sc s d → AllByRecursion (IsOutputPart d) (out_parts sc s d m n)
+out_parts_are : (sc : Scenario) (s : ℕ) (d : SlaveDesc) (m n : ℕ) → 8 ≤ m → n ≡ 8 → IsScenarioSlave sc s d → AllByRecursion (IsOutputPart d) (out_parts sc s d m n)
 out_parts_are sc s d m n hm hn h =
     each_append (IsOutputPart d) (map (out_part sc d m n) (links_of sc s)) (watch_part sc s d ∷ [])
     (each_map (IsOutputPart d) (out_part sc d m n) (links_of sc s)
     (each_weaker (IsGoing sc d) (λ (l : DataLink). IsOutputPart d (out_part sc d m n l)) (λ l c. going_part sc d m n l hm hn h.sound (there sc s d h).desc c) (links_of sc s) (all_going sc s d h)))
     (watch_is_part sc s d (there sc s d h).desc, tt)
 
-out_parts_apart : (sc : Scenario) (s : ℕ) (d : SlaveDesc) (m n : ℕ) → IsSlaveOf sc s d → Pairwise (λ (p r : Part). eqb p.link.id r.link.id ≡ false) (out_parts sc s d m n)
+out_parts_apart : (sc : Scenario) (s : ℕ) (d : SlaveDesc) (m n : ℕ) → IsScenarioSlave sc s d → Pairwise (λ (p r : Part). eqb p.link.id r.link.id ≡ false) (out_parts sc s d m n)
 out_parts_apart sc s d m n h =
     let apart : Part → Part → Type 0 = λ (p r : Part). eqb p.link.id r.link.id ≡ false in
     let small : s ≤ 16 = omega (arith, (there sc s d h).last, h.sound.few_slaves.1) in
@@ -212,7 +212,7 @@ out_parts_apart sc s d m n h =
     (each_map (λ (p : Part). AllByRecursion (apart p) (watch_part sc s d ∷ [])) (out_part sc d m n) (links_of sc s)
     (each_weaker (IsGoing sc d) (λ (l : DataLink). AllByRecursion (apart (out_part sc d m n l)) (watch_part sc s d ∷ [])) (λ l c. (let far : 17 ≤ l.id = c.link.id in grind (arith, nat_tests, far, small), tt)) (links_of sc s) (all_going sc s d h)))
 
-out_parts_few : (sc : Scenario) (s : ℕ) (d : SlaveDesc) (m n : ℕ) → IsSlaveOf sc s d → length (out_parts sc s d m n) ≤ 17
+out_parts_few : (sc : Scenario) (s : ℕ) (d : SlaveDesc) (m n : ℕ) → IsScenarioSlave sc s d → length (out_parts sc s d m n) ≤ 17
 out_parts_few sc s d m n h =
     omega (arith, length-append (map (out_part sc d m n) (links_of sc s)) (watch_part sc s d ∷ []), length-map (links_of sc s) (out_part sc d m n), few_receivers sc s h.sound)
 
@@ -248,7 +248,7 @@ parts_told d a b ins outs h =
     let first : List Change = Set (cfg.TimeRes a b) ∷ [] in
     let then : List Change = onto (flat_map come ins) first in
     let none : (id : ℕ) → entries output id then ≡ [] = λ id. no_outputs (λ change. vr_for id (output change)) ins first (λ _ _ _ _. refl) (λ _. refl) (λ _ _. refl) in
-    let unsaid : (id : ℕ) → target id then ≡ None = λ id. ap newest (no_outputs (target_given id) ins first (λ _ _ _ _. refl) (λ _. refl) (λ _ _. refl)) in
+    let unsaid : (id : ℕ) → target id then ≡ None = λ id. ap newest_change (no_outputs (target_given id) ins first (λ _ _ _ _. refl) (λ _. refl) (λ _ _. refl)) in
     let no_ids : ids output then ≡ [] = ap ascending (no_outputs (id_of output) ins first (λ _ _ _ _. refl) (λ _. refl) (λ _ _. refl)) in
     told_append d first (flat_map come ins) (flat_map go outs) (all_come_told d first ins h.inputs h.inputs_apart h.inputs_new)
     (all_go_told d then outs h.outputs h.outputs_apart (omega (arith, ap length no_ids, h.outputs_few))
@@ -261,7 +261,7 @@ parts_complete d a b ins outs h =
     let last : List Change = onto (flat_map go outs) then in
     let sourced : AreSourced then = all_come_sourced first ins (each_weaker IsInputPart IsPart (λ p x. x.0) ins h.inputs) (λ id e. absurd cc) in
     let unchanged : (id : ℕ) → entries input id last ≡ entries input id then = λ id. no_inputs (λ change. vr_for id (input change)) outs then (λ _ _ _. refl) (λ _. refl) (λ _ _. refl) in
-    let unmoved : (id : ℕ) → source id last ≡ source id then = λ id. ap newest (no_inputs (source_given id) outs then (λ _ _ _. refl) (λ _. refl) (λ _ _. refl)) in
+    let unmoved : (id : ℕ) → source id last ≡ source id then = λ id. ap newest_change (no_inputs (source_given id) outs then (λ _ _ _. refl) (λ _. refl) (λ _ _. refl)) in
     let none : (id : ℕ) → entries output id then ≡ [] = λ id. no_outputs (λ change. vr_for id (output change)) ins first (λ _ _ _ _. refl) (λ _. refl) (λ _ _. refl) in
     let targeted : AreTargeted last = all_go_targeted d then outs h.outputs (λ id e. absurd (let z : nat_lt 0 (length (entries output id then)) ≡ false = ap (λ (xs : List ℕ). nat_lt 0 (length xs)) (none id) in cc)) in
     let time : nat_lt 0 (length (filter_map time_given last)) ≡ true = kept time_given (flat_map go outs) then (kept time_given (flat_map come ins) first refl) in
@@ -272,12 +272,12 @@ parts_complete d a b ins outs h =
 
 -- ---- the lists of the plan
 
-comes_as : (sc : Scenario) (s : ℕ) (d : SlaveDesc) → IsSlaveOf sc s d → flat_map (incoming sc d) (links_to sc s) ≡ flat_map come (in_parts sc s d 8 8)
+comes_as : (sc : Scenario) (s : ℕ) (d : SlaveDesc) → IsScenarioSlave sc s d → flat_map (incoming sc d) (links_to sc s) ≡ flat_map come (in_parts sc s d 8 8)
 comes_as sc s d h =
     flat_map_parts (incoming sc d) (in_part sc d 8 8) come (links_to sc s)
     (each_weaker (IsComing sc d) (λ (l : DataLink). incoming sc d l ≡ come (in_part sc d 8 8 l)) (λ l c. coming_told sc d 8 8 l h.sound c) (links_to sc s) (all_coming sc s d h))
 
-goes_as : (sc : Scenario) (s : ℕ) (d : SlaveDesc) → IsSlaveOf sc s d → flat_map (outgoing sc d) (links_of sc s) ≡ flat_map go (map (out_part sc d 8 8) (links_of sc s))
+goes_as : (sc : Scenario) (s : ℕ) (d : SlaveDesc) → IsScenarioSlave sc s d → flat_map (outgoing sc d) (links_of sc s) ≡ flat_map go (map (out_part sc d 8 8) (links_of sc s))
 goes_as sc s d h =
     flat_map_parts (outgoing sc d) (out_part sc d 8 8) go (links_of sc s)
     (each_weaker (IsGoing sc d) (λ (l : DataLink). outgoing sc d l ≡ go (out_part sc d 8 8 l)) (λ l c. going_told sc d 8 8 l h.sound c) (links_of sc s) (all_going sc s d h))
@@ -286,19 +286,19 @@ goes_as sc s d h =
 abbrev pub wiring_list : Scenario → (s : ℕ) → SlaveDesc → List Cfg
 wiring_list sc s d = flat_map (incoming sc d) (links_to sc s) ++ (flat_map (outgoing sc d) (links_of sc s) ++ watched sc s d)
 
-goes_whole : (sc : Scenario) (s : ℕ) (d : SlaveDesc) → IsSlaveOf sc s d → flat_map (outgoing sc d) (links_of sc s) ++ watched sc s d ≡ flat_map go (out_parts sc s d 8 8)
+goes_whole : (sc : Scenario) (s : ℕ) (d : SlaveDesc) → IsScenarioSlave sc s d → flat_map (outgoing sc d) (links_of sc s) ++ watched sc s d ≡ flat_map go (out_parts sc s d 8 8)
 goes_whole sc s d h =
     let outs : List Part = map (out_part sc d 8 8) (links_of sc s) in
     ap (λ (l : List Cfg). l ++ watched sc s d) (goes_as sc s d h)
     ∙ ap (λ (l : List Cfg). flat_map go outs ++ l) (watch_told sc s d ∙ sym (append-nil (go (watch_part sc s d))))
     ∙ sym (flat_map-append go outs (watch_part sc s d ∷ []))
 
-wiring_is : (sc : Scenario) (s : ℕ) (d : SlaveDesc) → IsSlaveOf sc s d → wiring_list sc s d ≡ flat_map come (in_parts sc s d 8 8) ++ flat_map go (out_parts sc s d 8 8)
+wiring_is : (sc : Scenario) (s : ℕ) (d : SlaveDesc) → IsScenarioSlave sc s d → wiring_list sc s d ≡ flat_map come (in_parts sc s d 8 8) ++ flat_map go (out_parts sc s d 8 8)
 wiring_is sc s d h =
     ap (λ (l : List Cfg). l ++ (flat_map (outgoing sc d) (links_of sc s) ++ watched sc s d)) (comes_as sc s d h)
     ∙ ap (λ (l : List Cfg). flat_map come (in_parts sc s d 8 8) ++ l) (goes_whole sc s d h)
 
-are_parts : (sc : Scenario) (s : ℕ) (d : SlaveDesc) (m n a b : ℕ) → 8 ≤ m → n ≡ 8 → IsSlaveOf sc s d → AreParts d (Set (cfg.TimeRes a b) ∷ []) (in_parts sc s d m n) (out_parts sc s d m n)
+are_parts : (sc : Scenario) (s : ℕ) (d : SlaveDesc) (m n a b : ℕ) → 8 ≤ m → n ≡ 8 → IsScenarioSlave sc s d → AreParts d (Set (cfg.TimeRes a b) ∷ []) (in_parts sc s d m n) (out_parts sc s d m n)
 are_parts sc s d m n a b hm hn h = record {
   inputs = in_parts_are sc s d m n hm (omega (arith, hn)) h;
   inputs_apart = in_parts_apart sc s d m n h;
@@ -309,11 +309,11 @@ are_parts sc s d m n a b hm hn h = record {
 }
 
 -- after the resolution the wiring is told whole
-pub wiring_told : (sc : Scenario) (s : ℕ) (d : SlaveDesc) (a b : ℕ) → IsSlaveOf sc s d → AreTold d (Set (cfg.TimeRes a b) ∷ []) (wiring_list sc s d)
+pub wiring_told : (sc : Scenario) (s : ℕ) (d : SlaveDesc) (a b : ℕ) → IsScenarioSlave sc s d → AreTold d (Set (cfg.TimeRes a b) ∷ []) (wiring_list sc s d)
 wiring_told sc s d a b h =
     subst (AreTold d (Set (cfg.TimeRes a b) ∷ [])) (sym (wiring_is sc s d h)) (parts_told d a b (in_parts sc s d 8 8) (out_parts sc s d 8 8) (are_parts sc s d 8 8 a b (omega arith) refl h))
 
 -- and is complete then
-pub wiring_complete : (sc : Scenario) (s : ℕ) (d : SlaveDesc) (a b : ℕ) → IsSlaveOf sc s d → complete (onto (wiring_list sc s d) (Set (cfg.TimeRes a b) ∷ [])) ≡ true
+pub wiring_complete : (sc : Scenario) (s : ℕ) (d : SlaveDesc) (a b : ℕ) → IsScenarioSlave sc s d → complete (onto (wiring_list sc s d) (Set (cfg.TimeRes a b) ∷ [])) ≡ true
 wiring_complete sc s d a b h =
     ap (λ (l : List Cfg). complete (onto l (Set (cfg.TimeRes a b) ∷ []))) (wiring_is sc s d h) ∙ parts_complete d a b (in_parts sc s d 8 8) (out_parts sc s d 8 8) (are_parts sc s d 8 8 a b (omega arith) refl h)

@@ -7,7 +7,7 @@ use Rattle.pdu_layout.specs.declared.messages.Cfg.{Cfg}
 use Rattle.pdu_layout.specs.declared.messages.Cfg.TheVariants as cfg
 use Rattle.slave_desc.specs.declared.descriptions.SlaveDesc.{SlaveDesc}
 use Rattle.slave_wiring.specs.Changes.{Change, Set, Side, Entry, entries, has_id, ids, source, vr_for, put_ascending, ascending}
-use Rattle.slave_wiring.specs.Refusals.{refusal}
+use Rattle.slave_wiring.specs.Refusals.{refusal_of_setting}
 use Rattle.plan_laws.proofs.Lists.{by_test, left, right}
 
 -- requests that change the list of changes
@@ -28,7 +28,7 @@ onto (body ∷ bodies) changes = onto bodies (Set body ∷ changes)
 -- none of these requests is refused, each by the changes before it
 abbrev pub AreTold : SlaveDesc → List Change → List Cfg → Type 0
 AreTold d changes [] = Unit {0}
-AreTold d changes (body ∷ bodies) = (is_told body ≡ true) × (refusal d changes body ≡ None) × AreTold d (Set body ∷ changes) bodies
+AreTold d changes (body ∷ bodies) = (is_told body ≡ true) × (refusal_of_setting d changes body ≡ None) × AreTold d (Set body ∷ changes) bodies
 
 pub told_append : (d : SlaveDesc) (changes : List Change) (xs ys : List Cfg) → AreTold d changes xs → AreTold d (onto xs changes) ys → AreTold d changes (xs ++ ys)
 told_append d changes [] ys h k = k

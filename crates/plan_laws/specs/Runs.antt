@@ -11,7 +11,7 @@ use Rattle.slave_desc.specs.declared.descriptions.SlaveDesc.{SlaveDesc}
 use Rattle.scenario.specs.declared.scenarios.Scenario.{Scenario}
 use Rattle.plan_spec.specs.Setup.{setup_list, adjust_list}
 use Rattle.slave_spec.specs.declared.words.Asked.TheVariants.{Change, Setting, Question}
-use Rattle.slave_spec.specs.declared.words.Setup.{Setup}
+use Rattle.slave_spec.specs.declared.words.SlaveSetup.{SlaveSetup}
 use Rattle.slave_spec.specs.Plants.{Plant}
 use Rattle.slave_spec.specs.Requests.{refusal, accepted, answers}
 use Rattle.slave_spec.specs.Turns.{turns, brings}
@@ -24,19 +24,19 @@ pub data Happening : Type 0 where
   Move : (named : State) → Stc → Happening
   Ask : Inf → Happening
 
-abbrev pub met : Setup → Plant → Happening → Plant
+abbrev pub met : SlaveSetup → Plant → Happening → Plant
 met x p (Turn quiet) = (turns x quiet p).after
 met x p (Data from number id payload) = brings x from number id payload p
 met x p (Move named request) = (answers x (Change named request) p).after
 met x p (Ask question) = (answers x (Question question) p).after
 
 -- where all that happens leads, in its order
-abbrev pub met_all : Setup → Plant → List Happening → Plant
+abbrev pub met_all : SlaveSetup → Plant → List Happening → Plant
 met_all x p [] = p
 met_all x p (h ∷ hs) = met_all x (met x p h) hs
 
 -- Settings come one after the other, and before that of place i these things happen. One that comes in CONFIGURATION is not refused, by the slave and by its part; nothing is said of those behind one that comes elsewhere.
-abbrev pub TakesAmid : Setup → Plant → (happened : ℕ → List Happening) → (i : ℕ) → List Cfg → Type 0
+abbrev pub TakesAmid : SlaveSetup → Plant → (happened : ℕ → List Happening) → (i : ℕ) → List Cfg → Type 0
 TakesAmid x p happened i [] = Unit {0}
 TakesAmid x p happened i (body ∷ bodies) =
     ((met_all x p (happened i)).state ≡ Configuration
@@ -44,7 +44,7 @@ TakesAmid x p happened i (body ∷ bodies) =
     × TakesAmid x (accepted x (met_all x p (happened i)) (Setting body)) happened (i + 1) bodies)
 
 -- where they lead
-abbrev pub after_amid : Setup → Plant → (happened : ℕ → List Happening) → (i : ℕ) → List Cfg → Plant
+abbrev pub after_amid : SlaveSetup → Plant → (happened : ℕ → List Happening) → (i : ℕ) → List Cfg → Plant
 after_amid x p happened i [] = p
 after_amid x p happened i (body ∷ bodies) = after_amid x (accepted x (met_all x p (happened i)) (Setting body)) happened (i + 1) bodies
 

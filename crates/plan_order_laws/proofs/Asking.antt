@@ -22,7 +22,7 @@ use Rattle.master_spec.specs.Marks.{Mark, Begun, Asked, Again, Answered, Hinted,
 use Rattle.master_spec.specs.Requests.{Asking, acked}
 use Rattle.asking_laws.specs.Legal.{Does, AreLegal}
 use Rattle.asking_laws.proofs.Legal.{own_rests}
-use Rattle.index_laws.specs.Index.{Placed, at, marks_of, code_of, told}
+use Rattle.index_laws.specs.Index.{Placed, at, marks_of, code_of, askings_told}
 use Rattle.phase_laws.proofs.Now.{now, past, split, Linked, linked}
 use Rattle.phase_laws.proofs.Inverse.{reacts, hint_asks, turn_asks}
 use Rattle.phase_laws.proofs.Mains.{is_main_request, of_main, of_step, acked_yes, asked_main, change_slot, AreMains, IsTried}
@@ -46,8 +46,8 @@ pub record InPhase (js : List Job) (p : ℕ) (xs : List Placed) (id : ℕ) : Typ
   pub job_at : slice_get js p ≡ Some job
   pub job_is : job_of (marks_of xs) ≡ Some job
   pub ask : AllAsk job (now xs)
-  pub agrees : Agrees id (told (past xs)) (standing js p at_first)
-  pub is : told xs ≡ now xs ++ told (past xs)
+  pub agrees : Agrees id (askings_told (past xs)) (standing js p at_first)
+  pub is : askings_told xs ≡ now xs ++ askings_told (past xs)
 
 pub in_phase : (limits : Limits) (js : List Job) (id : ℕ) (xs : List Placed) → AreLegal limits js (marks_of xs) → (p : ℕ) → count is_begun (marks_of xs) ≡ p + 1 → InPhase js p xs id
 in_phase limits js id xs l p c =
@@ -304,19 +304,19 @@ module _ (steps runs : ℕ) (some : 1 ≤ runs) (script : Script) where
   pub row_ready : (p : ℕ) (xs : List Placed) (id : ℕ) (k : RowEvent) → (a : InPhase js p xs id) → IsRow a.job k → IsReady steps runs script k (standing js p at_first)
   row_ready p xs id k a r = r.finds steps runs script (standing js p at_first) (finds p a.job a.job_at)
 
-  pub row_taken : (p : ℕ) (xs : List Placed) (id : ℕ) (k : RowEvent) → (a : InPhase js p xs id) → IsRow a.job k → Undone a.job (now xs) → HasTaken script id (told xs) (standing js p at_first).resets
+  pub row_taken : (p : ℕ) (xs : List Placed) (id : ℕ) (k : RowEvent) → (a : InPhase js p xs id) → IsRow a.job k → Undone a.job (now xs) → HasTaken script id (askings_told xs) (standing js p at_first).resets
   row_taken p xs id k a r u =
       let f = row_ready p xs id k a r in
       record {
-        settings = ap (settings_by id) a.is ∙ settings_same id a.job (now xs) (told (past xs)) a.ask r.list ∙ a.agrees.settings ∙ f.set.settings;
-        ready = ap (ready_by id) a.is ∙ ready_stays id a.job (now xs) (told (past xs)) a.ask u (a.agrees.ready ∙ f.ready);
+        settings = ap (settings_by id) a.is ∙ settings_same id a.job (now xs) (askings_told (past xs)) a.ask r.list ∙ a.agrees.settings ∙ f.set.settings;
+        ready = ap (ready_by id) a.is ∙ ready_stays id a.job (now xs) (askings_told (past xs)) a.ask u (a.agrees.ready ∙ f.ready);
       }
 
   -- the events so far
-  pub row_events : (p : ℕ) (xs : List Placed) (id : ℕ) (k : RowEvent) (r : Request) → (a : IsAsking js p xs id r) → event_for (code_of r) ≡ Some k → events_by (told xs) ≡ (standing js p at_first).events
+  pub row_events : (p : ℕ) (xs : List Placed) (id : ℕ) (k : RowEvent) (r : Request) → (a : IsAsking js p xs id r) → event_for (code_of r) ≡ Some k → events_by (askings_told xs) ≡ (standing js p at_first).events
   row_events p xs id k r a v =
       let z = none_acked js p xs id r k a v in
-      ap events_by a.phase.is ∙ events_more a.phase.job (now xs) (told (past xs)) a.phase.ask (row_asked a.phase.job r k a.kind v).row ∙ ap (λ (n : ℕ). n + events_by (told (past xs))) z ∙ none_more (events_by (told (past xs))) ∙ a.phase.agrees.events
+      ap events_by a.phase.is ∙ events_more a.phase.job (now xs) (askings_told (past xs)) a.phase.ask (row_asked a.phase.job r k a.kind v).row ∙ ap (λ (n : ℕ). n + events_by (askings_told (past xs))) z ∙ none_more (events_by (askings_told (past xs))) ∙ a.phase.agrees.events
 
   -- ---- settings, and the preparation
   list_task : (task : Task) (s : Standing) → is_by_list task ≡ true → Finds steps runs script task s → (s.ready ≡ false) × ((resets_slave task ≡ false) × (is_state (target_of task) 7 ≡ false))
@@ -334,17 +334,17 @@ module _ (steps runs : ℕ) (some : 1 ≤ runs) (script : Script) where
   list_task tasks.Reset s e f = absurd cc
   list_task tasks.Deregister s e f = absurd cc
 
-  pub set_unready : (p : ℕ) (xs : List Placed) (id : ℕ) (body : Cfg) → IsAsking js p xs id (Configure body) → ready_by id (told xs) ≡ false
+  pub set_unready : (p : ℕ) (xs : List Placed) (id : ℕ) (body : Cfg) → IsAsking js p xs id (Configure body) → ready_by id (askings_told xs) ≡ false
   set_unready p xs id body a = by a.kind
     where
       job : Job
       job = a.phase.job
 
-      by : IsOfJob job (Configure body) → ready_by id (told xs) ≡ false
+      by : IsOfJob job (Configure body) → ready_by id (askings_told xs) ≡ false
       by (inl q) = absurd cc
       by (inr s) =
           let t = list_task job.task (standing js p at_first) (sym (kind_at job s.0 (Configure body) s.1).setting) (finds p job a.phase.job_at) in
-          ap (ready_by id) a.phase.is ∙ ready_same id job (now xs) (told (past xs)) a.phase.ask a.home (t.1).0 (t.1).1 ∙ a.phase.agrees.ready ∙ t.0
+          ap (ready_by id) a.phase.is ∙ ready_same id job (now xs) (askings_told (past xs)) a.phase.ask a.home (t.1).0 (t.1).1 ∙ a.phase.agrees.ready ∙ t.0
 
   prepare_task : (task : Task) (list : List Cfg) (state : State) (n : ℕ) → slice_get (requests_of task list) n ≡ Some (Change state stc.Prepare) → task ≡ tasks.Prepare
   prepare_task tasks.Prepare list state n e = refl
@@ -361,7 +361,7 @@ module _ (steps runs : ℕ) (some : 1 ≤ runs) (script : Script) where
   prepare_task tasks.Reset list state n e = let z = one_is _ n _ e in absurd cc
   prepare_task tasks.Deregister list state n e = let z = one_is _ n _ e in absurd cc
 
-  pub prepared : (p : ℕ) (xs : List Placed) (id : ℕ) (state : State) → IsAsking js p xs id (Change state stc.Prepare) → IsPrepared runs script id (told xs)
+  pub prepared : (p : ℕ) (xs : List Placed) (id : ℕ) (state : State) → IsAsking js p xs id (Change state stc.Prepare) → IsPrepared runs script id (askings_told xs)
   prepared p xs id state a = by a.kind
     where
       job : Job
@@ -370,15 +370,15 @@ module _ (steps runs : ℕ) (some : 1 ≤ runs) (script : Script) where
       s : Standing
       s = standing js p at_first
 
-      by : IsOfJob job (Change state stc.Prepare) → IsPrepared runs script id (told xs)
+      by : IsOfJob job (Change state stc.Prepare) → IsPrepared runs script id (askings_told xs)
       by (inl q) = absurd cc
       by (inr k) =
           let t : job.task ≡ tasks.Prepare = prepare_task job.task job.list state k.0 k.1 in
           let P : Task → Type 0 = λ x. Finds steps runs script x s in
           let f : IsSet runs script s = subst P t (finds p job a.phase.job_at) in
-          let resets : resets_by id (told xs) ≡ s.resets = ap (resets_by id) a.phase.is ∙ resets_same id job (now xs) (told (past xs)) a.phase.ask (ap resets_slave t) ∙ a.phase.agrees.resets in
+          let resets : resets_by id (askings_told xs) ≡ s.resets = ap (resets_by id) a.phase.is ∙ resets_same id job (now xs) (askings_told (past xs)) a.phase.ask (ap resets_slave t) ∙ a.phase.agrees.resets in
           let within = f.within in
           record {
-            settings = ap (settings_by id) a.phase.is ∙ settings_same id job (now xs) (told (past xs)) a.phase.ask (ap is_by_list t) ∙ a.phase.agrees.settings ∙ f.settings ∙ ap (λ (n : ℕ). reverse (set_until script n)) (sym resets);
+            settings = ap (settings_by id) a.phase.is ∙ settings_same id job (now xs) (askings_told (past xs)) a.phase.ask (ap is_by_list t) ∙ a.phase.agrees.settings ∙ f.settings ∙ ap (λ (n : ℕ). reverse (set_until script n)) (sym resets);
             within = omega (arith, within, resets);
           }

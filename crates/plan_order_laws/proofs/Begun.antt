@@ -16,8 +16,8 @@ use Rattle.master_spec.specs.declared.setups.Setup.{Setup}
 use Rattle.master_spec.specs.Jobs.{Job}
 use Rattle.master_spec.specs.Setup.{jobs_of}
 use Rattle.master_spec.specs.Marks.{Mark, Begun, Asked, Again, Answered, Hinted, Brought, Turned, Ended, asked, count, is_begun}
-use Rattle.master_spec.specs.Conversation.{reaction, done, after, extended, messages_if}
-use Rattle.master_spec.specs.Course.{Talk, Course, course, mark_of_gram, marked, sends_after, send_to, is_settled, is_quiet, failed, begun_with, begun, phases, with_next, with_report, decided, with_turns, decided_if, turned, still, after_gram, after_turn, step}
+use Rattle.master_spec.specs.Conversation.{reaction, done, marks_after, extended, messages_if}
+use Rattle.master_spec.specs.Course.{CourseTalk, Course, course, mark_of_gram, marked, sends_after, send_to, is_settled, is_quiet, failed, begun_with, task_begun, phases, with_next, with_report, decided, with_turns, decided_if, course_turned, still, after_gram, course_after_turn, step}
 use Rattle.master_spec.specs.Requests.{Asking, is_main, acked}
 use Rattle.asking_laws.specs.Legal.{GoesByRule, AllWith}
 use Rattle.asking_laws.proofs.Courses.{gram_may, gram_no_begin}
@@ -66,7 +66,7 @@ still_acked (x ∷ xs) k = by x.mark k (still_acked xs)
     by (Turned t) k f = f k
     by (Ended cause) k f = f k
 
-begun_still : (limits : Limits) (job : Job) (marks : List Mark) → IsStill (after limits (Begun job) marks)
+begun_still : (limits : Limits) (job : Job) (marks : List Mark) → IsStill (marks_after limits (Begun job) marks)
 begun_still limits job marks = by (reaction limits (Begun job) marks)
   where
     by : (r : Reaction) → IsStill (done r (Begun job ∷ marks))
@@ -95,14 +95,14 @@ sent_there a to (b ∷ bs) (inl e) = (e, λ z. absurd cc)
 sent_there a to (b ∷ bs) (inr h) = ((sent_there a to bs h).0, λ z. absurd cc)
 
 -- a conversation sends it
-record Sender (limits : Limits) (f : Talk → Option Mark) (to : Address) (talks : List Talk) : Type 0 where
+record Sender (limits : Limits) (f : CourseTalk → Option Mark) (to : Address) (talks : List CourseTalk) : Type 0 where
   pub place : ℕ
-  pub talk : Talk
+  pub talk : CourseTalk
   pub here : slice_get talks place ≡ Some talk
   pub there : talk.slave.address ≡ to
   pub sends : messages_if limits talk.slave.id (f talk) talk.marks ≡ [] → ⊥
 
-sender : (limits : Limits) (f : Talk → Option Mark) (to : Address) (talks : List Talk) → SentTo to (flat_map (λ talk. sends_after limits talk (f talk)) talks) → Sender limits f to talks
+sender : (limits : Limits) (f : CourseTalk → Option Mark) (to : Address) (talks : List CourseTalk) → SentTo to (flat_map (λ talk. sends_after limits talk (f talk)) talks) → Sender limits f to talks
 sender limits f to [] h = absurd h
 sender limits f to (u ∷ talks) h = by (sent_either to (sends_after limits u (f u)) (flat_map (λ talk. sends_after limits talk (f talk)) talks) h) (λ k. sender limits f to talks k)
   where
@@ -110,7 +110,7 @@ sender limits f to (u ∷ talks) h = by (sent_either to (sends_after limits u (f
     by (inl k) g = let z = sent_there u.slave.address to (messages_if limits u.slave.id (f u) u.marks) k in record { place = 0; talk = u; here = refl; there = z.0; sends = z.1 }
     by (inr k) g = let s = g k in record { place = suc s.place; talk = s.talk; here = s.here; there = s.there; sends = s.sends }
 
-map_at : (g : Talk → Talk) (talks : List Talk) (i : ℕ) (v : Talk) → slice_get (map g talks) i ≡ Some v → (u : Talk) × ((slice_get talks i ≡ Some u) × (v ≡ g u))
+map_at : (g : CourseTalk → CourseTalk) (talks : List CourseTalk) (i : ℕ) (v : CourseTalk) → slice_get (map g talks) i ≡ Some v → (u : CourseTalk) × ((slice_get talks i ≡ Some u) × (v ≡ g u))
 map_at g [] i v e = absurd cc
 map_at g (t ∷ talks) zero v e = let z : g t ≡ v = cc in (t, (refl, sym z))
 map_at g (t ∷ talks) (suc i) v e = map_at g talks i v e
@@ -138,57 +138,57 @@ other_mark limits id (Some m) marks n a s k = by (reaction limits m marks) ((k.1
     by Repeat e = cc
     by (GiveUp cause) e = cc
 
-abbrev pub AllStill : List Talk → Type 0
-AllStill talks = (j : ℕ) (v : Talk) → slice_get talks j ≡ Some v → IsStill v.marks
+abbrev pub AllStill : List CourseTalk → Type 0
+AllStill talks = (j : ℕ) (v : CourseTalk) → slice_get talks j ≡ Some v → IsStill v.marks
 
 module _ (setup : Setup) (i : ℕ) (s : Slave) (here : slice_get setup.slaves i ≡ Some s)
     (apart : (j : ℕ) (t : Slave) → slice_get setup.slaves j ≡ Some t → same_address t.address s.address ≡ true → j ≡ i) where
   -- the slave's conversation was asked something at this event, and by another mark than the begin of a phase
-  not_here : (f : Talk → Option Mark) (talks : List Talk) → map (λ u. u.slave) talks ≡ setup.slaves → ((u : Talk) (job : Job) → f u ≡ Some (Begun job) → ⊥) → ((u : Talk) (r : Request) → f u ≡ Some (Asked r) → ⊥)
-      → SentTo s.address (flat_map (λ talk. sends_after setup.limits talk (f talk)) talks) → (v : Talk) → slice_get (map (λ talk. marked setup.limits talk (f talk)) talks) i ≡ Some v → JustAsked v.marks → ⊥
+  not_here : (f : CourseTalk → Option Mark) (talks : List CourseTalk) → map (λ u. u.slave) talks ≡ setup.slaves → ((u : CourseTalk) (job : Job) → f u ≡ Some (Begun job) → ⊥) → ((u : CourseTalk) (r : Request) → f u ≡ Some (Asked r) → ⊥)
+      → SentTo s.address (flat_map (λ talk. sends_after setup.limits talk (f talk)) talks) → (v : CourseTalk) → slice_get (map (λ talk. marked setup.limits talk (f talk)) talks) i ≡ Some v → JustAsked v.marks → ⊥
   not_here f talks slaves n a h v e k =
       let t = sender setup.limits f s.address talks h in
       let same : t.place ≡ i = apart t.place t.talk.slave (slaves_at talks setup.slaves slaves t.place t.talk t.here) (ap (λ (x : Address). same_address x s.address) t.there ∙ same_self s.address) in
       let m = map_at (λ talk. marked setup.limits talk (f talk)) talks i v e in
       let one : Some t.talk ≡ Some m.0 = sym t.here ∙ ap (slice_get talks) same ∙ (m.1).0 in
       let u : t.talk ≡ m.0 = cc in
-      let new : v.marks ≡ extended setup.limits (f t.talk) t.talk.marks = ap (λ (x : Talk). x.marks) (m.1).1 ∙ ap (λ (x : Talk). extended setup.limits (f x) x.marks) (sym u) in
+      let new : v.marks ≡ extended setup.limits (f t.talk) t.talk.marks = ap (λ (x : CourseTalk). x.marks) (m.1).1 ∙ ap (λ (x : CourseTalk). extended setup.limits (f x) x.marks) (sym u) in
       let P : List Mark → Type 0 = JustAsked in
       other_mark setup.limits t.talk.slave.id (f t.talk) t.talk.marks (n t.talk) (a t.talk) t.sends (subst P new k)
 
   -- ---- a phase begins for all
   next_still : (runs : 1 ≤ setup.runs) (c : Course) → AllWith (λ u m. GoesByRule setup.limits (jobs_of setup u) c.phase m) c.talks → AllWith (λ u m. GoesByRule setup.limits (jobs_of setup u) (c.phase + 1) m) (with_next setup c).talks → AllStill (with_next setup c).talks
   next_still runs c g h j v e =
-      let m = map_at (λ talk. marked setup.limits talk (begun setup (c.phase + 1) talk)) c.talks j v e in
+      let m = map_at (λ talk. marked setup.limits talk (task_begun setup (c.phase + 1) talk)) c.talks j v e in
       let old = (with_at (λ u m. GoesByRule setup.limits (jobs_of setup u) c.phase m) c.talks j m.0 g (m.1).0).phase_is in
       let new = (with_at (λ u m. GoesByRule setup.limits (jobs_of setup u) (c.phase + 1) m) (with_next setup c).talks j v h e).phase_is in
-      let marks : v.marks ≡ extended setup.limits (begun setup (c.phase + 1) m.0) m.0.marks = ap (λ (x : Talk). x.marks) (m.1).1 in
+      let marks : v.marks ≡ extended setup.limits (task_begun setup (c.phase + 1) m.0) m.0.marks = ap (λ (x : CourseTalk). x.marks) (m.1).1 in
       by m.0 (slice_get (jobs_of setup m.0.slave) (c.phase + 1 - 1)) marks old new
     where
-      by : (u : Talk) (o : Option Job) → v.marks ≡ extended setup.limits (begun_with o) u.marks → count is_begun u.marks ≡ c.phase → count is_begun v.marks ≡ c.phase + 1 → IsStill v.marks
+      by : (u : CourseTalk) (o : Option Job) → v.marks ≡ extended setup.limits (begun_with o) u.marks → count is_begun u.marks ≡ c.phase → count is_begun v.marks ≡ c.phase + 1 → IsStill v.marks
       by u None e old new = let z : count is_begun v.marks ≡ count is_begun u.marks = ap (count is_begun) e in absurd (omega (arith, z, old, new))
       by u (Some job) e old new = let P : List Mark → Type 0 = IsStill in subst P (sym e) (begun_still setup.limits job u.marks)
 
   abbrev Result : Course → Type 0
-  Result c = SentTo s.address c.sent → (v : Talk) → slice_get c.talks i ≡ Some v → JustAsked v.marks → AllStill c.talks
+  Result c = SentTo s.address c.sent → (v : CourseTalk) → slice_get c.talks i ≡ Some v → JustAsked v.marks → AllStill c.talks
 
-  gram_no_ask : (from : Address) (bytes : List ℕ) (u : Talk) (r : Request) → mark_of_gram u from bytes ≡ Some (Asked r) → ⊥
+  gram_no_ask : (from : Address) (bytes : List ℕ) (u : CourseTalk) (r : Request) → mark_of_gram u from bytes ≡ Some (Asked r) → ⊥
   gram_no_ask from bytes u r e = gram_may u from bytes (Asked r) e
 
-  turn_no_begin : (settled : Bool) (u : Talk) (job : Job) → Some (Turned settled) ≡ Some (Begun job) → ⊥
+  turn_no_begin : (settled : Bool) (u : CourseTalk) (job : Job) → Some (Turned settled) ≡ Some (Begun job) → ⊥
   turn_no_begin settled u job e = cc
 
-  turn_no_ask : (settled : Bool) (u : Talk) (r : Request) → Some (Turned settled) ≡ Some (Asked r) → ⊥
+  turn_no_ask : (settled : Bool) (u : CourseTalk) (r : Request) → Some (Turned settled) ≡ Some (Asked r) → ⊥
   turn_no_ask settled u r e = cc
 
   gram_result : (from : Address) (bytes : List ℕ) (c : Course) → map (λ u. u.slave) c.talks ≡ setup.slaves → Result (after_gram setup from bytes c)
   gram_result from bytes c slaves h v e k = absurd (not_here (λ talk. mark_of_gram talk from bytes) c.talks slaves (λ u job. gram_no_begin u from bytes job) (gram_no_ask from bytes) h v e k)
 
-  turns_result : (settled : Bool) (c : Course) → map (λ u. u.slave) c.talks ≡ setup.slaves → (v : Talk) → SentTo s.address (with_turns setup settled c).sent → slice_get (with_turns setup settled c).talks i ≡ Some v → JustAsked v.marks → ⊥
+  turns_result : (settled : Bool) (c : Course) → map (λ u. u.slave) c.talks ≡ setup.slaves → (v : CourseTalk) → SentTo s.address (with_turns setup settled c).sent → slice_get (with_turns setup settled c).talks i ≡ Some v → JustAsked v.marks → ⊥
   turns_result settled c slaves v h e k = not_here (λ talk. Some (Turned settled)) c.talks slaves (turn_no_begin settled) (turn_no_ask settled) h v e k
 
   module _ (runs : 1 ≤ setup.runs) where
-    abbrev Goes : ℕ → List Talk → Type 0
+    abbrev Goes : ℕ → List CourseTalk → Type 0
     Goes n talks = AllWith (λ u m. GoesByRule setup.limits (jobs_of setup u) n m) talks
 
     decided_result : (settled : Bool) (c : Course) → map (λ u. u.slave) c.talks ≡ setup.slaves → Goes c.phase (with_turns setup settled c).talks → (o : Option Report)
@@ -201,18 +201,18 @@ module _ (setup : Setup) (i : ℕ) (s : Slave) (here : slice_get setup.slaves i 
         by true d = λ h v e k. absurd (turns_result settled c slaves v h e k)
         by false d = λ h v e k. next_still runs (with_turns setup settled c) g d
 
-    turned_result : (settled : Bool) (c : Course) → map (λ u. u.slave) c.talks ≡ setup.slaves → Goes c.phase c.talks → Goes (turned setup (with_turns setup settled c)).phase (turned setup (with_turns setup settled c)).talks → Result (turned setup (with_turns setup settled c))
+    turned_result : (settled : Bool) (c : Course) → map (λ u. u.slave) c.talks ≡ setup.slaves → Goes c.phase c.talks → Goes (course_turned setup (with_turns setup settled c)).phase (course_turned setup (with_turns setup settled c)).talks → Result (course_turned setup (with_turns setup settled c))
     turned_result settled c slaves g d = by (list_all is_quiet (with_turns setup settled c).talks) d
       where
         by : (b : Bool) → Goes (decided_if setup b (with_turns setup settled c)).phase (decided_if setup b (with_turns setup settled c)).talks → Result (decided_if setup b (with_turns setup settled c))
         by true d = decided_result settled c slaves (turn_goes setup runs c.phase settled c.talks g) (failed c.phase (with_turns setup settled c).talks) d
         by false d = λ h v e k. absurd (turns_result settled c slaves v h e k)
 
-    tick_result : (c : Course) → map (λ u. u.slave) c.talks ≡ setup.slaves → Goes c.phase c.talks → Goes (after_turn setup c).phase (after_turn setup c).talks → Result (after_turn setup c)
+    tick_result : (c : Course) → map (λ u. u.slave) c.talks ≡ setup.slaves → Goes c.phase c.talks → Goes (course_after_turn setup c).phase (course_after_turn setup c).talks → Result (course_after_turn setup c)
     tick_result c slaves g d = by (c.phase == 0) d
       where
         next : Bool → Course
-        next b = if b then with_next setup (still c) else turned setup (with_turns setup (list_all is_settled c.talks) c)
+        next b = if b then with_next setup (still c) else course_turned setup (with_turns setup (list_all is_settled c.talks) c)
 
         by : (b : Bool) → Goes (next b).phase (next b).talks → Result (next b)
         by true d = λ h v e k. next_still runs (still c) g d

@@ -23,14 +23,14 @@ use Rattle.master_spec.specs.Marks.{Mark, cause_of, open_request, newest_number}
 use Rattle.master_spec.specs.News.{pdu_of}
 use Rattle.master_spec.specs.Course.{course}
 use Rattle.master_spec.specs.Requests.{Asking, Decision, asks}
-use Rattle.index_laws.specs.Index.{Placed, marks_of, first_at, told, ReadBack, IsAsked, IsAgain, IsHead, IsHeadOf, Owes}
-use Rattle.index_laws.specs.Runs.{with_event, events, course_at, tail, owed, IsFirst, where_it_is, IsRun}
+use Rattle.index_laws.specs.Index.{Placed, marks_of, first_at, askings_told, ReadBack, IsAsked, IsAgain, IsHeadRequest, IsHeadOf, Owes}
+use Rattle.index_laws.specs.Runs.{with_event, events_of_master, course_at, tail, owed, IsFirstSend, where_it_is, IsRun}
 use Rattle.index_laws.specs.Laws.{AreHeard}
 use Rattle.index_laws.specs.Follows.{mine, talk_with}
 use Rattle.index_laws.proofs.Laws.{listens}
 use Rattle.index_laws.proofs.Reported.{reported}
 use Rattle.index_laws.proofs.Runs.{followed}
-use Rattle.master_meets.specs.Laws.{IsParty, ArePartiesOf, IsNext, note_of}
+use Rattle.master_meets.specs.Laws.{IsParty, ArePartiesOf, IsNextRequest, note_of}
 use Rattle.master_meets.proofs.Sends.{role_told}
 use Rattle.master_meets.proofs.Asking.{same_as, mine_first, not_sent, are_asked}
 use Rattle.master_meets.proofs.Known.{long}
@@ -43,7 +43,7 @@ tail_sent : (to : Address) (posts : List Send) → SentTo to (tail posts) → Se
 tail_sent to [] h = absurd h
 tail_sent to (p ∷ posts) h = inr h
 
-first_sent : (a to : Address) (bytes : List ℕ) (posts : List Send) → IsFirst posts to bytes → to ≡ a → SentTo a posts
+first_sent : (a to : Address) (bytes : List ℕ) (posts : List Send) → IsFirstSend posts to bytes → to ≡ a → SentTo a posts
 first_sent a to bytes [] f e = absurd f
 first_sent a to bytes (p ∷ posts) f e = inl (f.0 ∙ e)
 
@@ -56,13 +56,13 @@ owed_sent setup to (Sent from at' bytes ∷ log) h = by (same_address from setup
     by false k f = f k
 owed_sent setup to (Got at' from bytes ∷ log) h = by (same_address at' setup.address) h (λ k. owed_sent setup to log k)
   where
-    by : (b : Bool) → SentTo to (if b then (course setup (with_event b (Gram from bytes) (events setup log))).sent else owed setup log) → (SentTo to (owed setup log) → SentTo to (course_at setup log).sent) → SentTo to (course setup (with_event b (Gram from bytes) (events setup log))).sent
+    by : (b : Bool) → SentTo to (if b then (course setup (with_event b (Gram from bytes) (events_of_master setup log))).sent else owed setup log) → (SentTo to (owed setup log) → SentTo to (course_at setup log).sent) → SentTo to (course setup (with_event b (Gram from bytes) (events_of_master setup log))).sent
     by true k f = k
     by false k f = f k
 owed_sent setup to (Idle at' ∷ log) h = owed_sent setup to log h
 owed_sent setup to (Turn at' ∷ log) h = by (same_address at' setup.address) h (λ k. owed_sent setup to log k)
   where
-    by : (b : Bool) → SentTo to (if b then (course setup (with_event b Tick (events setup log))).sent else owed setup log) → (SentTo to (owed setup log) → SentTo to (course_at setup log).sent) → SentTo to (course setup (with_event b Tick (events setup log))).sent
+    by : (b : Bool) → SentTo to (if b then (course setup (with_event b Tick (events_of_master setup log))).sent else owed setup log) → (SentTo to (owed setup log) → SentTo to (course_at setup log).sent) → SentTo to (course setup (with_event b Tick (events_of_master setup log))).sent
     by true k f = k
     by false k f = f k
 
@@ -71,20 +71,20 @@ abbrev IsOpen : List Asking → Type 0
 IsOpen [] = ⊥
 IsOpen (b ∷ bs) = b.decision ≡ None
 
-head_open : (r : Request) (q : ℕ) (bs : List Asking) → IsHead (Some r) q bs → IsOpen bs
+head_open : (r : Request) (q : ℕ) (bs : List Asking) → IsHeadRequest (Some r) q bs → IsOpen bs
 head_open r q [] h = h
 head_open r q (b ∷ bs) h = (h.1).0
 
-no_more : (id : ℕ) (bs : List Asking) (ds : List logs.Decision) → AreDecisions id bs ds → length ds ≤ length bs
+no_more : (id : ℕ) (bs : List Asking) (ds : List logs.DecidedRequest) → AreDecisions id bs ds → length ds ≤ length bs
 no_more id [] ds h = let z : length ds ≡ 0 = ap length h in omega (arith, z)
 no_more id (b ∷ bs) ds h = by (λ es k. no_more id bs es k) b.decision ds h
   where
-    by : ((es : List logs.Decision) → AreDecisions id bs es → length es ≤ length bs) → (o : Option Decision) (ds : List logs.Decision) → IsDecision id b o (AreDecisions id bs) ds → length ds ≤ suc (length bs)
+    by : ((es : List logs.DecidedRequest) → AreDecisions id bs es → length es ≤ length bs) → (o : Option Decision) (ds : List logs.DecidedRequest) → IsDecision id b o (AreDecisions id bs) ds → length ds ≤ suc (length bs)
     by f None ds k = let z = f ds k in omega (arith, z)
     by f (Some d) [] k = absurd k
     by f (Some d) (e ∷ ds) k = let z = f ds (k.1).1 in omega (arith, z)
 
-open_fewer : (id : ℕ) (bs : List Asking) (ds : List logs.Decision) → IsOpen bs → AreDecisions id bs ds → length ds < length bs
+open_fewer : (id : ℕ) (bs : List Asking) (ds : List logs.DecidedRequest) → IsOpen bs → AreDecisions id bs ds → length ds < length bs
 open_fewer id [] ds o h = absurd o
 open_fewer id (b ∷ bs) ds o h =
     let P : Option Decision → Type 0 = λ x. IsDecision id b x (AreDecisions id bs) ds in
@@ -97,7 +97,7 @@ module _ (setup : Setup) (h : AreHeard setup) (w : Parties) (ps : ArePartiesOf s
   pub record AsksFirst (log : List LogEntry) (request : Request) : Type 0 where
     pub xs : List Placed
     pub report : (course_at setup log).report ≡ None
-    pub told_is : asks setup.address slave log ≡ told xs
+    pub told_is : asks setup.address slave log ≡ askings_told xs
     pub here : slice_get (course_at setup log).talks (p.is_in).0 ≡ Some (talk_with slave (marks.Asked request ∷ marks_of xs))
     pub cause : cause_of (marks_of xs) ≡ None
     pub sent : SentTo slave.address (course_at setup log).sent
@@ -111,7 +111,7 @@ module _ (setup : Setup) (h : AreHeard setup) (w : Parties) (ps : ArePartiesOf s
   same_there : (a b : Address) → same_address a b ≡ true → a ≡ b
   same_there a b e = same_is a b (same_as a b ∙ e)
 
-  sends_so : (log : List LogEntry) → IsRun setup log → (to : Address) (bytes : List ℕ) → IsFirst (owed setup log) to bytes → same_address to slave.address ≡ true → Sends log bytes
+  sends_so : (log : List LogEntry) → IsRun setup log → (to : Address) (bytes : List ℕ) → IsFirstSend (owed setup log) to bytes → same_address to slave.address ≡ true → Sends log bytes
   sends_so log run to bytes first here = by (course_at setup log).report refl
     where
       first' : (more : List (List ℕ)) × (mine slave.address (owed setup log) ≡ bytes ∷ more)
@@ -126,7 +126,7 @@ module _ (setup : Setup) (h : AreHeard setup) (w : Parties) (ps : ArePartiesOf s
       sent : SentTo slave.address (course_at setup log).sent
       sent = owed_sent setup slave.address log (first_sent slave.address to bytes (owed setup log) first (same_there to slave.address here))
 
-      owes : (r : (course_at setup log).report ≡ None) (ms : List Mark) (xs : List Placed) (more : List (List ℕ)) → slice_get (course_at setup log).talks i ≡ Some (talk_with slave ms) → asks setup.address slave log ≡ told xs → IsHeadOf (marks_of xs) (told xs) → Owes (ReadBack slave.id) slave.id (bytes ∷ more) ms (marks_of xs) → Sends log bytes
+      owes : (r : (course_at setup log).report ≡ None) (ms : List Mark) (xs : List Placed) (more : List (List ℕ)) → slice_get (course_at setup log).talks i ≡ Some (talk_with slave ms) → asks setup.address slave log ≡ askings_told xs → IsHeadOf (marks_of xs) (askings_told xs) → Owes (ReadBack slave.id) slave.id (bytes ∷ more) ms (marks_of xs) → Sends log bytes
       owes r ms xs (c ∷ more) e t k o = absurd o
       owes r ms xs [] e t k o = two o.0 (o.1).0 ((o.1).1).0 ((o.1).1).1
         where
@@ -139,12 +139,12 @@ module _ (setup : Setup) (h : AreHeard setup) (w : Parties) (ps : ArePartiesOf s
           }
           two q g c (inr a) =
               let P : List Asking → Type 0 = IsOpen in
-              let Q : Option Request → Type 0 = λ z. IsHead z (newest_number (marks_of xs)) (told xs) in
+              let Q : Option Request → Type 0 = λ z. IsHeadRequest z (newest_number (marks_of xs)) (askings_told xs) in
               record {
                 request = q;
                 number = newest_number (marks_of xs);
                 read = ap message_in (a.1).1 ∙ g (newest_number (marks_of xs)) (omega arith);
-                first = inr (subst P (sym t) (head_open q (newest_number (marks_of xs)) (told xs) (subst Q (a.1).0 k)));
+                first = inr (subst P (sym t) (head_open q (newest_number (marks_of xs)) (askings_told xs) (subst Q (a.1).0 k)));
               }
 
       by : (o : Option Report) → (course_at setup log).report ≡ o → Sends log bytes
@@ -183,8 +183,8 @@ module _ (setup : Setup) (h : AreHeard setup) (w : Parties) (ps : ArePartiesOf s
   finds (Turn at') log run n e = absurd (no_note n e)
   finds (Sent from to bytes) log run n e = by (same_address from setup.address && same_address to slave.address) refl
     where
-      first : same_address from setup.address ≡ true → IsFirst (owed setup log) to bytes
-      first x = let Q : Bool → Type 0 = λ b. where_it_is b (IsFirst (owed setup log) to bytes) in subst Q x run.0
+      first : same_address from setup.address ≡ true → IsFirstSend (owed setup log) to bytes
+      first x = let Q : Bool → Type 0 = λ b. where_it_is b (IsFirstSend (owed setup log) to bytes) in subst Q x run.0
 
       by : (b : Bool) → (same_address from setup.address && same_address to slave.address) ≡ b → Finds log n
       by false x = absurd (no_note n (sym (not_sent w s from to (role_heard w bytes) (both from to ∙ x)) ∙ e))
@@ -198,7 +198,7 @@ module _ (setup : Setup) (h : AreHeard setup) (w : Parties) (ps : ArePartiesOf s
           let is_it : m ≡ n = cc in
           record { request = f.request; number = f.number; note = sym is_it; first = f.first }
 
-  pub asks_first : (e : LogEntry) (log : List LogEntry) → IsRun setup (e ∷ log) → (n : Note) → move w s e ≡ Asks n → IsNext w s slave.script.uuid n log → IsFirstOf log n
+  pub asks_first : (e : LogEntry) (log : List LogEntry) → IsRun setup (e ∷ log) → (n : Note) → move w s e ≡ Asks n → IsNextRequest w s slave.script.uuid n log → IsFirstOf log n
   asks_first e log run n mv next =
       let f = finds e log run n (requests_by_move w s e ∙ ap asked mv) in
       record { request = f.request; number = f.number; note = f.note; first = by f.request f.first }

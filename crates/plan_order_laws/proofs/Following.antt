@@ -14,7 +14,7 @@ use Rattle.log_spec.specs.Channel.{Repeats}
 use Rattle.log_spec.specs.Log.{Parties, IsSlaveOf, requests_sent}
 use Rattle.log_spec.specs.Log as logs
 use Rattle.log_spec.specs.Moves.{Move, Asks, move, decided_exchanges}
-use Rattle.lockstep_laws.specs.Steps.{RowEvent, Show, Step, Restart, row_event_at, event_asked, run_after, Progress, events_counted, view}
+use Rattle.lockstep_laws.specs.Steps.{RowEvent, Show, Step, Restart, row_event_at, event_asked, run_after, BenchProgress, events_counted, view}
 use Rattle.plan_laws.specs.Runs.{lists_until}
 use Rattle.course_spec.specs.Taken.{asked_in, settings_taken, resets_taken, told_since, same_settings}
 use Rattle.course_spec.specs.Courses.{tuned, opened, same_event, may_begin, may_set, may}
@@ -33,7 +33,7 @@ use Rattle.master_spec.specs.Requests.{Asking, asks}
 use Rattle.asking_laws.specs.Legal.{Does, GoesByRule}
 use Rattle.asking_laws.proofs.Legal.{going}
 use Rattle.index_laws.specs.Index.{Placed, marks_of, code_of, first_at, ReadBack, IsAsked, IsAgain, Owes}
-use Rattle.index_laws.specs.Runs.{events, course_at, owed, IsRun}
+use Rattle.index_laws.specs.Runs.{events_of_master, course_at, owed, IsRun}
 use Rattle.index_laws.specs.Laws.{AreHeard}
 use Rattle.index_laws.specs.Follows.{mine, talk_with}
 use Rattle.index_laws.proofs.Laws.{listens}
@@ -41,7 +41,7 @@ use Rattle.index_laws.proofs.Runs.{followed, owes_count, with_at}
 use Rattle.phase_laws.proofs.Now.{now}
 use Rattle.phase_laws.proofs.Numbered.{legal_below}
 use Rattle.phase_laws.proofs.Tags.{no_reaction, counted}
-use Rattle.master_meets.specs.Laws.{IsParty, ArePartiesOf, IsNext, MayAsk}
+use Rattle.master_meets.specs.Laws.{IsParty, ArePartiesOf, IsNextRequest, MayAsk}
 use Rattle.master_meets.proofs.Asking.{in_turn}
 use Rattle.master_hears.proofs.Decided.{decisions}
 use Rattle.row_laws.specs.Laws.{event_for}
@@ -138,17 +138,17 @@ asks_job limits (m ∷ ms) r d = by (job_of (m ∷ ms)) refl
 
 -- ---- what was taken as the tests see it
 module _ (sc : Scenario) (s : ℕ) (d : SlaveDesc) where
-  taken_tuned : (ds : List logs.Decision) (run r : ℕ) → run ≡ r + 1 → r < sc.runs → settings_taken ds ≡ reverse (set_until (script_of sc s d) r) → tuned sc s d run ds ≡ true
+  taken_tuned : (ds : List logs.DecidedRequest) (run r : ℕ) → run ≡ r + 1 → r < sc.runs → settings_taken ds ≡ reverse (set_until (script_of sc s d) r) → tuned sc s d run ds ≡ true
   taken_tuned ds run r e less h =
       let same : r ≡ run - 1 = omega (arith, e) in
       let here : settings_taken ds ≡ reverse (lists_until sc s d (run - 1)) = h ∙ ap reverse (lists_are sc s d r less) ∙ ap (λ (n : ℕ). reverse (lists_until sc s d n)) same in
       ap (λ (l : List Cfg). same_settings l (reverse (lists_until sc s d (run - 1)))) here ∙ all_same (reverse (lists_until sc s d (run - 1)))
 
-  taken_opened : (bs : List Asking) (ds : List logs.Decision) (run r : ℕ) → AreTaken s bs ds → HasTaken (script_of sc s d) s bs r → run ≡ r + 1 → r < sc.runs → opened sc s d run ds ≡ true
+  taken_opened : (bs : List Asking) (ds : List logs.DecidedRequest) (run r : ℕ) → AreTaken s bs ds → HasTaken (script_of sc s d) s bs r → run ≡ r + 1 → r < sc.runs → opened sc s d run ds ≡ true
   taken_opened bs ds run r a k e less = both (tuned sc s d run ds) (told_since ds) (taken_tuned ds run r e less (a.settings ∙ k.settings)) (a.ready ∙ k.ready)
 
   -- what is asked besides row events
-  may_be_set : (bs : List Asking) (ds : List logs.Decision) (r : Request) → AreTaken s bs ds → ((state : State) → r ≡ Change state stc.Prepare → IsPrepared sc.runs (script_of sc s d) s bs) → ((body : Cfg) → r ≡ Configure body → ready_by s bs ≡ false)
+  may_be_set : (bs : List Asking) (ds : List logs.DecidedRequest) (r : Request) → AreTaken s bs ds → ((state : State) → r ≡ Change state stc.Prepare → IsPrepared sc.runs (script_of sc s d) s bs) → ((body : Cfg) → r ≡ Configure body → ready_by s bs ≡ false)
       → may_set sc s d ds (Some (asked_for r)) ≡ true
   may_be_set bs ds (Change state stc.Prepare) a f g =
       let k = f state refl in
@@ -185,7 +185,7 @@ module _ (sc : Scenario) (h : AreHeard (setup_from sc)) (w : Parties) (ps : AreP
 
   module _ (log : List LogEntry) (run : IsRun setup log) (s : ℕ) (is : IsSlaveOf w s) (d : SlaveDesc) (p : Is s d) (r : Request) (a : AsksFirst setup h w ps s is (slave_of sc s d) p log r) where
     goes : GoesByRule setup.limits (js s d) (course_at setup log).phase (marks.Asked r ∷ marks_of a.xs)
-    goes = with_at (λ u m. GoesByRule setup.limits (jobs_of setup u) (course_at setup log).phase m) (course_at setup log).talks (p.is_in).0 (talk_with (slave_of sc s d) (marks.Asked r ∷ marks_of a.xs)) (going setup h.runs (events setup log)).goes a.here
+    goes = with_at (λ u m. GoesByRule setup.limits (jobs_of setup u) (course_at setup log).phase m) (course_at setup log).talks (p.is_in).0 (talk_with (slave_of sc s d) (marks.Asked r ∷ marks_of a.xs)) (going setup h.runs (events_of_master setup log)).goes a.here
 
     record Phase : Type 0 where
       pub place : ℕ
@@ -225,7 +225,7 @@ module _ (sc : Scenario) (h : AreHeard (setup_from sc)) (w : Parties) (ps : AreP
           ∙ ap events_by a.told_is
           ∙ row_events sc.steps sc.runs h.runs (script_of sc s d) phase.place a.xs s k r phase.now v
         where
-          by : (x : Progress) → x.waiting ≡ false → x.done ≡ events_counted x
+          by : (x : BenchProgress) → x.waiting ≡ false → x.done ≡ events_counted x
           by x e = let P : Bool → Type 0 = λ b. x.done ≡ (if b then x.done + 1 else x.done) in subst P (sym e) refl
 
       run_is : run_after sc.steps (view (decided_exchanges w s log)).done ≡ stands.resets + 1
@@ -239,7 +239,7 @@ module _ (sc : Scenario) (h : AreHeard (setup_from sc)) (w : Parties) (ps : AreP
         other_opened : opened sc t c (run_after sc.steps (view (decided_exchanges w s log)).done) (decided_exchanges w t log) ≡ true
         other_opened =
             let f = followed setup (ReadBack t) (q.is_in).0 (slave_of sc t c) (listens setup h (q.is_in).0 (slave_of sc t c) (q.is_in).1) h.runs log run a.report in
-            let g = with_at (λ u m. GoesByRule setup.limits (jobs_of setup u) (course_at setup log).phase m) (course_at setup log).talks (q.is_in).0 (talk_with (slave_of sc t c) f.marks) (going setup h.runs (events setup log)).goes f.here in
+            let g = with_at (λ u m. GoesByRule setup.limits (jobs_of setup u) (course_at setup log).phase m) (course_at setup log).talks (q.is_in).0 (talk_with (slave_of sc t c) f.marks) (going setup h.runs (events_of_master setup log)).goes f.here in
             let owes = f.tracks.owes in
             let posts = mine (slave_of sc t c).address (owed setup log) in
             let legal = legal_below setup.limits (js t c) (ReadBack t) t posts f.marks (marks_of f.xs) owes g.legal in
@@ -267,7 +267,7 @@ module _ (sc : Scenario) (h : AreHeard (setup_from sc)) (w : Parties) (ps : AreP
                 by false y = inl (sym z ∙ y)
                 by true y =
                     let b = reset_begun setup.limits (js s d) phase.place a.xs s r k goes.legal a.cause phase.now v y in
-                    let all = all_still setup (p.is_in).0 (slave_of sc s d) (p.is_in).1 (λ j u f g. h.apart j (p.is_in).0 u (slave_of sc s d) f (p.is_in).1 g) h.runs (events setup log) a.sent (talk_with (slave_of sc s d) (marks.Asked r ∷ marks_of a.xs)) a.here
+                    let all = all_still setup (p.is_in).0 (slave_of sc s d) (p.is_in).1 (λ j u f g. h.apart j (p.is_in).0 u (slave_of sc s d) f (p.is_in).1 g) h.runs (events_of_master setup log) a.sent (talk_with (slave_of sc s d) (marks.Asked r ∷ marks_of a.xs)) a.here
                     (r, (b.0, ((b.1).0, ap (λ (m : List Mark). marks.Asked r ∷ m) (b.1).1))) in
                     inr (still_acked xs (still_owes (ReadBack t) t (mine (slave_of sc t c).address (owed setup log)) ms (marks_of xs) o (all (q.is_in).0 (talk_with (slave_of sc t c) ms) e)))
 
@@ -278,7 +278,7 @@ module _ (sc : Scenario) (h : AreHeard (setup_from sc)) (w : Parties) (ps : AreP
         let P : Move → Type 0 = λ x. MayAsk w s (slave_of sc s d).script.uuid x log in
         by (subst P mv (in_turn setup h w ps e log run s is (slave_of sc s d) p))
       where
-        by : Repeats (requests_sent w s log) n ⊎ IsNext w s (slave_of sc s d).script.uuid n log → Repeats (requests_sent w s log) n ⊎ IsFirstOf setup h w ps s is (slave_of sc s d) p log n
+        by : Repeats (requests_sent w s log) n ⊎ IsNextRequest w s (slave_of sc s d).script.uuid n log → Repeats (requests_sent w s log) n ⊎ IsFirstOf setup h w ps s is (slave_of sc s d) p log n
         by (inl again) = inl again
         by (inr next) = inr (asks_first setup h w ps s is (slave_of sc s d) p e log run n mv next)
 
@@ -288,7 +288,7 @@ module _ (sc : Scenario) (h : AreHeard (setup_from sc)) (w : Parties) (ps : AreP
     follows : (f : IsFirstOf setup h w ps s is (slave_of sc s d) p log n) → may_ask sc s d (decided_exchanges w s log) n ≡ true
     follows f = both (is_request_code n.message.code) (may sc s d ds n) (ap (λ (m : Note). is_request_code m.message.code) f.note ∙ request_code f.request) (both (may_begin sc s d ds (view ds) (event_asked n)) (may_set sc s d ds (asked_in n)) (begins (event_asked n) refl) sets)
       where
-        ds : List logs.Decision
+        ds : List logs.DecidedRequest
         ds = decided_exchanges w s log
 
         sets : may_set sc s d ds (asked_in n) ≡ true

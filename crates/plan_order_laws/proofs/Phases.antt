@@ -14,7 +14,7 @@ use Rattle.master_spec.specs.Jobs.{Job, asked_by}
 use Rattle.master_spec.specs.Marks.{Mark, Begun, Asked, Again, Answered, Hinted, Brought, Turned, Ended, count, is_begun, open_in, open_request, job_of, verdict_of, is_passed}
 use Rattle.master_spec.specs.Requests.{Asking, acked}
 use Rattle.asking_laws.specs.Legal.{Rests, IsLegal, AreLegal}
-use Rattle.index_laws.specs.Index.{Placed, marks_of, told}
+use Rattle.index_laws.specs.Index.{Placed, marks_of, askings_told}
 use Rattle.phase_laws.proofs.Now.{now, past, past_by, split}
 use Rattle.phase_laws.proofs.Mains.{AreMains, AreQuestions, length_map}
 use Rattle.phase_laws.proofs.Counts.{names_it, reached_now}
@@ -160,14 +160,14 @@ passes id tasks.Adjust list ys bs k s g = sets id _ ys bs k s g refl refl refl r
 passes id tasks.Deregister list ys bs k s g = plain id _ ys bs k s g refl refl refl refl
 
 -- ---- phase by phase
-pub agrees_past : (limits : Limits) (js : List Job) (id : ℕ) (xs : List Placed) → AreLegal limits js (marks_of xs) → (p : ℕ) → count is_begun (marks_of xs) ≡ p + 1 → Agrees id (told (past xs)) (standing js p at_first)
+pub agrees_past : (limits : Limits) (js : List Job) (id : ℕ) (xs : List Placed) → AreLegal limits js (marks_of xs) → (p : ℕ) → count is_begun (marks_of xs) ≡ p + 1 → Agrees id (askings_told (past xs)) (standing js p at_first)
 agrees_past limits js id [] l p c = absurd (omega (arith, c))
 agrees_past limits js id (x ∷ xs) l p c = by x.mark l.0 c (λ p c. agrees_past limits js id xs l.1 p c)
   where
     first : Agrees id [] at_first
     first = record { settings = refl; resets = refl; events = refl; ready = refl }
 
-    from_none : (p : ℕ) → count is_begun (marks_of xs) ≡ p → job_of (marks_of xs) ≡ None → Agrees id (told xs) (standing js p at_first)
+    from_none : (p : ℕ) → count is_begun (marks_of xs) ≡ p → job_of (marks_of xs) ≡ None → Agrees id (askings_told xs) (standing js p at_first)
     from_none p c e =
         let z = none_asked limits js xs l.1 e in
         let y : p ≡ 0 = sym c ∙ z.1 in
@@ -175,21 +175,21 @@ agrees_past limits js id (x ∷ xs) l p c = by x.mark l.0 c (λ p c. agrees_past
         let Q : ℕ → Type 0 = λ n. Agrees id [] (standing js n at_first) in
         subst P (sym z.0) (subst Q (sym y) first)
 
-    from_passed : (p : ℕ) → count is_begun (marks_of xs) ≡ p → Rests limits (marks_of xs) → open_request (marks_of xs) ≡ None → HasPassed (marks_of xs) → ((q : ℕ) → count is_begun (marks_of xs) ≡ q + 1 → Agrees id (told (past xs)) (standing js q at_first)) → Agrees id (told xs) (standing js p at_first)
+    from_passed : (p : ℕ) → count is_begun (marks_of xs) ≡ p → Rests limits (marks_of xs) → open_request (marks_of xs) ≡ None → HasPassed (marks_of xs) → ((q : ℕ) → count is_begun (marks_of xs) ≡ q + 1 → Agrees id (askings_told (past xs)) (standing js q at_first)) → Agrees id (askings_told xs) (standing js p at_first)
     from_passed p c r o h f =
         let q = counted (marks_of xs) h.job h.job_is in
         let e : p ≡ suc q.0 = let a = q.1 in omega (arith, a, c) in
-        let g = passes id h.job.task h.job.list (now xs) (told (past xs)) (passed_at limits js xs l.1 r o h) (standing js q.0 at_first) (f q.0 q.1) in
+        let g = passes id h.job.task h.job.list (now xs) (askings_told (past xs)) (passed_at limits js xs l.1 r o h) (standing js q.0 at_first) (f q.0 q.1) in
         let next = standing_next js q.0 at_first h.job (job_phase limits js (marks_of xs) l.1 h.job h.job_is q.0 q.1) in
         let P : List Asking → Type 0 = λ bs. Agrees id bs (standing js p at_first) in
-        let Q : ℕ → Type 0 = λ n. Agrees id (now xs ++ told (past xs)) (standing js n at_first) in
-        let R : Standing → Type 0 = λ s. Agrees id (now xs ++ told (past xs)) s in
+        let Q : ℕ → Type 0 = λ n. Agrees id (now xs ++ askings_told (past xs)) (standing js n at_first) in
+        let R : Standing → Type 0 = λ s. Agrees id (now xs ++ askings_told (past xs)) s in
         subst P (sym (split limits js xs l.1)) (subst Q (sym e) (subst R (sym next) g))
 
-    by : (m : Mark) → IsLegal limits js m (marks_of xs) → count is_begun (m ∷ marks_of xs) ≡ p + 1 → ((q : ℕ) → count is_begun (marks_of xs) ≡ q + 1 → Agrees id (told (past xs)) (standing js q at_first)) → Agrees id (told (past_by m xs (past xs))) (standing js p at_first)
+    by : (m : Mark) → IsLegal limits js m (marks_of xs) → count is_begun (m ∷ marks_of xs) ≡ p + 1 → ((q : ℕ) → count is_begun (marks_of xs) ≡ q + 1 → Agrees id (askings_told (past xs)) (standing js q at_first)) → Agrees id (askings_told (past_by m xs (past xs))) (standing js p at_first)
     by (Begun j) k c f = begun (omega (arith, c)) (k.1).passed
       where
-        begun : count is_begun (marks_of xs) ≡ p → (job_of (marks_of xs) ≡ None) ⊎ (verdict_of (marks_of xs) ≡ verdicts.Passed) → Agrees id (told xs) (standing js p at_first)
+        begun : count is_begun (marks_of xs) ≡ p → (job_of (marks_of xs) ≡ None) ⊎ (verdict_of (marks_of xs) ≡ verdicts.Passed) → Agrees id (askings_told xs) (standing js p at_first)
         begun c (inl e) = from_none p c e
         begun c (inr v) = from_passed p c k.0 (k.1).free (verdict_passed (marks_of xs) v) f
     by (Asked r) k c f = f p c

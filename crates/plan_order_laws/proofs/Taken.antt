@@ -12,7 +12,7 @@ use Rattle.course_spec.specs.Taken.{asked_in, is_acknowledged, setting_taken, se
 use Rattle.lockstep_laws.specs.Steps.{events_counted}
 use Rattle.master_spec.specs.declared.requests.Answer.{Answer}
 use Rattle.master_spec.specs.declared.requests.Answer.TheVariants.{Ack, Nack, StateAck, ErrorAck, LogAck}
-use Rattle.master_spec.specs.News.{Answers, Nothing, acks, nacks, state_acks, error_acks, log_acks, hints, brings, news_by}
+use Rattle.master_spec.specs.News.{Answers, Nothing, acks, nacks, state_acks, error_acks, log_acks, hints, news_brought, news_by}
 use Rattle.master_spec.specs.Requests.{Asking, Decision, is_ack, is_acked}
 use Rattle.master_hears.specs.Laws.{IsDecision, AreDecisions}
 use Rattle.row_laws.specs.Laws.{asks_event, progress}
@@ -96,7 +96,7 @@ module _ (number sender : ℕ) (a : Answer) where
   no_hint (Number x ∷ Number y ∷ []) h = cc
   no_hint _ h = cc
 
-  no_bring : (vs : List FieldValue) → brings vs ≡ Answers number sender a → ⊥
+  no_bring : (vs : List FieldValue) → news_brought vs ≡ Answers number sender a → ⊥
   no_bring (Number x ∷ Number y ∷ Bytes e ∷ []) h = cc
   no_bring _ h = cc
 
@@ -107,7 +107,7 @@ module _ (number sender : ℕ) (a : Answer) where
       at k e r = let P : ℕ → Type 0 = λ i. Alike i vs a in subst P (sym (eqb-true code k e)) r
 
       by : (b c d e f g k : Bool) → (code == 176) ≡ b → (code == 177) ≡ c → (code == 178) ≡ d → (code == 179) ≡ e → (code == 180) ≡ f
-          → (if b then acks vs else if c then nacks vs else if d then state_acks vs else if e then error_acks vs else if f then log_acks vs else if g then hints vs else if k then brings vs else Nothing) ≡ Answers number sender a
+          → (if b then acks vs else if c then nacks vs else if d then state_acks vs else if e then error_acks vs else if f then log_acks vs else if g then hints vs else if k then news_brought vs else Nothing) ≡ Answers number sender a
           → Alike code vs a
       by true c d e f g k p q r t u h = at 176 p (ack_alike vs h)
       by false true d e f g k p q r t u h = at 177 q (nack_alike vs h)
@@ -119,19 +119,19 @@ module _ (number sender : ℕ) (a : Answer) where
       by false false false false false false false p q r t u h = absurd cc
 
 -- ---- all of them
-pub record AreTaken (id : ℕ) (bs : List Asking) (ds : List logs.Decision) : Type 0 where
+pub record AreTaken (id : ℕ) (bs : List Asking) (ds : List logs.DecidedRequest) : Type 0 where
   pub settings : settings_taken ds ≡ settings_by id bs
   pub resets : resets_taken ds ≡ resets_by id bs
   pub ready : told_since ds ≡ ready_by id bs
 
-pub taken : (id : ℕ) (bs : List Asking) (ds : List logs.Decision) → AreDecisions id bs ds → AreTaken id bs ds
+pub taken : (id : ℕ) (bs : List Asking) (ds : List logs.DecidedRequest) → AreDecisions id bs ds → AreTaken id bs ds
 taken id [] ds h = record { settings = ap settings_taken h; resets = ap resets_taken h; ready = ap told_since h }
 taken id (b ∷ bs) ds h = let m = after (λ es k. taken id bs es k) b.decision ds h in record { settings = m.0; resets = (m.1).0; ready = (m.1).1 }
   where
-    After : Option Decision → List logs.Decision → Type 0
+    After : Option Decision → List logs.DecidedRequest → Type 0
     After o ds = (settings_taken ds ≡ settings_with (asked_of id b) o (settings_by id bs)) × ((resets_taken ds ≡ resets_with (asked_of id b) o (resets_by id bs)) × (told_since ds ≡ ready_with (asked_of id b) o (ready_by id bs)))
 
-    after : ((es : List logs.Decision) → AreDecisions id bs es → AreTaken id bs es) → (o : Option Decision) (ds : List logs.Decision) → IsDecision id b o (AreDecisions id bs) ds → After o ds
+    after : ((es : List logs.DecidedRequest) → AreDecisions id bs es → AreTaken id bs es) → (o : Option Decision) (ds : List logs.DecidedRequest) → IsDecision id b o (AreDecisions id bs) ds → After o ds
     after f None ds k = let m = f ds k in (m.settings, (m.resets, m.ready))
     after f (Some d) [] k = absurd k
     after f (Some d) (e ∷ ds) k =

@@ -9,7 +9,7 @@ pub record Mail : Type 0 where
   pub from : Address
   pub bytes : List ℕ
 
-pub record Task (E : Type 0) : Type 0 where
+pub record PolledTask (E : Type 0) : Type 0 where
   pub end : E
   pub mail : Option Mail
   pub source : ℕ

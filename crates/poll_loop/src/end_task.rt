@@ -4,7 +4,7 @@ ghost use Rattle.std.specs.Prelude.{◌≡◌, ◌≤◌, List, [], ◌∷◌, �
 ghost use Rattle.dcp_ends.specs.Events.{Event, Gram, Tick};
 ghost use Rattle.futures.specs.Task.{Covers, Keeps};
 ghost use Rattle.futures.specs.Poll.{OnPending};
-ghost use Rattle.poll_loop.specs.Tasks.{Task, Mail, is_ready};
+ghost use Rattle.poll_loop.specs.Tasks.{PolledTask, is_ready};
 
 use dcp_ends::End;
 use dcp_types::Address;
@@ -33,9 +33,9 @@ pub struct EndTask<E: End> {
 impl<E: End> Model for EndTask<E> {
     ghost use Rattle.std.specs.Prelude.{if◌then◌else◌, Some, None, ◌≤◌};
     ghost use Rattle.std.specs.Vec.{vec_capacity};
-    ghost use Rattle.poll_loop.specs.Tasks.{Task, Mail};
+    ghost use Rattle.poll_loop.specs.Tasks.{PolledTask};
 
-    ghost Value = { Task E };
+    ghost Value = { PolledTask E };
 
     ghost view = { λ t. record {
       end = t.end;

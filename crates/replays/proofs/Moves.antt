@@ -15,9 +15,9 @@ use Rattle.rounds.specs.Rounds.{has_report, hosted, places_of}
 use Rattle.rounds.specs.Told.{Apart}
 use Rattle.rounds.proofs.Logs.{events_at-append}
 use Rattle.rounds.proofs.Parts.{take_found}
-use Rattle.replays.specs.Differences.{FirstDiffers, IsEnded, StopsAt}
+use Rattle.replays.specs.Differences.{FirstDiffers, IsEnded, StopsReplayAt}
 use Rattle.replays.specs.Expected.{AreRight, is_hosted_at}
-use Rattle.replays.specs.Visits.{AreAt, IsFound, Passes, PassesUnless, WentOn, event_in, is_found_at, place_in, sends_at}
+use Rattle.replays.specs.Visits.{AreAt, IsFoundPlace, Passes, PassesUnless, WentOn, event_in, is_found_at, place_in, visit_sends}
 use Rattle.replays.specs.declared.stops.Stop.{Stop}
 use Rattle.replays.proofs.Sequels.{expected-none, no_sent, not_hosted}
 use Rattle.replays.proofs.Steps.{master_first, master_goes, master_stops, step_entry, step_goes, step_stops}
@@ -69,7 +69,7 @@ module _ {M S : Type 0} (first : Ghosts M) (end : Ghosts S) (slaves : List S) (e
     here = is ∙ ap Some (sym (same_is_one (first.rules m).place place same))
 
     module _ (right : AreRight (Some (first.rules m)) (map end.rules slaves) (take at entries)) (going : has_report (Some (first.rules m)) (take at entries) ≡ false) where
-      pub first_stops : (stop : Stop) → ((events : List Event) → first.stands m events → PassesUnless (first.rules m) events entry entries (at + 1) (Err stop)) → StopsAt (Some (first.rules m)) (map end.rules slaves) entries stop
+      pub first_stops : (stop : Stop) → ((events : List Event) → first.stands m events → PassesUnless (first.rules m) events entry entries (at + 1) (Err stop)) → StopsReplayAt (Some (first.rules m)) (map end.rules slaves) entries stop
       first_stops stop passes =
           master_stops (first.rules m) (map end.rules slaves) (take at entries) entry here apart (all_follow first end (Some m) slaves _ ends) going right entries at refl found stop (passes _ ends.told_master.stands_for)
 
@@ -86,7 +86,7 @@ module _ {M S : Type 0} (first : Ghosts M) (end : Ghosts S) (slaves : List S) (e
   -- ---- an entry of a slave
 
   module _ (master : Option M) (ends : AreAt first end master slaves (take at entries)) (apart : Apart (hosted (option_map first.rules master) (map end.rules slaves)))
-      (place : Address) (is : place_in entry ≡ Some place) (i : ℕ) (w : S) (place_found : IsFound (places_of (map end.rules slaves)) place i) where
+      (place : Address) (is : place_in entry ≡ Some place) (i : ℕ) (w : S) (place_found : IsFoundPlace (places_of (map end.rules slaves)) place i) where
     abbrev r : Rules
     r = end.rules (get_or slaves i w)
 
@@ -102,7 +102,7 @@ module _ {M S : Type 0} (first : Ghosts M) (end : Ghosts S) (slaves : List S) (e
     slave_is : get_or (map end.rules slaves) i r ≡ r
     slave_is = get_or-map end.rules slaves i (get_or slaves i w) ∙ ap end.rules (get_or_default slaves i (get_or slaves i w) w within)
 
-    pub slave_moves : (next : ℕ) (new : S) → ((events : List Event) → end.stands (get_or slaves i w) events → Passes r.place (sends_at r events entry) entries (at + 1) (Ok next))
+    pub slave_moves : (next : ℕ) (new : S) → ((events : List Event) → end.stands (get_or slaves i w) events → Passes r.place (visit_sends r events entry) entries (at + 1) (Ok next))
         → end.rules new ≡ r → ((events : List Event) → end.stands (get_or slaves i w) events → end.stands new (events ++ event_in entry)) → end.outs new ≡ [] → AreAt first end master (set slaves i new) (take next entries)
     slave_moves next new passes kept moved quiet =
         slave_moved first end slaves (take at entries) entry entries at next front i w new within here_slave kept moved quiet (passes _ (ends.told_slaves i w within).stands_for) master apart ends
@@ -121,12 +121,12 @@ module _ {M S : Type 0} (first : Ghosts M) (end : Ghosts S) (slaves : List S) (e
       slave_right : AreRight m ss (take at entries ++ entry ∷ [])
       slave_right = step_entry m ss (take at entries) entry r slave_place.0 slave_place.1 slave_place.2 here_slave apart (all_follow first end master slaves _ ends) going right
 
-      pub slave_stops : (stop : Stop) → ((events : List Event) → end.stands (get_or slaves i w) events → Passes r.place (sends_at r events entry) entries (at + 1) (Err stop)) → StopsAt m ss entries stop
+      pub slave_stops : (stop : Stop) → ((events : List Event) → end.stands (get_or slaves i w) events → Passes r.place (visit_sends r events entry) entries (at + 1) (Err stop)) → StopsReplayAt m ss entries stop
       slave_stops stop passes =
           step_stops m ss (take at entries) entry r slave_place.0 slave_place.1 slave_place.2 here_slave apart (all_follow first end master slaves _ ends) entries at refl found slave_right (inl (same_report ∙ going)) stop
           (passes _ (ends.told_slaves i w within).stands_for)
 
-      pub slave_goes : (next : ℕ) → ((events : List Event) → end.stands (get_or slaves i w) events → Passes r.place (sends_at r events entry) entries (at + 1) (Ok next)) → WentOn m ss entries at next
+      pub slave_goes : (next : ℕ) → ((events : List Event) → end.stands (get_or slaves i w) events → Passes r.place (visit_sends r events entry) entries (at + 1) (Ok next)) → WentOn m ss entries at next
       slave_goes next passes =
           step_goes m ss (take at entries) entry r slave_place.0 slave_place.1 slave_place.2 here_slave apart (all_follow first end master slaves _ ends) entries at refl found slave_right (inl (same_report ∙ going)) next
           (passes _ (ends.told_slaves i w within).stands_for)

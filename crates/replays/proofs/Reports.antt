@@ -18,9 +18,9 @@ use Rattle.master_spec.specs.declared.reports.Report.TheVariants as reports
 use Rattle.master_spec.specs.declared.requests.Request.{Request}
 use Rattle.master_spec.specs.declared.setups.Setup.{Setup}
 use Rattle.master_spec.specs.Jobs.{Job}
-use Rattle.master_spec.specs.Marks.{Mark, Turned, Asked, Again, cause_of, has_ended, is_passed, job_of, newest_number, open_request, verdict_by, verdict_of}
+use Rattle.master_spec.specs.Marks.{Mark, Turned, Asked, Again, cause_of, conversation_ended, is_passed, job_of, newest_number, open_request, verdict_by, verdict_of}
 use Rattle.master_spec.specs.Conversation.{again_bytes, done, messages_of, on_mark, reaction, reaction_in}
-use Rattle.master_spec.specs.Course.{Course, Talk, after_gram, after_turn, course, decided, decided_if, failed, is_passed_as, is_quiet, is_settled, is_settled_as, marked, phases, send_to, sends_after, step, still, turned, with_next, with_report, with_turns}
+use Rattle.master_spec.specs.Course.{Course, CourseTalk, after_gram, course_after_turn, course, decided, decided_if, failed, is_passed_as, is_quiet, is_settled, is_settled_as, marked, phases, send_to, sends_after, step, still, course_turned, with_next, with_report, with_turns}
 use Rattle.master_spec.specs.Rules.{master_rules}
 use Rattle.master_spec.specs.Setup.{setup_from}
 
@@ -48,7 +48,7 @@ ended_by None (Some job) marks ended = by (is_passed job marks) ended
     by false ended = cc
 ended_by (Some cause) job marks ended = refl
 
-open_ended : (marks : List Mark) (request : Request) → open_request marks ≡ Some request → (is_settled_as (verdict_of marks) && not (is_passed_as (verdict_of marks) && is_some (open_request marks))) ≡ true → has_ended marks ≡ true
+open_ended : (marks : List Mark) (request : Request) → open_request marks ≡ Some request → (is_settled_as (verdict_of marks) && not (is_passed_as (verdict_of marks) && is_some (open_request marks))) ≡ true → conversation_ended marks ≡ true
 open_ended marks request asking quiet = ended_by (cause_of marks) (job_of marks) marks (rests (verdict_of marks) request (rw asking at quiet))
 
 -- what a turn makes it send leaves a request open
@@ -56,28 +56,28 @@ module _ (limits : Limits) (id : ℕ) (settled : Bool) (marks : List Mark) where
   abbrev quiet_after : List Mark → Bool
   quiet_after after = is_settled_as (verdict_of after) && not (is_passed_as (verdict_of after) && is_some (open_request after))
 
-  again : (o : Option Request) → open_request marks ≡ o → has_ended marks ≡ false → quiet_after (Again ∷ Turned settled ∷ marks) ≡ true → again_bytes (newest_number (Turned settled ∷ marks)) id o ≡ []
+  again : (o : Option Request) → open_request marks ≡ o → conversation_ended marks ≡ false → quiet_after (Again ∷ Turned settled ∷ marks) ≡ true → again_bytes (newest_number (Turned settled ∷ marks)) id o ≡ []
   again None none going quiet = refl
-  again (Some request) asking going quiet = let ended : has_ended marks ≡ true = open_ended (Again ∷ Turned settled ∷ marks) request asking quiet in cc
+  again (Some request) asking going quiet = let ended : conversation_ended marks ≡ true = open_ended (Again ∷ Turned settled ∷ marks) request asking quiet in cc
 
-  by_reaction : (what : Reaction) → has_ended marks ≡ false → quiet_after (done what (Turned settled ∷ marks)) ≡ true → messages_of id (Turned settled ∷ marks) what ≡ []
+  by_reaction : (what : Reaction) → conversation_ended marks ≡ false → quiet_after (done what (Turned settled ∷ marks)) ≡ true → messages_of id (Turned settled ∷ marks) what ≡ []
   by_reaction Wait going quiet = refl
-  by_reaction (Ask request) going quiet = let ended : has_ended marks ≡ true = open_ended (Asked request ∷ Turned settled ∷ marks) request refl quiet in cc
+  by_reaction (Ask request) going quiet = let ended : conversation_ended marks ≡ true = open_ended (Asked request ∷ Turned settled ∷ marks) request refl quiet in cc
   by_reaction Repeat going quiet = again (open_request marks) refl going quiet
   by_reaction (GiveUp cause) going quiet = refl
 
-  in_ended : (job : Option Job) → has_ended marks ≡ true → reaction_in limits job (Turned settled) marks (Turned settled ∷ marks) ≡ Wait
+  in_ended : (job : Option Job) → conversation_ended marks ≡ true → reaction_in limits job (Turned settled) marks (Turned settled ∷ marks) ≡ Wait
   in_ended None ended = refl
   in_ended (Some job) ended = ap (λ (b : Bool). if b then Wait else on_mark limits job (Turned settled) marks (Turned settled ∷ marks)) ended
 
-  reacts_ended : has_ended marks ≡ true → reaction limits (Turned settled) marks ≡ Wait
+  reacts_ended : conversation_ended marks ≡ true → reaction limits (Turned settled) marks ≡ Wait
   unfolding reaction
   reacts_ended ended = in_ended (job_of marks) ended
 
   says_nothing : quiet_after (done (reaction limits (Turned settled) marks) (Turned settled ∷ marks)) ≡ true → messages_of id (Turned settled ∷ marks) (reaction limits (Turned settled) marks) ≡ []
-  says_nothing quiet = by (has_ended marks) refl
+  says_nothing quiet = by (conversation_ended marks) refl
     where
-      by : (b : Bool) → has_ended marks ≡ b → messages_of id (Turned settled ∷ marks) (reaction limits (Turned settled) marks) ≡ []
+      by : (b : Bool) → conversation_ended marks ≡ b → messages_of id (Turned settled ∷ marks) (reaction limits (Turned settled) marks) ≡ []
       by true ended = ap (messages_of id (Turned settled ∷ marks)) (reacts_ended ended)
       by false going = by_reaction (reaction limits (Turned settled) marks) going quiet
 
@@ -88,13 +88,13 @@ both true true all = (refl, refl)
 both true false all = cc
 both false b all = cc
 
-all_silent : (limits : Limits) (settled : Bool) (talks : List Talk) → list_all is_quiet (map (λ talk. marked limits talk (Some (Turned settled))) talks) ≡ true
+all_silent : (limits : Limits) (settled : Bool) (talks : List CourseTalk) → list_all is_quiet (map (λ talk. marked limits talk (Some (Turned settled))) talks) ≡ true
     → flat_map (λ talk. sends_after limits talk (Some (Turned settled))) talks ≡ []
 all_silent limits settled [] quiet = refl
 all_silent limits settled (talk ∷ talks) quiet =
     let parts = both (is_quiet (marked limits talk (Some (Turned settled)))) (list_all is_quiet (map (λ talk. marked limits talk (Some (Turned settled))) talks)) quiet in
-    flat_map-cons (λ (t : Talk). sends_after limits t (Some (Turned settled))) talk talks
-    ∙ ap (λ (messages : List (List ℕ)). map (send_to talk.slave.address) messages ++ flat_map (λ (t : Talk). sends_after limits t (Some (Turned settled))) talks) (says_nothing limits talk.slave.id settled talk.marks parts.0)
+    flat_map-cons (λ (t : CourseTalk). sends_after limits t (Some (Turned settled))) talk talks
+    ∙ ap (λ (messages : List (List ℕ)). map (send_to talk.slave.address) messages ++ flat_map (λ (t : CourseTalk). sends_after limits t (Some (Turned settled))) talks) (says_nothing limits talk.slave.id settled talk.marks parts.0)
     ∙ all_silent limits settled talks parts.1
 
 -- ---- the course
@@ -114,24 +114,24 @@ module _ (setup : Setup) (c : Course) (going : c.report ≡ None) where
       by true reported = all_silent setup.limits settled c.talks quiet
       by false reported = cc
 
-  turned_silent : (settled : Bool) → is_some (turned setup (with_turns setup settled c)).report ≡ true → (turned setup (with_turns setup settled c)).sent ≡ []
+  turned_silent : (settled : Bool) → is_some (course_turned setup (with_turns setup settled c)).report ≡ true → (course_turned setup (with_turns setup settled c)).sent ≡ []
   turned_silent settled reported = by (list_all is_quiet (with_turns setup settled c).talks) refl reported
     where
       by : (b : Bool) → list_all is_quiet (with_turns setup settled c).talks ≡ b → is_some (decided_if setup b (with_turns setup settled c)).report ≡ true → (decided_if setup b (with_turns setup settled c)).sent ≡ []
       by false some reported = cc
       by true quiet reported = with_turns_silent settled (failed (with_turns setup settled c).phase (with_turns setup settled c).talks) quiet reported
 
-  turn_silent : is_some (after_turn setup c).report ≡ true → (after_turn setup c).sent ≡ []
+  turn_silent : is_some (course_after_turn setup c).report ≡ true → (course_after_turn setup c).sent ≡ []
   turn_silent reported = by (c.phase == 0) reported
     where
-      by : (b : Bool) → is_some (if b then with_next setup (still c) else turned setup (with_turns setup (list_all is_settled c.talks) c)).report ≡ true
-          → (if b then with_next setup (still c) else turned setup (with_turns setup (list_all is_settled c.talks) c)).sent ≡ []
+      by : (b : Bool) → is_some (if b then with_next setup (still c) else course_turned setup (with_turns setup (list_all is_settled c.talks) c)).report ≡ true
+          → (if b then with_next setup (still c) else course_turned setup (with_turns setup (list_all is_settled c.talks) c)).sent ≡ []
       by true reported = cc
       by false reported = turned_silent (list_all is_settled c.talks) reported
 
-  tick_before : step setup Tick c ≡ after_turn setup c
+  tick_before : step setup Tick c ≡ course_after_turn setup c
   unfolding step
-  tick_before = ap (λ (o : Option Report). if is_some o then still c else after_turn setup c) going
+  tick_before = ap (λ (o : Option Report). if is_some o then still c else course_after_turn setup c) going
 
   pub report_silent : is_some (step setup Tick c).report ≡ true → (step setup Tick c).sent ≡ []
   report_silent reported = ap (λ (x : Course). x.sent) tick_before ∙ turn_silent (ap (λ (x : Course). is_some x.report) (sym tick_before) ∙ reported)
@@ -153,7 +153,7 @@ stays setup (Gram from bytes) c none = by (is_some c.report) none
     by false none = none
 stays setup Tick c none = by (is_some c.report) refl none
   where
-    by : (b : Bool) → is_some c.report ≡ b → is_some (if b then still c else after_turn setup c).report ≡ false → is_some c.report ≡ false
+    by : (b : Bool) → is_some c.report ≡ b → is_some (if b then still c else course_after_turn setup c).report ≡ false → is_some c.report ≡ false
     by true e none = none
     by false e none = e
 

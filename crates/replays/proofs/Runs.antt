@@ -8,7 +8,7 @@ use Rattle.dcp_ends.specs.Events.{Event, Gram, Tick, Send, Rules}
 use Rattle.dcp_ends.specs.Logs.{answered, entry_of, event_at, events_at, own_at, own_entry, sent_by}
 use Rattle.rounds.specs.Rounds.{AllSent}
 use Rattle.rounds.proofs.Logs.{events_at-append, own_at-append, same_address-refl}
-use Rattle.replays.specs.Visits.{event_in, place_in, sends_at}
+use Rattle.replays.specs.Visits.{event_in, place_in, visit_sends}
 
 -- ---- where the sends of an event end
 
@@ -63,7 +63,7 @@ Rest r done left = own_at r.place left ≡ answered r (events_at r.place done) (
 
 -- an entry of the end and what it sent are followed by the rest, which begins with no Sent of the end
 pub record Taken (r : Rules) (done : List LogEntry) (entry : LogEntry) (sents left : List LogEntry) : Type 0 where
-  pub sends_are : sents ≡ sent_by r.place (sends_at r (events_at r.place done) entry)
+  pub sends_are : sents ≡ sent_by r.place (visit_sends r (events_at r.place done) entry)
   pub rest : Rest r (done ++ entry ∷ sents) left
 
 module _ (r : Rules) (done : List LogEntry) (sents left : List LogEntry) (own : AllSent r.place sents) (headed : Headed (own_at r.place left)) where
@@ -80,7 +80,7 @@ module _ (r : Rules) (done : List LogEntry) (sents left : List LogEntry) (own : 
       ∙ ap (λ more. events_at r.place done ++ more) (append-nil (event_at r.place entry))
 
   -- at an event
-  at_event : (entry : LogEntry) (event : Event) → own_entry r.place entry ≡ entry ∷ [] → event_at r.place entry ≡ event ∷ [] → sends_at r (events_at r.place done) entry ≡ r.sends (events_at r.place done) event
+  at_event : (entry : LogEntry) (event : Event) → own_entry r.place entry ≡ entry ∷ [] → event_at r.place entry ≡ event ∷ [] → visit_sends r (events_at r.place done) entry ≡ r.sends (events_at r.place done) event
       → Rest r done (entry ∷ (sents ++ left)) → Taken r done entry sents left
   at_event entry event mine happens sends rest =
       let whole : entry ∷ (sents ++ own_at r.place left) ≡ entry_of r.place event ∷ (sent_by r.place (r.sends (events_at r.place done) event) ++ answered r (events_at r.place done ++ event ∷ []) (events_at r.place left)) =

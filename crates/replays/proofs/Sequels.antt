@@ -10,7 +10,7 @@ use Rattle.dcp_ends.specs.declared.entries.LogEntry.TheVariants.{Sent, Got, Idle
 use Rattle.dcp_ends.specs.Events.{Rules}
 use Rattle.dcp_ends.specs.Logs.{answered, events_at, own_at}
 use Rattle.rounds.specs.Told.{Follows}
-use Rattle.replays.specs.Expected.{Suits, expected, is_hosted_at, missing}
+use Rattle.replays.specs.Expected.{Suits, expected_sends, is_hosted_at, missing}
 use Rattle.replays.specs.Visits.{place_in}
 
 -- ---- what one end's list adds
@@ -34,18 +34,18 @@ flat-one f (x ∷ xs) zero d lt others =
 flat-one f (x ∷ xs) (suc j) d lt others =
     flat_map-cons f x xs ∙ ap (λ rest. rest ++ flat_map f xs) (others 0 x (omega arith) (omega arith)) ∙ flat-one f xs j d (omega arith) (λ k e lk ne. others (suc k) e (omega arith) (omega arith))
 
-pub expected-none : (ends : List Rules) (log : List LogEntry) → All (λ r. Follows r log) ends → expected ends log ≡ []
+pub expected-none : (ends : List Rules) (log : List LogEntry) → All (λ r. Follows r log) ends → expected_sends ends log ≡ []
 expected-none ends log all = flat-none (missing log) ends (λ k d lt. missing-none (get_or ends k d) log (all k d lt))
 
 -- ---- which entries suit
 
-pub suits-end : (ends : List Rules) (log : List LogEntry) (entry : LogEntry) (place : Address) → place_in entry ≡ Some place → expected ends log ≡ [] → is_hosted_at ends place ≡ true → Suits ends log entry
+pub suits-end : (ends : List Rules) (log : List LogEntry) (entry : LogEntry) (place : Address) → place_in entry ≡ Some place → expected_sends ends log ≡ [] → is_hosted_at ends place ≡ true → Suits ends log entry
 suits-end ends log (Sent from to bytes) place is none found = cc
 suits-end ends log (Got at from bytes) place is none found = let same : at ≡ place = cc in (none, rw same found)
 suits-end ends log (Idle at) place is none found = let same : at ≡ place = cc in (none, rw same found)
 suits-end ends log (Turn at) place is none found = let same : at ≡ place = cc in (none, rw same found)
 
-pub no_sent : (ends : List Rules) (log : List LogEntry) (entry : LogEntry) → place_in entry ≡ None → expected ends log ≡ [] → Suits ends log entry → ⊥
+pub no_sent : (ends : List Rules) (log : List LogEntry) (entry : LogEntry) → place_in entry ≡ None → expected_sends ends log ≡ [] → Suits ends log entry → ⊥
 no_sent ends log (Sent from to bytes) is none suits = cc (ap (λ (l : List LogEntry). slice_get l 0) none)
 no_sent ends log (Got at from bytes) is none suits = cc
 no_sent ends log (Idle at) is none suits = cc
@@ -57,7 +57,7 @@ not_hosted ends log (Got at from bytes) place is far suits = let same : at ≡ p
 not_hosted ends log (Idle at) place is far suits = let same : at ≡ place = cc in cc (ap (is_hosted_at ends) same, suits.1)
 not_hosted ends log (Turn at) place is far suits = let same : at ≡ place = cc in cc (ap (is_hosted_at ends) same, suits.1)
 
-pub not_other : (ends : List Rules) (log rest : List LogEntry) (from to : Address) (bytes : List ℕ) (entry : LogEntry) → expected ends log ≡ Sent from to bytes ∷ rest → entry ≢ Sent from to bytes → Suits ends log entry → ⊥
+pub not_other : (ends : List Rules) (log rest : List LogEntry) (from to : Address) (bytes : List ℕ) (entry : LogEntry) → expected_sends ends log ≡ Sent from to bytes ∷ rest → entry ≢ Sent from to bytes → Suits ends log entry → ⊥
 not_other ends log rest from to bytes (Sent f t b) next other suits = let head = ap (λ (l : List LogEntry). slice_get l 0) next in other (cc)
 not_other ends log rest from to bytes (Got at f b) next other suits = cc (suits.0)
 not_other ends log rest from to bytes (Idle at) next other suits = cc (suits.0)

@@ -15,7 +15,7 @@ use Rattle.rounds.specs.Rounds.{hosted}
 use Rattle.rounds.specs.Told.{Apart, Follows, IsTold}
 use Rattle.rounds.proofs.Hosted.{Apart-rest, slaves_told}
 use Rattle.rounds.proofs.Others.{All-visited, IsTold-silent, Silent, other_places}
-use Rattle.replays.specs.Visits.{AreAt, HasFirst, event_in, place_in, sends_at}
+use Rattle.replays.specs.Visits.{AreAt, HasFirst, event_in, place_in, visit_sends}
 use Rattle.replays.proofs.Steps.{step_events, step_own, step_silent}
 
 -- ---- addresses
@@ -34,7 +34,7 @@ same_is_one a b h =
 
 module _ {E : Type 0} (stands : E → List Event → Type 0) (r : Rules) (log : List LogEntry) (entry : LogEntry) (is : place_in entry ≡ Some r.place) (old new : E)
     (told : IsTold stands r old log) (moved : (events : List Event) → stands old events → stands new (events ++ event_in entry)) where
-  pub step_told : (gone : List Send) → gone ++ [] ≡ sends_at r (events_at r.place log) entry → IsTold stands r new (log ++ entry ∷ sent_by r.place gone)
+  pub step_told : (gone : List Send) → gone ++ [] ≡ visit_sends r (events_at r.place log) entry → IsTold stands r new (log ++ entry ∷ sent_by r.place gone)
   step_told gone all =
       let own = step_own r log entry is told.follows gone [] all in
       record { stands_for = rw (step_events r log entry is gone) (moved _ told.stands_for); follows = rw append-nil at own }
@@ -55,7 +55,7 @@ module _ {M S : Type 0} (first : Ghosts M) (end : Ghosts S) where
     -- the master's
     module _ (m new : M) (is : place_in entry ≡ Some (first.rules m).place) (ends : AreAt first end (Some m) slaves log) (apart : Apart (first.rules m ∷ map end.rules slaves))
         (same : first.rules new ≡ first.rules m) (moved : (events : List Event) → first.stands m events → first.stands new (events ++ event_in entry)) (quiet : first.outs new ≡ [])
-        (goes : HasFirst (first.rules m).place (sends_at (first.rules m) (events_at (first.rules m).place log) entry) [] entries (at + 1) next) where
+        (goes : HasFirst (first.rules m).place (visit_sends (first.rules m) (events_at (first.rules m).place log) entry) [] entries (at + 1) next) where
       pub master_moved : AreAt first end (Some new) slaves (take next entries)
       master_moved =
           let part = entry ∷ sent_by (first.rules m).place goes.gone in
@@ -70,7 +70,7 @@ module _ {M S : Type 0} (first : Ghosts M) (end : Ghosts S) where
     -- a slave's
     module _ (i : ℕ) (w new : S) (here : i < length slaves) (is : place_in entry ≡ Some (end.rules (get_or slaves i w)).place)
         (same : end.rules new ≡ end.rules (get_or slaves i w)) (moved : (events : List Event) → end.stands (get_or slaves i w) events → end.stands new (events ++ event_in entry)) (quiet : end.outs new ≡ [])
-        (goes : HasFirst (end.rules (get_or slaves i w)).place (sends_at (end.rules (get_or slaves i w)) (events_at (end.rules (get_or slaves i w)).place log) entry) [] entries (at + 1) next) where
+        (goes : HasFirst (end.rules (get_or slaves i w)).place (visit_sends (end.rules (get_or slaves i w)) (events_at (end.rules (get_or slaves i w)).place log) entry) [] entries (at + 1) next) where
       abbrev r : Rules
       r = end.rules (get_or slaves i w)
 

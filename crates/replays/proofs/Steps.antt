@@ -15,9 +15,9 @@ use Rattle.rounds.specs.Told.{Apart, Follows}
 use Rattle.rounds.proofs.Parts.{sent_by-append, take_found}
 use Rattle.rounds.proofs.Logs.{Follows-event, events_at-append, events_at-sents, own_at-append, same_address-refl}
 use Rattle.rounds.proofs.Others.{Silent, Silent-nil}
-use Rattle.replays.specs.Expected.{AreRight, expected, is_hosted_at, missing}
-use Rattle.replays.specs.Differences.{FirstDiffers, StopsAt}
-use Rattle.replays.specs.Visits.{HasFirst, Passes, PassesUnless, WentOn, event_in, place_in, sends_at}
+use Rattle.replays.specs.Expected.{AreRight, expected_sends, is_hosted_at, missing}
+use Rattle.replays.specs.Differences.{FirstDiffers, StopsReplayAt}
+use Rattle.replays.specs.Visits.{HasFirst, Passes, PassesUnless, WentOn, event_in, place_in, visit_sends}
 use Rattle.replays.specs.declared.stops.Stop.{Stop}
 use Rattle.replays.specs.declared.stops.Stop.TheVariants as stops
 use Rattle.replays.proofs.Growth.{right-more}
@@ -60,7 +60,7 @@ module _ (r : Rules) where
     idle_own at follows [] (l ∷ left) none = cc
     idle_own at follows (g ∷ gone) left none = cc
 
-    pub step_own : (entry : LogEntry) → place_in entry ≡ Some r.place → Follows r log → (gone left : List Send) → gone ++ left ≡ sends_at r (events_at r.place log) entry
+    pub step_own : (entry : LogEntry) → place_in entry ≡ Some r.place → Follows r log → (gone left : List Send) → gone ++ left ≡ visit_sends r (events_at r.place log) entry
         → own_at r.place (log ++ entry ∷ sent_by r.place gone) ++ sent_by r.place left ≡ answered r [] (events_at r.place (log ++ entry ∷ sent_by r.place gone))
     step_own (Sent from to bytes) is follows gone left split = cc
     step_own (Got at from bytes) is follows gone left split = let same : at ≡ r.place = cc in rw same (Follows-event r log (Gram from bytes) gone left split follows)
@@ -89,7 +89,7 @@ module _ (master : Option Rules) (slaves : List Rules) (log : List LogEntry) (en
   so_far gone = (log ++ entry ∷ []) ++ sent_by r.place gone
 
   abbrev sends : List Send
-  sends = sends_at r (events_at r.place log) entry
+  sends = visit_sends r (events_at r.place log) entry
 
   joined : (gone : List Send) → so_far gone ≡ log ++ entry ∷ sent_by r.place gone
   joined gone = append_assoc log (entry ∷ []) (sent_by r.place gone)
@@ -107,7 +107,7 @@ module _ (master : Option Rules) (slaves : List Rules) (log : List LogEntry) (en
   others_follow k d lt ne gone =
       rw (joined gone) (silent_follows (get_or (hosted master slaves) k d) log _ (step_silent r entry is _ (far k d lt ne) gone) (follows k d lt))
 
-  pub step_expected : (gone left : List Send) → gone ++ left ≡ sends → expected (hosted master slaves) (so_far gone) ≡ sent_by r.place left
+  pub step_expected : (gone left : List Send) → gone ++ left ≡ sends → expected_sends (hosted master slaves) (so_far gone) ≡ sent_by r.place left
   step_expected gone left split =
       flat-one (missing (so_far gone)) (hosted master slaves) j r within
       (λ k d lt ne. missing-none (get_or (hosted master slaves) k d) (so_far gone) (others_follow k d lt ne gone))
@@ -156,13 +156,13 @@ module _ (master : Option Rules) (slaves : List Rules) (log : List LogEntry) (en
             let past : length entries ≤ place = omega (arith, first.later) in
             rw (take_all place entries past ∙ sym (take_all (at + 1) entries full) ∙ front) right
 
-      expected_to : (left : List Send) (place : ℕ) → HasFirst r.place sends left entries (at + 1) place → expected (hosted master slaves) (take place entries) ≡ sent_by r.place left
-      expected_to left place first = ap (expected (hosted master slaves)) (there left place first) ∙ step_expected first.gone left first.split
+      expected_to : (left : List Send) (place : ℕ) → HasFirst r.place sends left entries (at + 1) place → expected_sends (hosted master slaves) (take place entries) ≡ sent_by r.place left
+      expected_to left place first = ap (expected_sends (hosted master slaves)) (there left place first) ∙ step_expected first.gone left first.split
 
       whole : take (length entries) entries ≡ entries
       whole = let all : length entries ≤ length entries = omega arith in take_all (length entries) entries all
 
-      pub step_stops : (stop : Stop) → Passes r.place sends entries (at + 1) (Err stop) → StopsAt master slaves entries stop
+      pub step_stops : (stop : Stop) → Passes r.place sends entries (at + 1) (Err stop) → StopsReplayAt master slaves entries stop
       step_stops (stops.Differs place) other = record {
         entry = other.entry;
         here = other.here;
@@ -173,7 +173,7 @@ module _ (master : Option Rules) (slaves : List Rules) (log : List LogEntry) (en
       step_stops stops.Unended more =
           let next = expected_to (more.send ∷ more.left) (length entries) more.first in
           let right = right_to (more.send ∷ more.left) (length entries) more.first in
-          (rw whole at right, λ ended. cc (next, ended.quiet, ap (expected (hosted master slaves)) whole))
+          (rw whole at right, λ ended. cc (next, ended.quiet, ap (expected_sends (hosted master slaves)) whole))
 
       pub step_goes : (next : ℕ) → HasFirst r.place sends [] entries (at + 1) next → WentOn master slaves entries at next
       step_goes next first = record { later = omega (arith, first.later); within = first.within; right = right_to [] next first }
@@ -212,14 +212,14 @@ module _ (m : Rules) (slaves : List Rules) (log : List LogEntry) (entry : LogEnt
         differs = λ one. cc (one.going, ap (has_report (Some m)) front, reports, over);
       }
 
-  pub master_stops : (stop : Stop) → PassesUnless m (events_at m.place log) entry entries (at + 1) (Err stop) → StopsAt (Some m) slaves entries stop
+  pub master_stops : (stop : Stop) → PassesUnless m (events_at m.place log) entry entries (at + 1) (Err stop) → StopsReplayAt (Some m) slaves entries stop
   master_stops stop passes =
       elim (either (m.over (events_at m.place log ++ event_in entry)) (nat_lt (at + 1) (length entries)) _ _ passes) [
         | inl over ↦ let same : stop ≡ stops.Differs (at + 1) = cc (over.2) in rw same (reported over.0 over.1)
         | inr other ↦ step_stops (Some m) slaves log entry m 0 some refl is apart follows entries at begun found entry_right (last other.0) stop other.1
       ]
 
-  pub master_first : (next : ℕ) → PassesUnless m (events_at m.place log) entry entries (at + 1) (Ok next) → HasFirst m.place (sends_at m (events_at m.place log) entry) [] entries (at + 1) next
+  pub master_first : (next : ℕ) → PassesUnless m (events_at m.place log) entry entries (at + 1) (Ok next) → HasFirst m.place (visit_sends m (events_at m.place log) entry) [] entries (at + 1) next
   master_first next passes =
       elim (either (m.over (events_at m.place log ++ event_in entry)) (nat_lt (at + 1) (length entries)) _ _ passes) [
         | inl over ↦ cc (over.2)

@@ -14,7 +14,7 @@ use Rattle.rounds.proofs.Hosted.{Each-silent}
 use Rattle.rounds.proofs.Logs.{events_at-append, own_at-append, same_address-refl}
 use Rattle.rounds.proofs.Others.{Silent, at_most, look_silent}
 use Rattle.replays.specs.Expected.{AreRight}
-use Rattle.replays.specs.Visits.{event_in, place_in, sends_at}
+use Rattle.replays.specs.Visits.{event_in, place_in, visit_sends}
 use Rattle.replays.proofs.Chunks.{AreChunks, joined}
 use Rattle.replays.proofs.Reports.{Reports}
 use Rattle.replays.proofs.Runs.{Headed, Rest, Taken, events_at-own}
@@ -109,7 +109,7 @@ module _ (m : Rules) (slaves : List Rules) (apart : Apart (m ∷ slaves)) (done 
     (entry : LogEntry) (sents : List LogEntry) (r : Rules) (j : ℕ) (within : j < length (m ∷ slaves)) (it : get_or (m ∷ slaves) j r ≡ r) (is : place_in entry ≡ Some r.place)
     (taken : Taken r done entry sents left) where
   abbrev pub sends : List Send
-  sends = sends_at r (events_at r.place done) entry
+  sends = visit_sends r (events_at r.place done) entry
 
   abbrev pub part : List LogEntry
   part = entry ∷ sent_by r.place sends
@@ -135,7 +135,7 @@ module _ (m : Rules) (slaves : List Rules) (apart : Apart (m ∷ slaves)) (done 
   each P one others k d lt = elim (cases_eq k j) [ inl same ↦ at_j P one k d same | inr ne ↦ others k d lt ne ]
 
   pub follows_part : All (λ q. Follows q (done ++ part)) (m ∷ slaves)
-  follows_part = each (λ q. Follows q (done ++ part)) (let own = step_own r done entry is mine (sends_at r (events_at r.place done) entry) [] (append-nil _) in rw append-nil at own)
+  follows_part = each (λ q. Follows q (done ++ part)) (let own = step_own r done entry is mine (visit_sends r (events_at r.place done) entry) [] (append-nil _) in rw append-nil at own)
       (λ k d lt ne. silent_follows (get_or (m ∷ slaves) k d) done part (far k d lt ne) (follows k d lt))
 
   rest_other : (q : Rules) → Silent q.place part → Rest q done (part ++ left) → Rest q (done ++ part) left
@@ -154,4 +154,4 @@ module _ (m : Rules) (slaves : List Rules) (apart : Apart (m ∷ slaves)) (done 
       let split : done ++ part ≡ (done ++ entry ∷ []) ++ sent_by r.place sends = sym (append_assoc done (entry ∷ []) (sent_by r.place sends)) in
       let going : has_report (Some m) (done ++ entry ∷ []) ≡ false = report_stays m reports (done ++ entry ∷ []) (sent_by r.place sends) (rw split at none) in
       let before : has_report (Some m) done ≡ false = report_stays m reports done (entry ∷ []) going in
-      rw split (step_right (Some m) slaves done entry r j within it is apart follows going (step_entry (Some m) slaves done entry r j within it is apart follows before right) (sends_at r (events_at r.place done) entry) [] (append-nil _))
+      rw split (step_right (Some m) slaves done entry r j within it is apart follows going (step_entry (Some m) slaves done entry r j within it is apart follows before right) (visit_sends r (events_at r.place done) entry) [] (append-nil _))

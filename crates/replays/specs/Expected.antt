@@ -13,8 +13,8 @@ abbrev pub missing : List LogEntry → Rules → List LogEntry
 missing log rules = drop (length (own_at rules.place log)) (answered rules [] (events_at rules.place log))
 
 -- the Sents that are expected after a log, the next one first
-abbrev pub expected : List Rules → List LogEntry → List LogEntry
-expected ends log = flat_map (missing log) ends
+abbrev pub expected_sends : List Rules → List LogEntry → List LogEntry
+expected_sends ends log = flat_map (missing log) ends
 
 -- one of these ends is found there
 abbrev pub is_hosted_at : List Rules → Address → Bool
@@ -22,11 +22,11 @@ is_hosted_at ends at = list_any (λ (rules : Rules). same_address rules.place at
 
 -- a Got, an Idle or a Turn comes where no Sent is expected, and at a hosted end
 abbrev pub SuitsEnd : List Rules → List LogEntry → Address → Type 0
-SuitsEnd ends log at = (expected ends log ≡ []) × (is_hosted_at ends at ≡ true)
+SuitsEnd ends log at = (expected_sends ends log ≡ []) × (is_hosted_at ends at ≡ true)
 
 -- a Sent is the next one that is expected
 abbrev pub Suits : List Rules → List LogEntry → LogEntry → Type 0
-Suits ends log (Sent from to bytes) = slice_get (expected ends log) 0 ≡ Some (Sent from to bytes)
+Suits ends log (Sent from to bytes) = slice_get (expected_sends ends log) 0 ≡ Some (Sent from to bytes)
 Suits ends log (Got at from bytes) = SuitsEnd ends log at
 Suits ends log (Idle at) = SuitsEnd ends log at
 Suits ends log (Turn at) = SuitsEnd ends log at

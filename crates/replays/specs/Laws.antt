@@ -26,7 +26,7 @@ pub record IsReported (master : Option Rules) (slaves : List Rules) (log : List 
   pub reported : has_report master log ≡ true
 
 -- the log of a run of these ends of a scenario to the report: whole rounds, in which each end sends what its rules give
-pub record IsRun (sc : Scenario) (h : Hosted) (log : List LogEntry) : Type 0 where
+pub record IsRunLog (sc : Scenario) (h : Hosted) (log : List LogEntry) : Type 0 where
   pub reported : IsReported (master_of sc h) (slaves_of sc h) log
   pub follows : All (λ rules. Follows rules log) (hosted (master_of sc h) (slaves_of sc h))
 
@@ -39,7 +39,7 @@ WentThrough (Err OutOfMemory) = Unit {0}
 
 -- Whatever a replay of such a log answers, it went to the report.
 abbrev pub RunsReplay : Type 0
-RunsReplay = (sc : Scenario) (h : Hosted) (log : List LogEntry) → IsScenario sc → IsRun sc h log → (result : Result Replayed ReplayFault) → Answers sc h log result → WentThrough result
+RunsReplay = (sc : Scenario) (h : Hosted) (log : List LogEntry) → IsScenario sc → IsRunLog sc h log → (result : Result Replayed ReplayFault) → Answers sc h log result → WentThrough result
 
 -- two answers are of one kind and name one place, unless memory ran out
 abbrev pub SameAnswer : Result Replayed ReplayFault → Result Replayed ReplayFault → Type 0

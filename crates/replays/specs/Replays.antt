@@ -5,7 +5,7 @@ use Rattle.dcp_ends.specs.Logs.{events_at}
 use Rattle.rounds.specs.Rounds.{hosted}
 use Rattle.master_spec.specs.Course.{course}
 use Rattle.master_spec.specs.Setup.{setup_from}
-use Rattle.master_core.specs.Standing.{StandsAfter, setup_of}
+use Rattle.master_core.specs.Standing.{StandsAfter, core_setup}
 use Rattle.scenario.specs.declared.scenarios.Scenario.{Scenario}
 use Rattle.host.specs.declared.hosted.Hosted.{Hosted}
 use Rattle.host.specs.Hosting.{master_of, slaves_of}
@@ -26,12 +26,12 @@ Answers sc hosted entries (Err (Unended count)) =
 Answers sc hosted entries (Err OutOfMemory) = Unit {0}
 
 -- the same of where going through so many entries stops
-abbrev pub fault_of : Stop → (count : ℕ) → ReplayFault
-fault_of (stops.Differs at) count = Differs at
-fault_of stops.Unended count = Unended count
+abbrev pub replay_fault : Stop → (count : ℕ) → ReplayFault
+replay_fault (stops.Differs at) count = Differs at
+replay_fault stops.Unended count = Unended count
 
 -- the master of this scenario, after its events in the entries, with its report
 pub record IsReplayed (sc : Scenario) (entries : List LogEntry) (replayed : Replayed) : Type 0 where
   pub stands : StandsAfter replayed.master (events_at sc.master entries)
-  pub made : setup_of replayed.master ≡ setup_from sc
+  pub made : core_setup replayed.master ≡ setup_from sc
   pub report : (course (setup_from sc) (reverse (events_at sc.master entries))).report ≡ Some replayed.report

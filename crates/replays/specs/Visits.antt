@@ -26,11 +26,11 @@ event_in (Idle at) = []
 event_in (Turn at) = Tick ∷ []
 
 -- what an end has to send after an entry
-abbrev pub sends_at : Rules → List Event → LogEntry → List Send
-sends_at rules events (Sent from to bytes) = []
-sends_at rules events (Got at from bytes) = rules.sends events (Gram from bytes)
-sends_at rules events (Idle at) = []
-sends_at rules events (Turn at) = rules.sends events Tick
+abbrev pub visit_sends : Rules → List Event → LogEntry → List Send
+visit_sends rules events (Sent from to bytes) = []
+visit_sends rules events (Got at from bytes) = rules.sends events (Gram from bytes)
+visit_sends rules events (Idle at) = []
+visit_sends rules events (Turn at) = rules.sends events Tick
 
 -- from `start` to `at` stand the first of these sends
 pub record HasFirst (place : Address) (sends left : List Send) (entries : List LogEntry) (start at : ℕ) : Type 0 where
@@ -64,7 +64,7 @@ Passes place sends entries start (Err stops.Unended) = HasNoMore place sends ent
 -- the same of the master, but where it has its report after the entry, no other entry may follow
 abbrev pub PassesUnless : Rules → List Event → LogEntry → List LogEntry → (start : ℕ) → Result ℕ Stop → Type 0
 PassesUnless rules events entry entries start result =
-    MatchBool (rules.over (events ++ event_in entry) && nat_lt start (length entries)) (result ≡ Err (stops.Differs start)) (Passes rules.place (sends_at rules events entry) entries start result)
+    MatchBool (rules.over (events ++ event_in entry) && nat_lt start (length entries)) (result ≡ Err (stops.Differs start)) (Passes rules.place (visit_sends rules events entry) entries start result)
 
 -- each end stands for its events in the log, whose sends are there, and nothing is outgoing
 pub record AreAt {M S : Type 0} (first : Ghosts M) (end : Ghosts S) (master : Option M) (slaves : List S) (log : List LogEntry) : Type 0 where
@@ -85,11 +85,11 @@ is_found_at None place = false
 is_found_at (Some rules) place = same_address rules.place place
 
 -- this address stands there
-pub record IsFound (places : List Address) (place : Address) (i : ℕ) : Type 0 where
+pub record IsFoundPlace (places : List Address) (place : Address) (i : ℕ) : Type 0 where
   pub within : i < length places
   pub same : (d : Address) → same_address (slice_index_or places i d) place ≡ true
 
 -- an end to which nothing has come
-pub record IsNew {E : Type 0} (made : Ghosts E) (end : E) : Type 0 where
+pub record IsNewEnd {E : Type 0} (made : Ghosts E) (end : E) : Type 0 where
   pub nothing : made.stands end []
   pub quiet : made.outs end ≡ []

@@ -7,9 +7,9 @@ ghost use Rattle.dcp_ends.specs.declared.entries.LogEntry.{LogEntry};
 ghost use Rattle.dcp_ends.specs.Logs.{events_at, same_address};
 ghost use Rattle.rounds.specs.Rounds.{has_report, hosted, places_of};
 ghost use Rattle.rounds.specs.Told.{Apart, IsTold};
-ghost use Rattle.replays.specs.Differences.{Ends, StopsAt};
+ghost use Rattle.replays.specs.Differences.{EndsReplay, StopsReplayAt};
 ghost use Rattle.replays.specs.Expected.{AreRight};
-ghost use Rattle.replays.specs.Visits.{AreAt, IsFound, WentOn, is_found_at};
+ghost use Rattle.replays.specs.Visits.{AreAt, IsFoundPlace, WentOn, is_found_at};
 
 use crate::entries::place_in;
 use crate::stops::Stop;
@@ -39,7 +39,7 @@ fn reports<M: End>(master: &Option<M>) -> bool
 
 /// The first of these addresses that is this one, counted from 0.
 fn find(places: &[Address], place: Address) -> Option<usize>
-    ensures found { IfSome result (λ i. IsFound places.now place i) }
+    ensures found { IfSome result (λ i. IsFoundPlace places.now place i) }
     ensures none { IfNone result (list_any (λ a. same_address a place) places.now ≡ false) }
 {
     for i in 0..places.len() {
@@ -70,7 +70,7 @@ fn go_on<M: End, S: End>(
     ensures made { option_map M.made master.new ≡ option_map M.made master.old }
     ensures ok { IfOk result (λ next. WentOn (option_map M.rules master.old) (map S.rules slaves.old) entries.now at next) }
     ensures ends { IfOk result (λ next. AreAt M.End S.End master.new slaves.new (take next entries.now)) }
-    ensures err { IfErr result (λ stop. StopsAt (option_map M.rules master.old) (map S.rules slaves.old) entries.now stop) }
+    ensures err { IfErr result (λ stop. StopsReplayAt (option_map M.rules master.old) (map S.rules slaves.old) entries.now stop) }
 {
     let entry = &entries[at];
     let Some(place) = place_in(entry) else {
@@ -101,7 +101,7 @@ pub(crate) fn go_through<M: End, S: End>(
     requires places { places.now ≡ places_of (map S.rules slaves.old) }
     requires apart { Apart (hosted (option_map M.rules master.old) (map S.rules slaves.old)) }
     requires ends { AreAt M.End S.End master.old slaves.old [] }
-    ensures result { Ends (option_map M.rules master.old) (map S.rules slaves.old) entries.now result }
+    ensures result { EndsReplay (option_map M.rules master.old) (map S.rules slaves.old) entries.now result }
     ensures rules { option_map M.rules master.new ≡ option_map M.rules master.old }
     ensures made { option_map M.made master.new ≡ option_map M.made master.old }
     ensures stands { OnOk result (IfSome master.new (λ m. M.stands m (events_at (M.rules m).place entries.now))) }

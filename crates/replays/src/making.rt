@@ -4,11 +4,11 @@ ghost use Rattle.std.specs.Prelude.{◌≡◌, ◌≤◌, ◌+◌, ◌++◌, All
 ghost use Rattle.std.specs.Option.{option_map};
 ghost use Rattle.slave_desc.specs.Descriptions.{IsDesc};
 ghost use Rattle.scenario.specs.Sound.{IsScenario};
-ghost use Rattle.master_core.specs.Standing.{setup_of};
+ghost use Rattle.master_core.specs.Standing.{core_setup};
 ghost use Rattle.master_spec.specs.Setup.{setup_from};
 ghost use Rattle.rounds.specs.Rounds.{places_of};
 ghost use Rattle.host.specs.Hosting.{hosted_from, is_hosted, master_of, slave_rules, slaves_of};
-ghost use Rattle.replays.specs.Visits.{IsNew};
+ghost use Rattle.replays.specs.Visits.{IsNewEnd};
 
 use crate::copies::copied_desc;
 use config_plan::plan;
@@ -34,7 +34,7 @@ fn slave_of(alloc: Global, scenario: &Scenario, desc: &SlaveDesc) -> Result<Slav
     requires desc { IsDesc desc.now }
     requires micro { (1 ≤ scenario.now.micro) × (scenario.now.micro ≤ 1000) }
     ensures rules { IfOk result (λ end. ⟦<SlaveEnd as End>⟧.rules end ≡ slave_rules scenario.now desc.now) }
-    ensures fresh { IfOk result (λ end. IsNew ⟦<SlaveEnd as End>⟧ end) }
+    ensures fresh { IfOk result (λ end. IsNewEnd ⟦<SlaveEnd as End>⟧ end) }
 {
     let copy = copied_desc(alloc, desc)?;
     let end = new_slave(alloc, copy, scenario.micro)?;
@@ -56,7 +56,7 @@ fn add_slaves(
     requires number { (1 ≤ slave) × (slave + length descs.now ≤ 17) }
     ensures rules { OnOk result (map ⟦<SlaveEnd as End>⟧.rules ends.new.items
         ≡ map ⟦<SlaveEnd as End>⟧.rules ends.old.items ++ map (slave_rules scenario.now) (hosted_from hosted slave descs.now)) }
-    ensures fresh { All (IsNew ⟦<SlaveEnd as End>⟧) ends.old.items → OnOk result (All (IsNew ⟦<SlaveEnd as End>⟧) ends.new.items) }
+    ensures fresh { All (IsNewEnd ⟦<SlaveEnd as End>⟧) ends.old.items → OnOk result (All (IsNewEnd ⟦<SlaveEnd as End>⟧) ends.new.items) }
 {
     let [desc, rest @ ..] = descs else {
         return Ok(());
@@ -76,7 +76,7 @@ pub(crate) fn new_slaves(
 ) -> Result<Vec<SlaveEnd>, OutOfMemory>
     requires { IsScenario scenario.now }
     ensures rules { IfOk result (λ ends. map ⟦<SlaveEnd as End>⟧.rules ends.items ≡ slaves_of scenario.now hosted) }
-    ensures fresh { IfOk result (λ ends. All (IsNew ⟦<SlaveEnd as End>⟧) ends.items) }
+    ensures fresh { IfOk result (λ ends. All (IsNewEnd ⟦<SlaveEnd as End>⟧) ends.items) }
 {
     let mut ends = Vec::new(alloc);
     let descs = scenario.slaves.as_slice();
@@ -92,8 +92,8 @@ pub(crate) fn new_master(
 ) -> Result<Option<MasterCore>, OutOfMemory>
     requires { IsScenario scenario.now }
     ensures rules { IfOk result (λ master. option_map ⟦<MasterCore as End>⟧.rules master ≡ master_of scenario.now hosted) }
-    ensures made { IfOk result (λ master. IfSome master (λ m. setup_of m ≡ setup_from scenario.now)) }
-    ensures fresh { IfOk result (λ master. IfSome master (λ m. IsNew ⟦<MasterCore as End>⟧ m)) }
+    ensures made { IfOk result (λ master. IfSome master (λ m. core_setup m ≡ setup_from scenario.now)) }
+    ensures fresh { IfOk result (λ master. IfSome master (λ m. IsNewEnd ⟦<MasterCore as End>⟧ m)) }
 {
     if !hosted.master {
         return Ok(None);

@@ -2,7 +2,7 @@
 
 ghost use Rattle.std.specs.Prelude.{◌≡◌, IfOk};
 ghost use Rattle.scenario.specs.Sound.{IsScenario};
-ghost use Rattle.replays.specs.Replays.{Answers, IsReplayed, fault_of};
+ghost use Rattle.replays.specs.Replays.{Answers, IsReplayed, replay_fault};
 
 use crate::faults::ReplayFault;
 use crate::going::go_through;
@@ -24,7 +24,7 @@ pub struct Replayed {
 
 /// What is answered where going through so many entries stops here.
 fn fault_of(stop: Stop, entries: usize) -> ReplayFault
-    ensures { result ≡ fault_of stop entries }
+    ensures { result ≡ replay_fault stop entries }
 {
     match stop {
         Stop::Differs { at } => ReplayFault::Differs { at: at as u64 },

@@ -1,8 +1,8 @@
 //! One end and one of its entries.
 
-ghost use Rattle.std.specs.Prelude.{◌≡◌, ◌≤◌, ◌++◌, List, [], length, OnOk, true, false};
+ghost use Rattle.std.specs.Prelude.{◌≡◌, ◌≤◌, ◌++◌, List, [], length, OnOk};
 ghost use Rattle.dcp_ends.specs.Events.{Event};
-ghost use Rattle.replays.specs.Visits.{Passes, PassesUnless, event_in, sends_at};
+ghost use Rattle.replays.specs.Visits.{Passes, PassesUnless, event_in, visit_sends};
 
 use crate::sends::answer;
 use crate::stops::Stop;
@@ -12,7 +12,7 @@ use dcp_ends::{End, LogEntry};
 fn hear<E: End>(end: &mut E, entry: &LogEntry)
     requires { E.outs end.old ≡ [] }
     ensures stands { (events : List Event) → E.stands end.old events → E.stands end.new (events ++ event_in entry.now) }
-    ensures sends { (events : List Event) → E.stands end.old events → E.outs end.new ≡ sends_at (E.rules end.old) events entry.now }
+    ensures sends { (events : List Event) → E.stands end.old events → E.outs end.new ≡ visit_sends (E.rules end.old) events entry.now }
     ensures rules { E.rules end.new ≡ E.rules end.old }
     ensures made { E.made end.new ≡ E.made end.old }
 {
@@ -32,7 +32,7 @@ pub(crate) fn visit<E: End>(
 ) -> Result<usize, Stop>
     requires quiet { E.outs end.old ≡ [] }
     requires start { start ≤ length entries.now }
-    ensures passes { (events : List Event) → E.stands end.old events → Passes (E.rules end.old).place (sends_at (E.rules end.old) events entry.now) entries.now start result }
+    ensures passes { (events : List Event) → E.stands end.old events → Passes (E.rules end.old).place (visit_sends (E.rules end.old) events entry.now) entries.now start result }
     ensures quiet { OnOk result (E.outs end.new ≡ []) }
     ensures stands { (events : List Event) → E.stands end.old events → E.stands end.new (events ++ event_in entry.now) }
     ensures rules { E.rules end.new ≡ E.rules end.old }

@@ -12,7 +12,7 @@ use Rattle.pdu_layout.specs.Reading.{message_in}
 use Rattle.log_spec.specs.Messages.{Note, Request as Wanted, role_read}
 use Rattle.log_spec.specs.Log.{Parties, IsSlaveOf, same, role_heard, Requests, in_channel, sent_in}
 use Rattle.log_spec.proofs.Moves.{asked, requests_by_move}
-use Rattle.lockstep_laws.specs.Steps.{RowEvent, event_asked, Progress}
+use Rattle.lockstep_laws.specs.Steps.{RowEvent, event_asked, BenchProgress}
 use Rattle.master_spec.specs.declared.requests.Request.{Request}
 use Rattle.master_spec.specs.declared.reactions.Reaction.{Reaction}
 use Rattle.master_spec.specs.declared.reactions.Reaction.TheVariants.{Wait, Ask, Repeat}
@@ -27,8 +27,8 @@ use Rattle.master_spec.specs.Requests.{Asking, asks}
 use Rattle.master_spec.specs.Setup.{jobs_of}
 use Rattle.asking_laws.specs.Legal.{Does, AreLegal, GoesByRule}
 use Rattle.asking_laws.proofs.Legal.{own_rests, going}
-use Rattle.index_laws.specs.Index.{Placed, at, marks_of, code_of, first_at, again_at, told, ReadBack, IsAsked, IsAgain, Owes}
-use Rattle.index_laws.specs.Runs.{events, course_at, owed, IsFirst, where_it_is, IsRun}
+use Rattle.index_laws.specs.Index.{Placed, at, marks_of, code_of, first_at, again_at, askings_told, ReadBack, IsAsked, IsAgain, Owes}
+use Rattle.index_laws.specs.Runs.{events_of_master, course_at, owed, IsFirstSend, where_it_is, IsRun}
 use Rattle.index_laws.specs.Laws.{AreHeard}
 use Rattle.index_laws.specs.Follows.{mine, talk_with}
 use Rattle.index_laws.proofs.Laws.{listens}
@@ -64,7 +64,7 @@ pub record IsSentAtRest (id : ℕ) (bs : List Asking) (bytes : List ℕ) : Type 
   pub rest : (k : RowEvent) → event_for (code_of request) ≡ Some k → (progress bs).waiting ≡ false
 
 sent_at_rest : (limits : Limits) (js : List Job) (good : Request → Type 0) (id : ℕ) (marks' : List Mark) (xs : List Placed) (b : List ℕ) (more : List (List ℕ)) → ((r : Request) → good r → ReadBack id r)
-    → Owes good id (b ∷ more) marks' (marks_of xs) → AreLegal limits js marks' → IsSentAtRest id (told xs) b
+    → Owes good id (b ∷ more) marks' (marks_of xs) → AreLegal limits js marks' → IsSentAtRest id (askings_told xs) b
 sent_at_rest limits js good id marks' xs b (c ∷ more) back o l = absurd o
 sent_at_rest limits js good id marks' xs b [] back o l = by o.0 (o.1).0 ((o.1).1).0 ((o.1).1).1
   where
@@ -77,7 +77,7 @@ sent_at_rest limits js good id marks' xs b [] back o l = by o.0 (o.1).0 ((o.1).1
     repeats' : Wait ≡ Repeat → ⊥
     repeats' z = cc
 
-    by : (r : Request) → good r → cause_of (marks_of xs) ≡ None → IsAsked id b marks' (marks_of xs) r ⊎ IsAgain id b marks' (marks_of xs) r → IsSentAtRest id (told xs) b
+    by : (r : Request) → good r → cause_of (marks_of xs) ≡ None → IsAsked id b marks' (marks_of xs) r ⊎ IsAgain id b marks' (marks_of xs) r → IsSentAtRest id (askings_told xs) b
     by r g c (inl k) =
         let l' = subst P k.0 l in
         let j = job_there limits (marks_of xs) (Ask r) l'.0 (asks' r) in
@@ -94,14 +94,14 @@ sent_at_rest limits js good id marks' xs b [] back o l = by o.0 (o.1).0 ((o.1).1
           request = r;
           number = newest_number (marks_of xs);
           read = ap message_in (k.1).1 ∙ back r g (newest_number (marks_of xs)) (omega arith);
-          rest = λ e h. (ap (λ (v : Progress). v.waiting) (sym (progress_again 0 (told xs))) ∙ rest_open limits js (at 0 marks.Again ∷ xs) r e l' (own_rests limits marks.Again (marks_of xs) tt) c j.0 j.1 (open_latest (latest (marks_of xs)) r (k.1).0) h);
+          rest = λ e h. (ap (λ (v : BenchProgress). v.waiting) (sym (progress_again 0 (askings_told xs))) ∙ rest_open limits js (at 0 marks.Again ∷ xs) r e l' (own_rests limits marks.Again (marks_of xs) tt) c j.0 j.1 (open_latest (latest (marks_of xs)) r (k.1).0) h);
         }
 
 module _ (setup : Setup) (h : AreHeard setup) (w : Parties) (ps : ArePartiesOf setup w) (s : ℕ) (is : IsSlaveOf w s) (slave : Slave) (p : IsParty setup w s slave) where
   legal_at : (log : List LogEntry) (ms : List Mark) → slice_get (course_at setup log).talks (p.is_in).0 ≡ Some (talk_with slave ms) → AreLegal setup.limits (jobs_of setup slave) ms
-  legal_at log ms here = (with_at (λ u m. GoesByRule setup.limits (jobs_of setup u) (course_at setup log).phase m) (course_at setup log).talks (p.is_in).0 (talk_with slave ms) (going setup h.runs (events setup log)).goes here).legal
+  legal_at log ms here = (with_at (λ u m. GoesByRule setup.limits (jobs_of setup u) (course_at setup log).phase m) (course_at setup log).talks (p.is_in).0 (talk_with slave ms) (going setup h.runs (events_of_master setup log)).goes here).legal
 
-  at_rest : (log : List LogEntry) → IsRun setup log → (to : Address) (bytes : List ℕ) → IsFirst (owed setup log) to bytes → same_address to slave.address ≡ true → IsSentAtRest slave.id (asks setup.address slave log) bytes
+  at_rest : (log : List LogEntry) → IsRun setup log → (to : Address) (bytes : List ℕ) → IsFirstSend (owed setup log) to bytes → same_address to slave.address ≡ true → IsSentAtRest slave.id (asks setup.address slave log) bytes
   at_rest log run to bytes first here = by (course_at setup log).report refl
     where
       first' : (more : List (List ℕ)) × (mine slave.address (owed setup log) ≡ bytes ∷ more)
@@ -138,8 +138,8 @@ module _ (setup : Setup) (h : AreHeard setup) (w : Parties) (ps : ArePartiesOf s
   finds (Turn at') log run n k e v = absurd (no_note n e)
   finds (Sent from to bytes) log run n k e v = by (same_address from setup.address && same_address to slave.address) refl
     where
-      first : same_address from setup.address ≡ true → IsFirst (owed setup log) to bytes
-      first x = let Q : Bool → Type 0 = λ b. where_it_is b (IsFirst (owed setup log) to bytes) in subst Q x run.0
+      first : same_address from setup.address ≡ true → IsFirstSend (owed setup log) to bytes
+      first x = let Q : Bool → Type 0 = λ b. where_it_is b (IsFirstSend (owed setup log) to bytes) in subst Q x run.0
 
       by : (b : Bool) → (same_address from setup.address && same_address to slave.address) ≡ b → (progress (asks setup.address slave log)).waiting ≡ false
       by false x = absurd (no_note n (sym (not_sent w s from to (role_heard w bytes) (both from to ∙ x)) ∙ e))
@@ -155,5 +155,5 @@ module _ (setup : Setup) (h : AreHeard setup) (w : Parties) (ps : ArePartiesOf s
 
 pub rows_rest : RowsFindRest
 rows_rest setup h w ps e log run s is slave p n k mv v =
-    ap (λ (x : Progress). x.waiting) (progress_told setup h w ps log run.1 s is slave p)
+    ap (λ (x : BenchProgress). x.waiting) (progress_told setup h w ps log run.1 s is slave p)
     ∙ finds setup h w ps s is slave p e log run n k (requests_by_move w s e ∙ ap asked mv) v

@@ -5,7 +5,7 @@ use Rattle.std.proofs.lemmas.Bool.{eqb-true}
 use Rattle.dcp_types.specs.declared.limits.Limits.{Limits}
 use Rattle.pdu_layout.specs.declared.messages.Cfg.{Cfg}
 use Rattle.pdu_layout.specs.declared.messages.Cfg.TheVariants as cfg
-use Rattle.lockstep_laws.specs.Steps.{RowEvent, Otherwise, AtRest, told_by, is_on_its_way, view_after, Progress}
+use Rattle.lockstep_laws.specs.Steps.{RowEvent, Otherwise, AtRest, told_by, is_on_its_way, view_after, BenchProgress}
 use Rattle.master_spec.specs.declared.requests.Request.{Request}
 use Rattle.master_spec.specs.declared.requests.Request.TheVariants.{Change, Configure, AskState, AskError}
 use Rattle.master_spec.specs.declared.requests.Answer.TheVariants.{Nack, StateAck}
@@ -19,7 +19,7 @@ use Rattle.master_spec.specs.Marks.{Mark, Begun, Asked, Again, Answered, Hinted,
 use Rattle.master_spec.specs.Conversation.{is_state}
 use Rattle.master_spec.specs.Requests.{Asking, Decision, acked}
 use Rattle.asking_laws.specs.Legal.{Rests, IsLegal, AreLegal}
-use Rattle.index_laws.specs.Index.{Placed, marks_of, code_of, told}
+use Rattle.index_laws.specs.Index.{Placed, marks_of, code_of, askings_told}
 use Rattle.phase_laws.proofs.Now.{now, past, past_by, IsOf, split}
 use Rattle.phase_laws.proofs.Mains.{IsTried, AreMains, acked_yes, acked_more, of_main, change_slot, is_main_request}
 use Rattle.phase_laws.proofs.Counts.{reached_now}
@@ -107,14 +107,14 @@ passes_by_state tasks.Deregister s h = absurd cc
 abbrev Rest : List Asking → Type 0
 Rest bs = (progress bs).waiting ≡ false
 
-nothing_begun : (code : ℕ) (d : Option Decision) (v : Progress) → event_for code ≡ None → v.waiting ≡ false → (progress_after code d v).waiting ≡ false
+nothing_begun : (code : ℕ) (d : Option Decision) (v : BenchProgress) → event_for code ≡ None → v.waiting ≡ false → (progress_after code d v).waiting ≡ false
 nothing_begun code None v e h = h
 nothing_begun code (Some d) v e h = ap (λ (o : Option RowEvent). (view_after (told_by o (reply_by d.answer)) v).waiting) e ∙ by (reply_by d.answer)
   where
     by : (r : _) → (view_after (told_by None r) v).waiting ≡ false
     by r = grind (arith, h)
 
-refused : (code : ℕ) (d : Option Decision) (place c : ℕ) (v : Progress) → d ≡ Some (record { place = place; answer = Nack c }) → v.waiting ≡ false → (progress_after code d v).waiting ≡ false
+refused : (code : ℕ) (d : Option Decision) (place c : ℕ) (v : BenchProgress) → d ≡ Some (record { place = place; answer = Nack c }) → v.waiting ≡ false → (progress_after code d v).waiting ≡ false
 refused code d place c v e h = ap (λ (x : Option Decision). (progress_after code x v).waiting) e ∙ by (event_for code)
   where
     by : (o : Option RowEvent) → (view_after (told_by o Otherwise) v).waiting ≡ false
@@ -176,19 +176,19 @@ passed_rest limits js job xs bs l (state_told s q k home) p o h = by home
         absurd cc
 
 -- nothing is under way where the phase began
-pub rest_before : (limits : Limits) (js : List Job) (xs : List Placed) → AreLegal limits js (marks_of xs) → (progress (told (past xs))).waiting ≡ false
+pub rest_before : (limits : Limits) (js : List Job) (xs : List Placed) → AreLegal limits js (marks_of xs) → (progress (askings_told (past xs))).waiting ≡ false
 rest_before limits js [] l = refl
 rest_before limits js (x ∷ xs) l = by x.mark l.0 (rest_before limits js xs l.1)
   where
-    by : (m : Mark) → IsLegal limits js m (marks_of xs) → (progress (told (past xs))).waiting ≡ false → (progress (told (past_by m xs (past xs)))).waiting ≡ false
+    by : (m : Mark) → IsLegal limits js m (marks_of xs) → (progress (askings_told (past xs))).waiting ≡ false → (progress (askings_told (past_by m xs (past xs)))).waiting ≡ false
     by (Begun j) k f = begun (k.1).passed
       where
-        from_passed : HasPassed (marks_of xs) → (progress (told xs)).waiting ≡ false
+        from_passed : HasPassed (marks_of xs) → (progress (askings_told xs)).waiting ≡ false
         from_passed h =
             let P : List Asking → Type 0 = λ z. (progress z).waiting ≡ false in
-            subst P (sym (split limits js xs l.1)) (passed_rest limits js h.job xs (told (past xs)) l.1 (stage limits js xs l.1 k.0 h.cause_is h.job h.job_is) h.passed (k.1).free f)
+            subst P (sym (split limits js xs l.1)) (passed_rest limits js h.job xs (askings_told (past xs)) l.1 (stage limits js xs l.1 k.0 h.cause_is h.job h.job_is) h.passed (k.1).free f)
 
-        begun : (job_of (marks_of xs) ≡ None) ⊎ (verdict_of (marks_of xs) ≡ verdicts.Passed) → (progress (told xs)).waiting ≡ false
+        begun : (job_of (marks_of xs) ≡ None) ⊎ (verdict_of (marks_of xs) ≡ verdicts.Passed) → (progress (askings_told xs)).waiting ≡ false
         begun (inl e) = ap (λ (z : List Asking). (progress z).waiting) (none_asked limits js xs l.1 e).0
         begun (inr v) = from_passed (verdict_passed (marks_of xs) v)
     by (Asked r) k f = f
@@ -208,20 +208,20 @@ event_one job n AskError k e h = let z : None ≡ Some k = h in absurd cc
 
 -- xs end in the request for a row event, or in its repeat
 pub rest_open : (limits : Limits) (js : List Job) (xs : List Placed) (r : Request) (k : RowEvent) → AreLegal limits js (marks_of xs) → Rests limits (marks_of xs) → cause_of (marks_of xs) ≡ None → (job : Job) → job_of (marks_of xs) ≡ Some job
-    → latest (marks_of xs) ≡ latests.Asked r → event_for (code_of r) ≡ Some k → (progress (told xs)).waiting ≡ false
+    → latest (marks_of xs) ≡ latests.Asked r → event_for (code_of r) ≡ Some k → (progress (askings_told xs)).waiting ≡ false
 rest_open limits js xs r k l rs c job j o e = by (open_stage job (marks_of xs) (now xs) r o (stage limits js xs l rs c job j))
   where
     P : List Asking → Type 0
     P z = (progress z).waiting ≡ false
 
     Q : List Asking → Type 0
-    Q z = Rest (z ++ told (past xs))
+    Q z = Rest (z ++ askings_told (past xs))
 
-    by : Main job r None (now xs) ⊎ Question job r None (now xs) → (progress (told xs)).waiting ≡ false
+    by : Main job r None (now xs) ⊎ Question job r None (now xs) → (progress (askings_told xs)).waiting ≡ false
     by (inl m) =
         let z = event_one job (acked m.ms) r k m.slot e in
-        let f = tried_mains job m.ms (told (past xs)) m.mains z (rest_before limits js xs l) in
-        let g : Rest ((m.newest ∷ m.ms) ++ told (past xs)) = ap (λ (d : Option Decision). (progress_after (m.newest).code d (progress (m.ms ++ told (past xs)))).waiting) m.decided ∙ f in
+        let f = tried_mains job m.ms (askings_told (past xs)) m.mains z (rest_before limits js xs l) in
+        let g : Rest ((m.newest ∷ m.ms) ++ askings_told (past xs)) = ap (λ (d : Option Decision). (progress_after (m.newest).code d (progress (m.ms ++ askings_told (past xs)))).waiting) m.decided ∙ f in
         subst P (sym (split limits js xs l)) (subst Q (sym m.is) g)
     by (inr q) = absurd (question r e q.asks)
       where

@@ -1,12 +1,11 @@
 //! A round of several ends: each is looked at for its datagrams, and then each has its turn.
 
-ghost use Rattle.std.specs.Prelude.{◌≡◌, ◌≤◌, ◌<◌, ◌^◌, [], ◌∷◌, length, map, IsTrue, OnOk, OnErr, IfOk, IfSome, List, ℕ};
+ghost use Rattle.std.specs.Prelude.{◌≡◌, ◌≤◌, ◌<◌, ◌^◌, [], ◌∷◌, map, IsTrue, OnOk, OnErr, IfOk, IfSome, List, ℕ};
 ghost use Rattle.std.specs.List.{All};
 ghost use Rattle.std.specs.Option.{option_map};
-ghost use Rattle.dcp_ends.specs.Events.{Rules};
 ghost use Rattle.dcp_ends.specs.Logs.{IsInRange};
 ghost use Rattle.dcp_ends.specs.declared.entries.LogEntry.{LogEntry};
-ghost use Rattle.rounds.specs.Steps.{Added, Caused, AddsPart};
+ghost use Rattle.rounds.specs.Steps.{Caused, AddsPart};
 ghost use Rattle.rounds.specs.Rounds.{IsLook, IsLookPart, IsTurn, IsTurnPart, EachEnd, EachPart, IfFirst, IsLooks, IsLooksPart, IsTurns, IsTurnsPart, IsRound, IsRoundPart, hosted, has_report, places_of};
 ghost use Rattle.rounds.specs.Told.{IsTold, IsToldUpTo, AllTold, AllToldUpTo, Apart};
 

@@ -1,6 +1,6 @@
 //! Room for one datagram, and for its entry in the log.
 
-ghost use Rattle.std.specs.Prelude.{◌≡◌, ◌≤◌, [], take, vec_len, OnOk, OnErr};
+ghost use Rattle.std.specs.Prelude.{◌≡◌, ◌≤◌, [], take, vec_len, OnOk};
 ghost use Rattle.std.specs.Vec.{vec_capacity};
 
 use dcp_ends::Bytes;

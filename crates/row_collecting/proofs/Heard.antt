@@ -9,7 +9,7 @@ use Rattle.pdu_layout.specs.Fields.FieldValue.{Number, Bytes}
 use Rattle.pdu_layout.specs.Message.{Message}
 use Rattle.pdu_layout.specs.Reading.{message_in}
 use Rattle.log_spec.specs.Messages.{Note, Value, role_read}
-use Rattle.master_spec.specs.News.{Brings, acks, nacks, state_acks, error_acks, log_acks, hints, brings, Nothing, news_by, news_in, news_of}
+use Rattle.master_spec.specs.News.{Brings, acks, nacks, state_acks, error_acks, log_acks, hints, news_brought, Nothing, news_by, news_in, news_of}
 
 -- a data message, and what the laws note of it
 abbrev pub outputs_message : (number id : ℕ) → List ℕ → Message
@@ -43,7 +43,7 @@ module _ (number id : ℕ) (payload : List ℕ) where
   hints_none (Number x ∷ Number y ∷ []) h = cc
   hints_none _ h = cc
 
-  brings_three : (vs : List FieldValue) → brings vs ≡ Brings number id payload → vs ≡ Number number ∷ Number id ∷ Bytes payload ∷ []
+  brings_three : (vs : List FieldValue) → news_brought vs ≡ Brings number id payload → vs ≡ Number number ∷ Number id ∷ Bytes payload ∷ []
   brings_three (Number x ∷ Number y ∷ Bytes e ∷ []) h =
       let p : x ≡ number = cc in
       let q : y ≡ id = cc in
@@ -55,7 +55,7 @@ module _ (number id : ℕ) (payload : List ℕ) where
   news_three code vs h = by (code == 176) (code == 177) (code == 178) (code == 179) (code == 180) (code == 224) (code == 240) refl h
     where
       by : (b c d e f g k : Bool) → (code == 240) ≡ k
-          → (if b then acks vs else if c then nacks vs else if d then state_acks vs else if e then error_acks vs else if f then log_acks vs else if g then hints vs else if k then brings vs else Nothing) ≡ Brings number id payload
+          → (if b then acks vs else if c then nacks vs else if d then state_acks vs else if e then error_acks vs else if f then log_acks vs else if g then hints vs else if k then news_brought vs else Nothing) ≡ Brings number id payload
           → (code ≡ 240) × (vs ≡ Number number ∷ Number id ∷ Bytes payload ∷ [])
       by true c d e f g k p h = absurd (acks_none vs h)
       by false true d e f g k p h = absurd (nacks_none vs h)

@@ -22,16 +22,16 @@ use Rattle.plan_spec.specs.declared.links.DataLink.{DataLink}
 use Rattle.plan_spec.specs.declared.pairs.Pair.{Pair}
 use Rattle.plan_spec.specs.Links.{positions, wire_links}
 use Rattle.plan_spec.specs.Setup.{numbered, net_info, input_at, output_at, told_interval, incoming, outgoing}
-use Rattle.plan_laws.specs.Taking.{IsSlaveOf}
+use Rattle.plan_laws.specs.Taking.{IsScenarioSlave}
 use Rattle.plan_laws.proofs.Lists.{Pairwise, each_weaker, each_append, each_filter, pairwise_from_all}
 use Rattle.plan_laws.proofs.Links.{IsWireLink, links_wired, links_to, links_of}
 use Rattle.plan_laws.proofs.Planned.{slave_there}
 use Rattle.master_spec.specs.Course.{values_in}
 use Rattle.slave_wiring.specs.Changes.{Change, Set, output, entries}
 use Rattle.slave_wiring.specs.Refusals.{port_with}
-use Rattle.slave_wiring.specs.Payloads.{kind_of, types_in, cut, output_value, payload}
+use Rattle.slave_wiring.specs.Payloads.{port_type, types_in, cut_values, output_value, payload}
 use Rattle.slave_course.specs.Wired.{changes_with, changes_after, planned_changes}
-use Rattle.slave_links.specs.Links.{every_of, from_of, interval_of, sender_of}
+use Rattle.slave_links.specs.Links.{link_interval, from_of, interval_of, sender_of}
 use Rattle.slave_links.proofs.Found.{watch_found}
 use Rattle.slave_links.proofs.Parts.{after_append, each_numbered}
 use Rattle.slave_links.proofs.Planned.{first, planned_is, IsOf, IsSilent, told_silent, silent_of, outgoing_of}
@@ -88,7 +88,7 @@ module _ (sc : Scenario) (s : ℕ) (d : SlaveDesc) where
   pushed_reverse (p ∷ ps) base =
       pushed_reverse ps (p.vr ∷ base) ∙ ap (λ (z : List ℕ). z ++ map (λ (p : Port). p.vr) ps) (reverse-append (p.vr ∷ []) base) ∙ append_assoc (reverse base) (p.vr ∷ []) (map (λ (p : Port). p.vr) ps)
 
-  planned_entries : IsSlaveOf sc s d → reverse (entries output s (planned_changes sc s d)) ≡ map (λ (p : Port). p.vr) d.outputs
+  planned_entries : IsScenarioSlave sc s d → reverse (entries output s (planned_changes sc s d)) ≡ map (λ (p : Port). p.vr) d.outputs
   planned_entries of =
       let there = slave_there sc.slaves s d (of.sound).slaves of.slave in
       let few = ((of.sound).few_slaves).1 in
@@ -114,20 +114,20 @@ skipped v f vr (q ∷ qs) h =
     let e : (vr == q.vr) ≡ false = grind (arith, nat_tests, x) in
     ap (λ (b : Bool). (if b then v else f q.vr) ∷ map (λ k. if vr == k then v else f k) (map (λ (p : Port). p.vr) qs)) e ∙ ap (λ z. f q.vr ∷ z) (skipped v f vr qs h.1)
 
-kind_if : (p : Port) (o : Option Port) (b : Bool) → kind_of (if b then Some p else o) ≡ (if b then p.kind else kind_of o)
+kind_if : (p : Port) (o : Option Port) (b : Bool) → port_type (if b then Some p else o) ≡ (if b then p.kind else port_type o)
 kind_if p o true = refl
 kind_if p o false = refl
 
-kinds_back : (ports : List Port) → Pairwise (λ (p q : Port). p.vr ≢ q.vr) ports → map (λ vr. kind_of (port_with vr ports)) (map (λ (p : Port). p.vr) ports) ≡ map (λ (p : Port). p.kind) ports
+kinds_back : (ports : List Port) → Pairwise (λ (p q : Port). p.vr ≢ q.vr) ports → map (λ vr. port_type (port_with vr ports)) (map (λ (p : Port). p.vr) ports) ≡ map (λ (p : Port). p.kind) ports
 kinds_back [] h = refl
 kinds_back (p ∷ ps) h =
     each (map (λ (q : Port). q.vr) (p ∷ ps))
-    ∙ ap (λ (b : Bool). (if b then p.kind else kind_of (port_with p.vr ps)) ∷ map (λ vr. if p.vr == vr then p.kind else kind_of (port_with vr ps)) (map (λ (q : Port). q.vr) ps)) (eq-eqb p.vr p.vr refl)
-    ∙ ap (λ (z : List DataType). p.kind ∷ z) (skipped p.kind (λ vr. kind_of (port_with vr ps)) p.vr ps h.0 ∙ kinds_back ps h.1)
+    ∙ ap (λ (b : Bool). (if b then p.kind else port_type (port_with p.vr ps)) ∷ map (λ vr. if p.vr == vr then p.kind else port_type (port_with vr ps)) (map (λ (q : Port). q.vr) ps)) (eq-eqb p.vr p.vr refl)
+    ∙ ap (λ (z : List DataType). p.kind ∷ z) (skipped p.kind (λ vr. port_type (port_with vr ps)) p.vr ps h.0 ∙ kinds_back ps h.1)
   where
-    each : (vrs : List ℕ) → map (λ vr. kind_of (port_with vr (p ∷ ps))) vrs ≡ map (λ vr. if p.vr == vr then p.kind else kind_of (port_with vr ps)) vrs
+    each : (vrs : List ℕ) → map (λ vr. port_type (port_with vr (p ∷ ps))) vrs ≡ map (λ vr. if p.vr == vr then p.kind else port_type (port_with vr ps)) vrs
     each [] = refl
-    each (vr ∷ vrs) = ap (λ (k : DataType). k ∷ map (λ vr. kind_of (port_with vr (p ∷ ps))) vrs) (kind_if p (port_with vr ps) (p.vr == vr)) ∙ ap (λ (z : List DataType). (if p.vr == vr then p.kind else kind_of (port_with vr ps)) ∷ z) (each vrs)
+    each (vr ∷ vrs) = ap (λ (k : DataType). k ∷ map (λ vr. port_type (port_with vr (p ∷ ps))) vrs) (kind_if p (port_with vr ps) (p.vr == vr)) ∙ ap (λ (z : List DataType). (if p.vr == vr then p.kind else port_type (port_with vr ps)) ∷ z) (each vrs)
 
 values_back : (ports : List Port) (vs : List ℤ) → Pairwise (λ (p q : Port). p.vr ≢ q.vr) ports → length vs ≡ length ports → map (λ vr. output_value vr ports vs) (map (λ (p : Port). p.vr) ports) ≡ vs
 values_back [] [] h n = refl
@@ -138,7 +138,7 @@ values_back (p ∷ ps) (v ∷ vs) h n =
     ∙ ap (λ (z : List ℤ). v ∷ z) (skipped v (λ vr. output_value vr ps vs) p.vr ps h.0 ∙ values_back ps vs h.1 (omega (arith, n)))
 
 -- ---- values
-cut_is : (kinds : List DataType) (bytes : List ℕ) → values_in kinds bytes ≡ cut kinds bytes
+cut_is : (kinds : List DataType) (bytes : List ℕ) → values_in kinds bytes ≡ cut_values kinds bytes
 cut_is [] bytes = refl
 cut_is (kind ∷ kinds) bytes = ap (λ (z : List ℤ). value_in kind (take (width kind) bytes) ∷ z) (cut_is kinds (drop (width kind) bytes))
 
@@ -158,21 +158,21 @@ fits_if_shown sc rows s d r k vs h = by (state sc rows s d r k) h
     by (Err code) h = absurd cc
 
 -- the payload of what is shown, cut into the values of the outputs
-pub watch_back : (sc : Scenario) (s : ℕ) (d : SlaveDesc) → IsSlaveOf sc s d → (rows : List (List ℤ)) (r k : ℕ) (vs : List ℤ) → shown sc rows s d r k ≡ Ok vs → values_in (map (λ (p : Port). p.kind) d.outputs) (payload d s (planned_changes sc s d) vs) ≡ vs
+pub watch_back : (sc : Scenario) (s : ℕ) (d : SlaveDesc) → IsScenarioSlave sc s d → (rows : List (List ℤ)) (r k : ℕ) (vs : List ℤ) → shown sc rows s d r k ≡ Ok vs → values_in (map (λ (p : Port). p.kind) d.outputs) (payload d s (planned_changes sc s d) vs) ≡ vs
 watch_back sc s d of rows r k vs h =
     let fit = fits_if_shown sc rows s d r k vs h in
     let there = slave_there sc.slaves s d (of.sound).slaves of.slave in
     let apart = pairwise_from_all (λ (p q : Port). p.vr ≢ q.vr) d.outputs (there.desc).outputs_apart in
     let es = entries output s (planned_changes sc s d) in
     let vrs = planned_entries sc s d of in
-    let types : types_in d.outputs es ≡ map (λ (p : Port). p.kind) d.outputs = ap (map (λ vr. kind_of (port_with vr d.outputs))) vrs ∙ kinds_back d.outputs apart in
+    let types : types_in d.outputs es ≡ map (λ (p : Port). p.kind) d.outputs = ap (map (λ vr. port_type (port_with vr d.outputs))) vrs ∙ kinds_back d.outputs apart in
     let bytes = payload d s (planned_changes sc s d) vs in
-    cut_is (map (λ (p : Port). p.kind) d.outputs) bytes ∙ ap (λ (ks : List DataType). cut ks bytes) (sym types) ∙ read_back d s (planned_changes sc s d) vs fit
+    cut_is (map (λ (p : Port). p.kind) d.outputs) bytes ∙ ap (λ (ks : List DataType). cut_values ks bytes) (sym types) ∙ read_back d s (planned_changes sc s d) vs fit
     ∙ ap (map (λ vr. output_value vr d.outputs vs)) vrs ∙ values_back d.outputs vs apart (shown_length sc s d r (state sc rows s d r k) vs there.desc h)
 
 -- ---- the watch link
-pub watch_interval : (sc : Scenario) (s : ℕ) (d : SlaveDesc) → IsSlaveOf sc s d → interval_of sc s ≡ 1
-watch_interval sc s d of = let there = slave_there sc.slaves s d (of.sound).slaves of.slave in ap every_of (watch_found sc of.sound s there.first there.last)
+pub watch_interval : (sc : Scenario) (s : ℕ) (d : SlaveDesc) → IsScenarioSlave sc s d → interval_of sc s ≡ 1
+watch_interval sc s d of = let there = slave_there sc.slaves s d (of.sound).slaves of.slave in ap link_interval (watch_found sc of.sound s there.first there.last)
 
-pub watch_sender : (sc : Scenario) (s : ℕ) (d : SlaveDesc) → IsSlaveOf sc s d → sender_of sc s ≡ s
+pub watch_sender : (sc : Scenario) (s : ℕ) (d : SlaveDesc) → IsScenarioSlave sc s d → sender_of sc s ≡ s
 watch_sender sc s d of = let there = slave_there sc.slaves s d (of.sound).slaves of.slave in ap from_of (watch_found sc of.sound s there.first there.last)

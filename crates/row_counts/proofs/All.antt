@@ -14,10 +14,10 @@ use Rattle.master_spec.specs.declared.setups.Setup.{Setup}
 use Rattle.master_spec.specs.Setup.{jobs_of}
 use Rattle.master_spec.specs.Jobs.{Job}
 use Rattle.master_spec.specs.Marks.{Turned, open_request, verdict_of}
-use Rattle.master_spec.specs.Conversation.{after}
-use Rattle.master_spec.specs.Course.{Talk, Course, course, begin, is_passed_as, has_passed, is_settled, is_quiet, failed_by, failed, phases, with_next, with_report, decided, with_turns, decided_if, turned, still, after_turn, row_now, outputs_in, counted_at, counted}
+use Rattle.master_spec.specs.Conversation.{marks_after}
+use Rattle.master_spec.specs.Course.{CourseTalk, Course, course, begin, is_passed_as, has_passed, is_settled, is_quiet, failed_by, failed, phases, with_next, with_report, decided, with_turns, decided_if, course_turned, still, course_after_turn, row_now, talk_outputs, counted_at, counted_rows}
 use Rattle.asking_laws.proofs.Legal.{quiet_passed, turn_goes, going}
-use Rattle.index_laws.specs.Runs.{events}
+use Rattle.index_laws.specs.Runs.{events_of_master}
 use Rattle.index_laws.proofs.Runs.{step_gram, step_tick, step_still, talks_of}
 use Rattle.row_counts.specs.Laws.{FinishedHasAllRows}
 use Rattle.row_counts.proofs.Places.{row_here, places, job_places, due_at, onward, over, IsCountedBy, AreCounted, all_counted}
@@ -31,14 +31,14 @@ places_long setup slave runs = ap length (sym (job_places setup.steps setup.runs
     mapped (job ∷ js) = let h = mapped js in omega (arith, h)
 
 -- ---- all are quiet, and none has failed
-quiet_all : (setup : Setup) (runs : 1 ≤ setup.runs) (phase : ℕ) (talks : List Talk) → list_all is_quiet talks ≡ true → failed phase talks ≡ None → list_all has_passed talks ≡ true
+quiet_all : (setup : Setup) (runs : 1 ≤ setup.runs) (phase : ℕ) (talks : List CourseTalk) → list_all is_quiet talks ≡ true → failed phase talks ≡ None → list_all has_passed talks ≡ true
 quiet_all setup runs phase [] q f = refl
 quiet_all setup runs phase (u ∷ us) q f =
     let p = and_parts (is_quiet u) (list_all is_quiet us) q in
     let h = quiet_passed setup runs (open_request u.marks) (verdict_of u.marks) phase u.slave (failed phase us) f p.0 in
     ap (λ (v : Verdict). is_passed_as v && list_all has_passed us) (h.1).0 ∙ quiet_all setup runs phase us p.1 (h.1).1
 
-no_finish : (phase : ℕ) (talks : List Talk) (n : ℕ) → failed phase talks ≡ Some (reports.Finished n) → ⊥
+no_finish : (phase : ℕ) (talks : List CourseTalk) (n : ℕ) → failed phase talks ≡ Some (reports.Finished n) → ⊥
 no_finish phase [] n h = cc
 no_finish phase (u ∷ us) n h = by (verdict_of u.marks) h (λ z. no_finish phase us n z)
   where
@@ -68,7 +68,7 @@ module _ (setup : Setup) (runs : 1 ≤ setup.runs) (slave : Slave) (first : slic
   Stands phase n = HasCounted phase n ⊎ Awaits phase n
 
   -- and not all have passed it
-  abbrev pub StandsAt : (phase n : ℕ) → List Talk → Type 0
+  abbrev pub StandsAt : (phase n : ℕ) → List CourseTalk → Type 0
   StandsAt phase n talks = HasCounted phase n ⊎ (Awaits phase n × (list_all has_passed talks ≡ false))
 
   clash : (n : ℕ) → None ≡ Some n → ⊥
@@ -77,18 +77,18 @@ module _ (setup : Setup) (runs : 1 ≤ setup.runs) (slave : Slave) (first : slic
   same_some : (r n : ℕ) → Some r ≡ Some n → r ≡ n
   same_some r n z = cc
 
-  counts : (phase : ℕ) (talks : List Talk) (rows : List (List ℤ)) → row_now talks ≡ due setup phase → Stands phase (length rows) → StandsAt phase (length (counted talks rows)) talks
+  counts : (phase : ℕ) (talks : List CourseTalk) (rows : List (List ℤ)) → row_now talks ≡ due setup phase → Stands phase (length rows) → StandsAt phase (length (counted_rows talks rows)) talks
   counts phase talks rows now h = by (row_now talks) refl h
     where
-      grown : (row : ℕ) → length (rows ++ flat_map (outputs_in row) talks ∷ []) ≡ length rows + 1
-      grown row = length-append rows (flat_map (outputs_in row) talks ∷ [])
+      grown : (row : ℕ) → length (rows ++ flat_map (talk_outputs row) talks ∷ []) ≡ length rows + 1
+      grown row = length-append rows (flat_map (talk_outputs row) talks ∷ [])
 
       by : (o : Option ℕ) → row_now talks ≡ o → Stands phase (length rows) → StandsAt phase (length (counted_at o talks rows)) talks
       by None e (inl d) = inl d
       by None e (inr a) = absurd (clash (length rows) (sym e ∙ now ∙ a.here))
       by (Some row) e h = two (length rows == row) refl (list_all has_passed talks) refl h
         where
-          two : (a : Bool) → (length rows == row) ≡ a → (b : Bool) → list_all has_passed talks ≡ b → Stands phase (length rows) → StandsAt phase (length (if a && b then rows ++ flat_map (outputs_in row) talks ∷ [] else rows)) talks
+          two : (a : Bool) → (length rows == row) ≡ a → (b : Bool) → list_all has_passed talks ≡ b → Stands phase (length rows) → StandsAt phase (length (if a && b then rows ++ flat_map (talk_outputs row) talks ∷ [] else rows)) talks
           two true x b y (inl d) = let l = d.below row (sym now ∙ e) in let z = eqb-true (length rows) row x in absurd (omega (arith, l, z))
           two false x b y (inl d) = inl d
           two true x true y (inr a) =
@@ -125,11 +125,11 @@ module _ (setup : Setup) (runs : 1 ≤ setup.runs) (slave : Slave) (first : slic
       off : None ≡ Some (reports.Finished steps) → ⊥
       off z = cc
 
-  forget : (phase n : ℕ) (talks : List Talk) → StandsAt phase n talks → Stands phase n
+  forget : (phase n : ℕ) (talks : List CourseTalk) → StandsAt phase n talks → Stands phase n
   forget phase n talks (inl d) = inl d
   forget phase n talks (inr a) = inr a.0
 
-  passed_counted : (phase n : ℕ) (talks : List Talk) → list_all has_passed talks ≡ true → StandsAt phase n talks → HasCounted phase n
+  passed_counted : (phase n : ℕ) (talks : List CourseTalk) → list_all has_passed talks ≡ true → StandsAt phase n talks → HasCounted phase n
   passed_counted phase n talks e (inl d) = d
   passed_counted phase n talks e (inr a) = absurd (off (sym e ∙ a.1))
     where
@@ -153,14 +153,14 @@ module _ (setup : Setup) (runs : 1 ≤ setup.runs) (slave : Slave) (first : slic
           let other = eqb-false c.phase (phases setup) z in
           record { stands = next c.phase (length c.rows) (omega (arith, few, other)) d; done = no_report (with_next setup c) r }
 
-  turns : (c : Course) → c.report ≡ None → c.phase ≤ phases setup → StandsAt c.phase (length c.rows) c.talks → Fit (turned setup c)
+  turns : (c : Course) → c.report ≡ None → c.phase ≤ phases setup → StandsAt c.phase (length c.rows) c.talks → Fit (course_turned setup c)
   turns c r few s = by (list_all is_quiet c.talks) refl
     where
       by : (b : Bool) → list_all is_quiet c.talks ≡ b → Fit (decided_if setup b c)
       by true q = decides c r few s q (failed c.phase c.talks) refl
       by false q = record { stands = forget c.phase (length c.rows) c.talks s; done = no_report c r }
 
-  tick : (evs : List Event) → let c = course setup evs in c.report ≡ None → Fit c → Fit (after_turn setup c)
+  tick : (evs : List Event) → let c = course setup evs in c.report ≡ None → Fit c → Fit (course_after_turn setup c)
   tick evs r f = by (c.phase == 0) refl
     where
       c : Course
@@ -176,7 +176,7 @@ module _ (setup : Setup) (runs : 1 ≤ setup.runs) (slave : Slave) (first : slic
       begins z (inl h) = h
       begins z (inr a) = absurd (clash (length c.rows) (ap (due_at os) (sym z) ∙ a.here))
 
-      by : (b : Bool) → (c.phase == 0) ≡ b → Fit (if b then with_next setup (still c) else turned setup d)
+      by : (b : Bool) → (c.phase == 0) ≡ b → Fit (if b then with_next setup (still c) else course_turned setup d)
       by true z =
           let p = eqb-true c.phase 0 z in
           record { stands = next c.phase (length c.rows) (omega (arith, p)) (begins p f.stands); done = no_report (with_next setup (still c)) r }
@@ -184,7 +184,7 @@ module _ (setup : Setup) (runs : 1 ≤ setup.runs) (slave : Slave) (first : slic
           let g = going setup runs evs in
           turns d r g.few
           (counts c.phase d.talks c.rows
-          (now_due setup c.phase d.talks slave (slaves_stay (λ u. after setup.limits (Turned settled) u.marks) c.talks ∙ talks_of setup evs) first (turn_goes setup runs c.phase settled c.talks g.goes))
+          (now_due setup c.phase d.talks slave (slaves_stay (λ u. marks_after setup.limits (Turned settled) u.marks) c.talks ∙ talks_of setup evs) first (turn_goes setup runs c.phase settled c.talks g.goes))
           f.stands)
 
   pub fit : (evs : List Event) → Fit (course setup evs)
@@ -201,13 +201,13 @@ module _ (setup : Setup) (runs : 1 ≤ setup.runs) (slave : Slave) (first : slic
           let d = course setup (Gram from bytes ∷ evs) in
           let s = step_gram setup from bytes c e in
           let p : d.phase ≡ c.phase = ap (λ (x : Course). x.phase) s in
-          let n : d.rows ≡ counted d.talks c.rows = ap (λ (x : Course). x.rows) s ∙ ap (λ (x : Course). counted x.talks c.rows) (sym s) in
+          let n : d.rows ≡ counted_rows d.talks c.rows = ap (λ (x : Course). x.rows) s ∙ ap (λ (x : Course). counted_rows x.talks c.rows) (sym s) in
           let g = (going setup runs (Gram from bytes ∷ evs)).goes in
           let w = now_due setup d.phase d.talks slave (talks_of setup (Gram from bytes ∷ evs)) first g in
           let P : ℕ → Type 0 = λ q. Stands q (length c.rows) in
           let Q : ℕ → Type 0 = λ q. Stands d.phase q in
-          let k = forget d.phase (length (counted d.talks c.rows)) d.talks (counts d.phase d.talks c.rows w (subst P (sym p) f.stands)) in
+          let k = forget d.phase (length (counted_rows d.talks c.rows)) d.talks (counts d.phase d.talks c.rows w (subst P (sym p) f.stands)) in
           record { stands = subst Q (ap length (sym n)) k; done = no_report d (ap (λ (x : Course). x.report) s ∙ e) }
 
 pub finished_all : FinishedHasAllRows
-finished_all setup runs slave first log steps h = (fit setup runs slave first (events setup log)).done steps h
+finished_all setup runs slave first log steps h = (fit setup runs slave first (events_of_master setup log)).done steps h

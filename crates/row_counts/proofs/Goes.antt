@@ -16,15 +16,15 @@ use Rattle.master_spec.specs.declared.setups.Slave.{Slave}
 use Rattle.master_spec.specs.declared.setups.Setup.{Setup}
 use Rattle.master_spec.specs.declared.tasks.Task.{Task}
 use Rattle.master_spec.specs.declared.tasks.Task.TheVariants as tasks
-use Rattle.master_spec.specs.Tasks.{is_by_list, is_by_end, row_of}
+use Rattle.master_spec.specs.Tasks.{is_by_list, is_by_end, task_row}
 use Rattle.master_spec.specs.Jobs.{Job}
 use Rattle.master_spec.specs.Setup.{jobs_of}
-use Rattle.master_spec.specs.Marks.{Mark, Turned, acks_change, this_phase, configured, kept, is_reached, has_outputs, is_passed, job_of, verdict_of}
-use Rattle.master_spec.specs.Conversation.{after}
-use Rattle.master_spec.specs.Course.{Talk, Course, course, is_passed_as, has_passed, is_settled, is_quiet, failed, phases, with_next, with_report, decided, with_turns, decided_if, turned, still, after_turn, row_in_job, row_now, values_in, outputs_in, counted_at, counted}
+use Rattle.master_spec.specs.Marks.{Mark, Turned, acks_change, this_phase, settings_answered, kept, is_reached, has_row_outputs, is_passed, job_of, verdict_of}
+use Rattle.master_spec.specs.Conversation.{marks_after}
+use Rattle.master_spec.specs.Course.{CourseTalk, Course, course, is_passed_as, has_passed, is_settled, is_quiet, failed, phases, with_next, with_report, decided, with_turns, decided_if, course_turned, still, course_after_turn, row_in_job, row_now, values_in, talk_outputs, counted_at, counted_rows}
 use Rattle.asking_laws.specs.Legal.{GoesByRule}
 use Rattle.asking_laws.proofs.Legal.{turn_goes, going}
-use Rattle.index_laws.specs.Runs.{events, with_event, course_at}
+use Rattle.index_laws.specs.Runs.{events_of_master, with_event, course_at}
 use Rattle.index_laws.specs.Follows.{talk_with}
 use Rattle.index_laws.proofs.Runs.{step_gram, step_tick, step_still, talks_of, with_at}
 use Rattle.phase_laws.proofs.Tags.{HasPassed, verdict_passed}
@@ -33,7 +33,7 @@ use Rattle.row_counts.proofs.Kept.{Came}
 use Rattle.row_counts.proofs.Phases.{due, in_row, AllGo, talk_due, talk_of, now_due, slaves_stay, TalksCame, turns_came, talks_came}
 
 -- ---- who has passed the phase of a row keeps outputs of it
-row_task : (task : Task) (row : ℕ) → row_of task ≡ Some row → (is_by_list task ≡ false) × (is_by_end task ≡ false)
+row_task : (task : Task) (row : ℕ) → task_row task ≡ Some row → (is_by_list task ≡ false) × (is_by_end task ≡ false)
 row_task (tasks.Register uuid) row e = (refl, refl)
 row_task tasks.Setup row e = absurd cc
 row_task tasks.Prepare row e = (refl, refl)
@@ -48,13 +48,13 @@ row_task tasks.Reset row e = (refl, refl)
 row_task tasks.Adjust row e = absurd cc
 row_task tasks.Deregister row e = absurd cc
 
-passed_keeps : (job : Job) (marks : List Mark) (row : ℕ) → row_of job.task ≡ Some row → is_passed job marks ≡ true → is_some (kept row marks) ≡ true
-passed_keeps job marks row e h = let t = row_task job.task row e in ap (λ (o : Option ℕ). has_outputs o marks) (sym e) ∙ by (is_by_list job.task) (is_by_end job.task) t.0 t.1 h
+passed_keeps : (job : Job) (marks : List Mark) (row : ℕ) → task_row job.task ≡ Some row → is_passed job marks ≡ true → is_some (kept row marks) ≡ true
+passed_keeps job marks row e h = let t = row_task job.task row e in ap (λ (o : Option ℕ). has_row_outputs o marks) (sym e) ∙ by (is_by_list job.task) (is_by_end job.task) t.0 t.1 h
   where
-    by : (a b : Bool) → a ≡ false → b ≡ false → (if a then nat_le (length job.list) (configured marks) else if b then list_any acks_change (this_phase marks) else (is_reached job.task marks && has_outputs (row_of job.task) marks)) ≡ true → has_outputs (row_of job.task) marks ≡ true
+    by : (a b : Bool) → a ≡ false → b ≡ false → (if a then nat_le (length job.list) (settings_answered marks) else if b then list_any acks_change (this_phase marks) else (is_reached job.task marks && has_row_outputs (task_row job.task) marks)) ≡ true → has_row_outputs (task_row job.task) marks ≡ true
     by true b f g h = absurd cc
     by false true f g h = absurd cc
-    by false false f g h = (and_parts (is_reached job.task marks) (has_outputs (row_of job.task) marks) h).1
+    by false false f g h = (and_parts (is_reached job.task marks) (has_row_outputs (task_row job.task) marks) h).1
 
 some_of : (o : Option (List ℕ)) → is_some o ≡ true → (p : List ℕ) × (o ≡ Some p)
 some_of None h = absurd cc
@@ -65,10 +65,10 @@ passed_verdict verdicts.Going h = absurd cc
 passed_verdict verdicts.Passed h = refl
 passed_verdict (verdicts.Ended cause) h = absurd cc
 
-each_passed : (talks : List Talk) (i : ℕ) (u : Talk) → list_all has_passed talks ≡ true → slice_get talks i ≡ Some u → HasPassed u.marks
+each_passed : (talks : List CourseTalk) (i : ℕ) (u : CourseTalk) → list_all has_passed talks ≡ true → slice_get talks i ≡ Some u → HasPassed u.marks
 each_passed talks i u a e = verdict_passed u.marks (passed_verdict (verdict_of u.marks) (by talks i a e))
   where
-    by : (us : List Talk) (j : ℕ) → list_all has_passed us ≡ true → slice_get us j ≡ Some u → has_passed u ≡ true
+    by : (us : List CourseTalk) (j : ℕ) → list_all has_passed us ≡ true → slice_get us j ≡ Some u → has_passed u ≡ true
     by [] j a e = absurd cc
     by (v ∷ vs) zero a e = let z : v ≡ u = cc in ap has_passed (sym z) ∙ (and_parts (has_passed v) (list_all has_passed vs) a).0
     by (v ∷ vs) (suc j) a e = by vs j (and_parts (has_passed v) (list_all has_passed vs) a).1 e
@@ -77,7 +77,7 @@ came_in_phase : (setup : Setup) → 1 ≤ setup.runs → (i : ℕ) (slave : Slav
     → CameInPhase setup slave row payload log
 came_in_phase setup runs i slave row payload log marks c r =
     let earlier = course_at setup c.earlier in
-    let g = with_at (λ s m. GoesByRule setup.limits (jobs_of setup s) earlier.phase m) earlier.talks i (talk_with slave c.before) (going setup runs (events setup c.earlier)).goes c.here in
+    let g = with_at (λ s m. GoesByRule setup.limits (jobs_of setup s) earlier.phase m) earlier.talks i (talk_with slave c.before) (going setup runs (events_of_master setup c.earlier)).goes c.here in
     let k = in_row setup slave earlier.phase c.before row g (ap row_in_job c.job_is ∙ r) in
     record {
       later = c.later;
@@ -98,17 +98,17 @@ came_in_phase setup runs i slave row payload log marks c r =
     }
 
 -- ---- the values of a row
-abbrev part_of : ℕ → Option Talk → List ℕ
+abbrev part_of : ℕ → Option CourseTalk → List ℕ
 part_of row None = []
 part_of row (Some u) = unwrap_or (kept row u.marks) []
 
-values_same : (row : ℕ) (part : ℕ → List ℕ) (i : ℕ) (us : List Talk) → ((j : ℕ) (u : Talk) → slice_get us j ≡ Some u → part (i + j) ≡ unwrap_or (kept row u.marks) []) → flat_map (outputs_in row) us ≡ values_by part i (map (λ (u : Talk). u.slave) us)
+values_same : (row : ℕ) (part : ℕ → List ℕ) (i : ℕ) (us : List CourseTalk) → ((j : ℕ) (u : CourseTalk) → slice_get us j ≡ Some u → part (i + j) ≡ unwrap_or (kept row u.marks) []) → flat_map (talk_outputs row) us ≡ values_by part i (map (λ (u : CourseTalk). u.slave) us)
 values_same row part i [] h = refl
 values_same row part i (u ∷ us) h =
     let z : i + 0 ≡ i = omega arith in
     let here : unwrap_or (kept row u.marks) [] ≡ part i = sym (h 0 u refl) ∙ ap part z in
     let rest = values_same row part (i + 1) us (λ j v e. let n : i + 1 + j ≡ i + suc j = omega arith in ap part n ∙ h (suc j) v e) in
-    ap (λ (p : List ℕ). values_in u.slave.types p ++ flat_map (outputs_in row) us) here ∙ ap (λ (q : List ℤ). values_in u.slave.types (part i) ++ q) rest
+    ap (λ (p : List ℕ). values_in u.slave.types p ++ flat_map (talk_outputs row) us) here ∙ ap (λ (q : List ℤ). values_in u.slave.types (part i) ++ q) rest
 
 -- ---- one more row
 record Counted (setup : Setup) (log : List LogEntry) (rows new : List (List ℤ)) : Type 0 where
@@ -120,13 +120,13 @@ abbrev Counts : Setup → List LogEntry → (rows new : List (List ℤ)) → Typ
 Counts setup log rows new = (new ≡ rows) ⊎ Counted setup log rows new
 
 module _ (setup : Setup) (runs : 1 ≤ setup.runs) (slave : Slave) (first : slice_get setup.slaves 0 ≡ Some slave) where
-  counts : (log : List LogEntry) (rows : List (List ℤ)) (phase : ℕ) (talks : List Talk) → AllGo setup phase talks → map (λ u. u.slave) talks ≡ setup.slaves → TalksCame setup log talks → Counts setup log rows (counted talks rows)
+  counts : (log : List LogEntry) (rows : List (List ℤ)) (phase : ℕ) (talks : List CourseTalk) → AllGo setup phase talks → map (λ u. u.slave) talks ≡ setup.slaves → TalksCame setup log talks → Counts setup log rows (counted_rows talks rows)
   counts log rows phase talks g m h = by (row_now talks) refl
     where
       now : row_now talks ≡ due setup phase
       now = now_due setup phase talks slave m first g
 
-      whole : (row : ℕ) → row_now talks ≡ Some row → length rows ≡ row → list_all has_passed talks ≡ true → Counted setup log rows (rows ++ flat_map (outputs_in row) talks ∷ [])
+      whole : (row : ℕ) → row_now talks ≡ Some row → length rows ≡ row → list_all has_passed talks ≡ true → Counted setup log rows (rows ++ flat_map (talk_outputs row) talks ∷ [])
       whole row e n all = record {
         part = λ i. part_of row (slice_get talks i);
         came = came;
@@ -151,7 +151,7 @@ module _ (setup : Setup) (runs : 1 ≤ setup.runs) (slave : Slave) (first : slic
       by None e = inl refl
       by (Some row) e = two (length rows == row) refl (list_all has_passed talks) refl
         where
-          two : (a : Bool) → (length rows == row) ≡ a → (b : Bool) → list_all has_passed talks ≡ b → Counts setup log rows (if a && b then rows ++ flat_map (outputs_in row) talks ∷ [] else rows)
+          two : (a : Bool) → (length rows == row) ≡ a → (b : Bool) → list_all has_passed talks ≡ b → Counts setup log rows (if a && b then rows ++ flat_map (talk_outputs row) talks ∷ [] else rows)
           two true x true y = inr (whole row e (eqb-true (length rows) row x) y)
           two true x false y = inl refl
           two false x b y = inl refl
@@ -172,7 +172,7 @@ module _ (setup : Setup) (runs : 1 ≤ setup.runs) (slave : Slave) (first : slic
   turned_rows c true = decided_rows c (failed c.phase c.talks)
   turned_rows c false = refl
 
-  tick_counts : (e : LogEntry) (log : List LogEntry) → let c = course_at setup log in Counts setup (e ∷ log) c.rows (after_turn setup c).rows
+  tick_counts : (e : LogEntry) (log : List LogEntry) → let c = course_at setup log in Counts setup (e ∷ log) c.rows (course_after_turn setup c).rows
   tick_counts e log = by (c.phase == 0)
     where
       c : Course
@@ -184,13 +184,13 @@ module _ (setup : Setup) (runs : 1 ≤ setup.runs) (slave : Slave) (first : slic
       d : Course
       d = with_turns setup settled c
 
-      by : (b : Bool) → Counts setup (e ∷ log) c.rows (if b then with_next setup (still c) else turned setup d).rows
+      by : (b : Bool) → Counts setup (e ∷ log) c.rows (if b then with_next setup (still c) else course_turned setup d).rows
       by true = inl refl
-      by false = same_rows (e ∷ log) c.rows d.rows (turned setup d).rows (turned_rows d (list_all is_quiet d.talks))
-          (counts (e ∷ log) c.rows c.phase d.talks (turn_goes setup runs c.phase settled c.talks (going setup runs (events setup log)).goes)
-          (slaves_stay (λ u. after setup.limits (Turned settled) u.marks) c.talks ∙ talks_of setup (events setup log)) (turns_came setup e log settled c (talks_came setup log)))
+      by false = same_rows (e ∷ log) c.rows d.rows (course_turned setup d).rows (turned_rows d (list_all is_quiet d.talks))
+          (counts (e ∷ log) c.rows c.phase d.talks (turn_goes setup runs c.phase settled c.talks (going setup runs (events_of_master setup log)).goes)
+          (slaves_stay (λ u. marks_after setup.limits (Turned settled) u.marks) c.talks ∙ talks_of setup (events_of_master setup log)) (turns_came setup e log settled c (talks_came setup log)))
 
-  got_counts : (at from : Address) (bytes : List ℕ) (log : List LogEntry) (b : Bool) → (same_address at setup.address) ≡ b → Counts setup (Got at from bytes ∷ log) (course_at setup log).rows (course setup (with_event b (Gram from bytes) (events setup log))).rows
+  got_counts : (at from : Address) (bytes : List ℕ) (log : List LogEntry) (b : Bool) → (same_address at setup.address) ≡ b → Counts setup (Got at from bytes ∷ log) (course_at setup log).rows (course setup (with_event b (Gram from bytes) (events_of_master setup log))).rows
   got_counts at from bytes log false own = inl refl
   got_counts at from bytes log true own = by c.report refl
     where
@@ -198,33 +198,33 @@ module _ (setup : Setup) (runs : 1 ≤ setup.runs) (slave : Slave) (first : slic
       c = course_at setup log
 
       d : Course
-      d = course setup (Gram from bytes ∷ events setup log)
+      d = course setup (Gram from bytes ∷ events_of_master setup log)
 
       L : List LogEntry
       L = Got at from bytes ∷ log
 
       is : course_at setup L ≡ d
-      is = ap (λ (b : Bool). course setup (with_event b (Gram from bytes) (events setup log))) own
+      is = ap (λ (b : Bool). course setup (with_event b (Gram from bytes) (events_of_master setup log))) own
 
       by : (o : Option Report) → c.report ≡ o → Counts setup L c.rows d.rows
       by (Some r) e = inl (ap (λ (x : Course). x.rows) (step_still setup (Gram from bytes) c r e))
       by None e =
           let s = step_gram setup from bytes c e in
-          let n : d.rows ≡ counted d.talks c.rows = ap (λ (x : Course). x.rows) s ∙ ap (λ (x : Course). counted x.talks c.rows) (sym s) in
+          let n : d.rows ≡ counted_rows d.talks c.rows = ap (λ (x : Course). x.rows) s ∙ ap (λ (x : Course). counted_rows x.talks c.rows) (sym s) in
           let P : Course → Type 0 = λ x. TalksCame setup L x.talks in
-          same_rows L c.rows (counted d.talks c.rows) d.rows n
-          (counts L c.rows d.phase d.talks (going setup runs (Gram from bytes ∷ events setup log)).goes (talks_of setup (Gram from bytes ∷ events setup log)) (subst P is (talks_came setup L)))
+          same_rows L c.rows (counted_rows d.talks c.rows) d.rows n
+          (counts L c.rows d.phase d.talks (going setup runs (Gram from bytes ∷ events_of_master setup log)).goes (talks_of setup (Gram from bytes ∷ events_of_master setup log)) (subst P is (talks_came setup L)))
 
-  turn_counts : (at : Address) (log : List LogEntry) (b : Bool) → Counts setup (Turn at ∷ log) (course_at setup log).rows (course setup (with_event b Tick (events setup log))).rows
+  turn_counts : (at : Address) (log : List LogEntry) (b : Bool) → Counts setup (Turn at ∷ log) (course_at setup log).rows (course setup (with_event b Tick (events_of_master setup log))).rows
   turn_counts at log false = inl refl
   turn_counts at log true = by c.report refl
     where
       c : Course
       c = course_at setup log
 
-      by : (o : Option Report) → c.report ≡ o → Counts setup (Turn at ∷ log) c.rows (course setup (Tick ∷ events setup log)).rows
+      by : (o : Option Report) → c.report ≡ o → Counts setup (Turn at ∷ log) c.rows (course setup (Tick ∷ events_of_master setup log)).rows
       by (Some r) e = inl (ap (λ (x : Course). x.rows) (step_still setup Tick c r e))
-      by None e = same_rows (Turn at ∷ log) c.rows (after_turn setup c).rows (course setup (Tick ∷ events setup log)).rows (ap (λ (x : Course). x.rows) (step_tick setup c e)) (tick_counts (Turn at) log)
+      by None e = same_rows (Turn at ∷ log) c.rows (course_after_turn setup c).rows (course setup (Tick ∷ events_of_master setup log)).rows (ap (λ (x : Course). x.rows) (step_tick setup c e)) (tick_counts (Turn at) log)
 
   entry_counts : (e : LogEntry) (log : List LogEntry) → Counts setup (e ∷ log) (course_at setup log).rows (course_at setup (e ∷ log)).rows
   entry_counts (Sent from to bytes) log = inl refl

@@ -17,7 +17,7 @@ use Rattle.master_spec.specs.Jobs.{Job}
 use Rattle.master_spec.specs.News.{News, Answers, Hints, Nothing, news_of}
 use Rattle.master_spec.specs.News as news
 use Rattle.master_spec.specs.Marks.{Mark, Begun, Asked, Again, Answered, Hinted, Brought, Turned, Ended, or_else, kept, job_of, newest_number, open_request}
-use Rattle.master_spec.specs.Conversation.{if_open, reaction, done, after, extended}
+use Rattle.master_spec.specs.Conversation.{if_open, reaction, done, marks_after, extended}
 use Rattle.master_spec.specs.Course.{mark_for, mark_of_gram, begun_with, payload_size}
 use Rattle.index_laws.specs.Runs.{course_at}
 use Rattle.index_laws.specs.Follows.{talk_with}
@@ -158,10 +158,10 @@ module _ (setup : Setup) (i : ℕ) (slave : Slave) where
   came_done Repeat log marks h = came_dry Again log marks tt h
   came_done (GiveUp cause) log marks h = came_dry (Ended cause) log marks tt h
 
-  pub came_after : (limits : Limits) (m : Mark) (log : List LogEntry) (marks : List Mark) → AllCame log (m ∷ marks) → AllCame log (after limits m marks)
+  pub came_after : (limits : Limits) (m : Mark) (log : List LogEntry) (marks : List Mark) → AllCame log (m ∷ marks) → AllCame log (marks_after limits m marks)
   came_after limits m log marks h = came_done (reaction limits m marks) log (m ∷ marks) h
 
-  pub came_turned : (limits : Limits) (settled : Bool) (log : List LogEntry) (marks : List Mark) → AllCame log marks → AllCame log (after limits (Turned settled) marks)
+  pub came_turned : (limits : Limits) (settled : Bool) (log : List LogEntry) (marks : List Mark) → AllCame log marks → AllCame log (marks_after limits (Turned settled) marks)
   came_turned limits settled log marks h = came_after limits (Turned settled) log marks (came_dry (Turned settled) log marks tt h)
 
   pub came_begun : (limits : Limits) (o : Option Job) (log : List LogEntry) (marks : List Mark) → AllCame log marks → AllCame log (extended limits (begun_with o) marks)

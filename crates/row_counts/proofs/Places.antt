@@ -6,12 +6,12 @@ use Rattle.std.proofs.Math.Nat.{suc-mul}
 use Rattle.std.proofs.lemmas.List.{map-append}
 use Rattle.lockstep.specs.Lockstep.{row_index}
 use Rattle.master_spec.specs.declared.setups.Script.{Script}
-use Rattle.master_spec.specs.Tasks.{row_of}
+use Rattle.master_spec.specs.Tasks.{task_row}
 use Rattle.master_spec.specs.Jobs.{Job, step_jobs, run_jobs, between_jobs, jobs_from, jobs}
 use Rattle.master_spec.specs.Course.{row_in_job}
 
 abbrev pub row_here : Job → Option ℕ
-row_here job = row_of job.task
+row_here job = task_row job.task
 
 abbrev steps_from : (steps r a n : ℕ) → List Job
 steps_from steps r a n = flat_map (step_jobs steps r) (range_with_len a n)

@@ -10,7 +10,7 @@ use Rattle.master_spec.specs.declared.setups.Setup.{Setup}
 use Rattle.master_spec.specs.News.{Brings, news_of}
 use Rattle.master_spec.specs.Setup.{jobs_of}
 use Rattle.master_spec.specs.Jobs.{Job}
-use Rattle.master_spec.specs.Tasks.{row_of}
+use Rattle.master_spec.specs.Tasks.{task_row}
 use Rattle.master_spec.specs.Course.{values_in}
 use Rattle.index_laws.specs.Runs.{course_at}
 
@@ -30,7 +30,7 @@ pub record CameInPhase (setup : Setup) (slave : Slave) (row : ℕ) (payload : Li
   pub phase_is : (course_at setup earlier).phase ≡ before + 1
   pub job : Job
   pub job_is : slice_get (jobs_of setup slave) before ≡ Some job
-  pub row_is : row_of job.task ≡ Some row
+  pub row_is : task_row job.task ≡ Some row
 
 -- the values of a row: of each slave, from a place on, those in its payload
 abbrev pub values_by : (ℕ → List ℕ) → ℕ → List Slave → List ℤ

@@ -7,10 +7,10 @@ use Rattle.pdu_layout.specs.Fields.{FieldValue}
 use Rattle.pdu_layout.specs.Fields.FieldValue.{Number, Bytes}
 use Rattle.log_spec.specs.Messages.{Note}
 use Rattle.log_spec.specs.Log as logs
-use Rattle.lockstep_laws.specs.Steps.{RowEvent, Show, Step, Restart, AtRest, Otherwise, reply_with, reply_of, told_by, told_of, is_on_its_way, Progress, events_counted, view_after, view}
+use Rattle.lockstep_laws.specs.Steps.{RowEvent, Show, Step, Restart, AtRest, Otherwise, reply_with, reply_of, told_by, told_of, is_on_its_way, BenchProgress, events_counted, view_after, view}
 use Rattle.master_spec.specs.declared.requests.Answer.{Answer}
 use Rattle.master_spec.specs.declared.requests.Answer.TheVariants.{Ack, Nack, StateAck, ErrorAck, LogAck}
-use Rattle.master_spec.specs.News.{Answers, Nothing, acks, nacks, state_acks, error_acks, log_acks, hints, brings, news_by}
+use Rattle.master_spec.specs.News.{Answers, Nothing, acks, nacks, state_acks, error_acks, log_acks, hints, news_brought, news_by}
 use Rattle.log_spec.specs.Moves.{decided_exchanges}
 use Rattle.master_spec.specs.Requests.{Asking, Decision, asks, is_ack, is_acked_by, is_acked}
 use Rattle.master_hears.specs.Laws.{IsDecision, AreDecisions}
@@ -43,7 +43,7 @@ module _ (number sender : ℕ) (a : Answer) where
   no_hint (Number x ∷ Number y ∷ []) h = cc
   no_hint _ h = cc
 
-  no_bring : (vs : List FieldValue) → brings vs ≡ Answers number sender a → ⊥
+  no_bring : (vs : List FieldValue) → news_brought vs ≡ Answers number sender a → ⊥
   no_bring (Number x ∷ Number y ∷ Bytes e ∷ []) h = cc
   no_bring _ h = cc
 
@@ -54,7 +54,7 @@ module _ (number sender : ℕ) (a : Answer) where
       at k e r = ap (λ (i : ℕ). reply_with i vs) (eqb-true code k e) ∙ r
 
       by : (b c d e f g k : Bool) → (code == 176) ≡ b → (code == 177) ≡ c → (code == 178) ≡ d → (code == 179) ≡ e → (code == 180) ≡ f
-          → (if b then acks vs else if c then nacks vs else if d then state_acks vs else if e then error_acks vs else if f then log_acks vs else if g then hints vs else if k then brings vs else Nothing) ≡ Answers number sender a
+          → (if b then acks vs else if c then nacks vs else if d then state_acks vs else if e then error_acks vs else if f then log_acks vs else if g then hints vs else if k then news_brought vs else Nothing) ≡ Answers number sender a
           → reply_with code vs ≡ reply_by a
       by true c d e f g k p q r t u h = at 176 p (ack_reply vs h)
       by false true d e f g k p q r t u h = at 177 q (nack_reply vs h)
@@ -66,17 +66,17 @@ module _ (number sender : ℕ) (a : Answer) where
       by false false false false false false false p q r t u h = absurd cc
 
 -- ---- all of them
-pub viewed : (id : ℕ) (bs : List Asking) (ds : List logs.Decision) → AreDecisions id bs ds → view ds ≡ progress bs
+pub viewed : (id : ℕ) (bs : List Asking) (ds : List logs.DecidedRequest) → AreDecisions id bs ds → view ds ≡ progress bs
 viewed id [] ds h = ap view h
 viewed id (b ∷ bs) ds h = by (λ es k. viewed id bs es k) b.decision ds h
   where
-    by : ((es : List logs.Decision) → AreDecisions id bs es → view es ≡ progress bs) → (o : Option Decision) (ds : List logs.Decision) → IsDecision id b o (AreDecisions id bs) ds → view ds ≡ progress_after b.code o (progress bs)
+    by : ((es : List logs.DecidedRequest) → AreDecisions id bs es → view es ≡ progress bs) → (o : Option Decision) (ds : List logs.DecidedRequest) → IsDecision id b o (AreDecisions id bs) ds → view ds ≡ progress_after b.code o (progress bs)
     by f None ds k = f ds k
     by f (Some d) [] k = absurd k
     by f (Some d) (e ∷ ds) k =
         let r : reply_of e.answer ≡ reply_by d.answer = same_reply e.answer.number id d.answer e.answer.message.code e.answer.message.values (k.1).0 in
         let q : told_of e ≡ told_by (event_for b.code) (reply_by d.answer) = ap (λ (n : Note). told_by (event_for n.message.code) (reply_of e.answer)) k.0 ∙ ap (told_by (event_for b.code)) r in
-        ap (λ (v : Progress). view_after (told_of e) v) (f ds (k.1).1) ∙ ap (λ (t : _). view_after t (progress bs)) q
+        ap (λ (v : BenchProgress). view_after (told_of e) v) (f ds (k.1).1) ∙ ap (λ (t : _). view_after t (progress bs)) q
 
 pub progress_told : ProgressIsTold
 progress_told setup h w ps log run s is slave p = viewed s (asks setup.address slave log) (decided_exchanges w s log) (decisions setup h w ps s is slave p log run)
@@ -85,13 +85,13 @@ progress_told setup h w ps log run s is slave p = viewed s (asks setup.address s
 abbrev one_if : Bool → ℕ
 one_if b = if b then 1 else 0
 
-other_reply : (o : Option RowEvent) (v : Progress) → events_counted (view_after (told_by o Otherwise) v) ≡ events_counted v
+other_reply : (o : Option RowEvent) (v : BenchProgress) → events_counted (view_after (told_by o Otherwise) v) ≡ events_counted v
 other_reply (Some Show) v = refl
 other_reply (Some Step) v = refl
 other_reply (Some Restart) v = refl
 other_reply None v = refl
 
-rest_reply : (o : Option RowEvent) (v : Progress) → events_counted (view_after (told_by o AtRest) v) ≡ events_counted v
+rest_reply : (o : Option RowEvent) (v : BenchProgress) → events_counted (view_after (told_by o AtRest) v) ≡ events_counted v
 rest_reply (Some Show) v = refl
 rest_reply (Some Step) v = refl
 rest_reply (Some Restart) v = refl
@@ -101,7 +101,7 @@ none_more : (o : Option RowEvent) (n : ℕ) → n ≡ one_if (is_some o && false
 none_more None n = omega arith
 none_more (Some k) n = omega arith
 
-more : (o : Option RowEvent) (a : Answer) (v : Progress) → events_counted (view_after (told_by o (reply_by a)) v) ≡ one_if (is_some o && is_ack a) + events_counted v
+more : (o : Option RowEvent) (a : Answer) (v : BenchProgress) → events_counted (view_after (told_by o (reply_by a)) v) ≡ one_if (is_some o && is_ack a) + events_counted v
 more (Some Show) Ack v = omega arith
 more (Some Step) Ack v = omega arith
 more (Some Restart) Ack v = omega arith
@@ -115,7 +115,7 @@ more o (StateAck state) v = by (is_on_its_way state) ∙ none_more o (events_cou
     by true = other_reply o v
     by false = rest_reply o v
 
-one_more : (code : ℕ) (d : Option Decision) (v : Progress) → events_counted (progress_after code d v) ≡ one_if (is_some (event_for code) && is_acked_by d) + events_counted v
+one_more : (code : ℕ) (d : Option Decision) (v : BenchProgress) → events_counted (progress_after code d v) ≡ one_if (is_some (event_for code) && is_acked_by d) + events_counted v
 one_more code None v = none_more (event_for code) (events_counted v)
 one_more code (Some d) v = more (event_for code) d.answer v
 

@@ -3,7 +3,7 @@ use Rattle.std.specs.Prelude.{◌≡◌, ℕ, ◌==◌, ◌&&◌, Bool, false, i
 use Rattle.dcp_ends.specs.declared.entries.LogEntry.{LogEntry}
 use Rattle.log_spec.specs.Log.{Parties, IsSlaveOf}
 use Rattle.log_spec.specs.Moves.{decided_exchanges}
-use Rattle.lockstep_laws.specs.Steps.{RowEvent, Show, Step, Restart, Reply, Accepted, AtRest, Otherwise, is_on_its_way, told_by, Progress, events_counted, view_after, view}
+use Rattle.lockstep_laws.specs.Steps.{RowEvent, Show, Step, Restart, Reply, Accepted, AtRest, Otherwise, is_on_its_way, told_by, BenchProgress, events_counted, view_after, view}
 use Rattle.master_spec.specs.declared.requests.Answer.{Answer}
 use Rattle.master_spec.specs.declared.requests.Answer.TheVariants.{Ack, Nack, StateAck, ErrorAck, LogAck}
 use Rattle.master_spec.specs.declared.setups.Slave.{Slave}
@@ -28,12 +28,12 @@ reply_by (ErrorAck code) = Otherwise
 reply_by LogAck = Otherwise
 
 -- what one request tells, once it is decided
-abbrev pub progress_after : ℕ → Option Decision → Progress → Progress
+abbrev pub progress_after : ℕ → Option Decision → BenchProgress → BenchProgress
 progress_after code None v = v
 progress_after code (Some d) v = view_after (told_by (event_for code) (reply_by d.answer)) v
 
 -- how many row events the requests tell as done, and whether one is under way
-abbrev pub progress : List Asking → Progress
+abbrev pub progress : List Asking → BenchProgress
 progress [] = record { done = 0; waiting = false }
 progress (b ∷ bs) = progress_after b.code b.decision (progress bs)
 

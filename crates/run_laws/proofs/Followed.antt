@@ -12,18 +12,18 @@ use Rattle.log_spec.specs.Messages.{Note, Role, Request, Answer, Value, Else}
 use Rattle.log_spec.specs.Log.{Parties, IsSlaveOf, PartiesApart, same, role_heard}
 use Rattle.log_spec.specs.Moves.{Move, Asks, Comes, Tells, Hears, Brings, Turns, Rests, Other, sent_move, got_move}
 use Rattle.log_spec.proofs.Moves.{same_is}
-use Rattle.lockstep_laws.specs.Slaves.{Post, IsFirst, SlaveMay, SlaveRun, tail}
+use Rattle.lockstep_laws.specs.Slaves.{Post, IsFirstPost, SlaveMay, SlaveRun, tail}
 use Rattle.index_laws.proofs.ByEntry.{address_turned}
 use Rattle.rounds.specs.Told.{Follows}
-use Rattle.slave_spec.specs.declared.words.Setup.{Setup}
-use Rattle.slave_spec.specs.Slaves.{machine, rules_from}
+use Rattle.slave_spec.specs.declared.words.SlaveSetup.{SlaveSetup}
+use Rattle.slave_spec.specs.Slaves.{machine, slave_rules_from}
 use Rattle.slave_spec.specs.Transport as transport
-use Rattle.slave_meets.specs.Desks.{post, at, desk_at, events, got, ticked, sent_next}
+use Rattle.slave_meets.specs.Desks.{post, at, desk_at, events_of_slave, got, ticked, sent_next}
 use Rattle.slave_meets.proofs.Meets.{slave_is}
 use Rattle.master_meets.proofs.Asking.{same_as}
 use Rattle.run_laws.specs.Laws.{BeginsWithEvent, RestsWhenDone}
 
-module _ (setup : Setup) (w : Parties) (s : ℕ) (is : IsSlaveOf w s) (apart : PartiesApart w) (place : w.slave s ≡ setup.desc.address) where
+module _ (setup : SlaveSetup) (w : Parties) (s : ℕ) (is : IsSlaveOf w s) (apart : PartiesApart w) (place : w.slave s ≡ setup.desc.address) where
   here : (b : Address) → same b (w.slave s) ≡ same_address setup.desc.address b
   here b = same_as b (w.slave s) ∙ ap (same_address b) place ∙ address_turned b setup.desc.address
 
@@ -88,7 +88,7 @@ module _ (setup : Setup) (w : Parties) (s : ℕ) (is : IsSlaveOf w s) (apart : P
       by false e = tt
 
   -- ---- what is still to come
-  no_event : (from to : Address) (bytes : List ℕ) (rest : List LogEntry) (before more : List Event) → Sent from to bytes ∷ rest ≡ answered (rules_from setup) before more → ⊥
+  no_event : (from to : Address) (bytes : List ℕ) (rest : List LogEntry) (before more : List Event) → Sent from to bytes ∷ rest ≡ answered (slave_rules_from setup) before more → ⊥
   no_event from to bytes rest before [] h = cc
   no_event from to bytes rest before (Gram f b ∷ more) h = cc
   no_event from to bytes rest before (Tick ∷ more) h = cc
@@ -99,10 +99,10 @@ module _ (setup : Setup) (w : Parties) (s : ℕ) (is : IsSlaveOf w s) (apart : P
     pub split : posts ≡ first ∷ rest_of
     pub to_is : first.to ≡ to
     pub bytes_is : first.bytes ≡ bytes
-    pub comes : own_at setup.desc.address rest ≡ sent_by setup.desc.address rest_of ++ answered (rules_from setup) before (events_at setup.desc.address rest)
+    pub comes : own_at setup.desc.address rest ≡ sent_by setup.desc.address rest_of ++ answered (slave_rules_from setup) before (events_at setup.desc.address rest)
 
   next_send : (from to : Address) (bytes : List ℕ) (rest : List LogEntry) (before : List Event) (posts : List Send)
-      → Sent from to bytes ∷ own_at setup.desc.address rest ≡ sent_by setup.desc.address posts ++ answered (rules_from setup) before (events_at setup.desc.address rest) → IsNextSend rest before posts to bytes
+      → Sent from to bytes ∷ own_at setup.desc.address rest ≡ sent_by setup.desc.address posts ++ answered (slave_rules_from setup) before (events_at setup.desc.address rest) → IsNextSend rest before posts to bytes
   next_send from to bytes rest before [] h = absurd (no_event from to bytes (own_at setup.desc.address rest) before (events_at setup.desc.address rest) h)
   next_send from to bytes rest before (p ∷ ps) h = record { rest_of = ps; first = p; split = refl; to_is = same_to; bytes_is = same_bytes; comes = same_rest }
     where
@@ -112,7 +112,7 @@ module _ (setup : Setup) (w : Parties) (s : ℕ) (is : IsSlaveOf w s) (apart : P
       same_bytes : p.bytes ≡ bytes
       same_bytes = cc
 
-      same_rest : own_at setup.desc.address rest ≡ sent_by setup.desc.address ps ++ answered (rules_from setup) before (events_at setup.desc.address rest)
+      same_rest : own_at setup.desc.address rest ≡ sent_by setup.desc.address ps ++ answered (slave_rules_from setup) before (events_at setup.desc.address rest)
       same_rest = cc
 
   got_alone : (at' from : Address) (bytes : List ℕ) (rest xs : List LogEntry) (posts : List Send) → Got at' from bytes ∷ rest ≡ sent_by setup.desc.address posts ++ xs → (posts ≡ []) × (Got at' from bytes ∷ rest ≡ xs)
@@ -131,7 +131,7 @@ module _ (setup : Setup) (w : Parties) (s : ℕ) (is : IsSlaveOf w s) (apart : P
     pub run : SlaveRun w s (desk_at (machine setup) w s) log
     pub posts : List Send
     pub owed : (desk_at (machine setup) w s log).owed ≡ map post posts
-    pub comes : own_at setup.desc.address rest ≡ sent_by setup.desc.address posts ++ answered (rules_from setup) (events w s log) (events_at setup.desc.address rest)
+    pub comes : own_at setup.desc.address rest ≡ sent_by setup.desc.address posts ++ answered (slave_rules_from setup) (events_of_slave w s log) (events_at setup.desc.address rest)
 
   nothing : (log : List LogEntry) (posts : List Send) → (desk_at (machine setup) w s log).owed ≡ map post posts → posts ≡ [] → (desk_at (machine setup) w s log).owed ≡ []
   nothing log posts o e = o ∙ ap (map post) e
@@ -143,20 +143,20 @@ module _ (setup : Setup) (w : Parties) (s : ℕ) (is : IsSlaveOf w s) (apart : P
       e = Sent from to bytes
 
       P : Bool → Type 0
-      P b = (if b then e ∷ [] else []) ++ own_at setup.desc.address rest ≡ sent_by setup.desc.address x.posts ++ answered (rules_from setup) (events w s log) (events_at setup.desc.address rest)
+      P b = (if b then e ∷ [] else []) ++ own_at setup.desc.address rest ≡ sent_by setup.desc.address x.posts ++ answered (slave_rules_from setup) (events_of_slave w s log) (events_at setup.desc.address rest)
 
       Q : List Event → List Send → Type 0
-      Q es posts = own_at setup.desc.address rest ≡ sent_by setup.desc.address posts ++ answered (rules_from setup) es (events_at setup.desc.address rest)
+      Q es posts = own_at setup.desc.address rest ≡ sent_by setup.desc.address posts ++ answered (slave_rules_from setup) es (events_at setup.desc.address rest)
 
-      same_events : events w s log ++ [] ≡ events w s log
-      same_events = append-nil (events w s log)
+      same_events : events_of_slave w s log ++ [] ≡ events_of_slave w s log
+      same_events = append-nil (events_of_slave w s log)
 
       by : (b : Bool) → same from (w.slave s) ≡ b → At rest (e ∷ log)
       by true f =
-          let z = next_send from to bytes rest (events w s log) x.posts (subst P (sym (here from) ∙ f) x.comes) in
+          let z = next_send from to bytes rest (events_of_slave w s log) x.posts (subst P (sym (here from) ∙ f) x.comes) in
           let mv = tells from to bytes (role_heard w bytes) f in
           let owed : (desk_at (machine setup) w s log).owed ≡ post z.first ∷ map post z.rest_of = x.owed ∙ ap (map post) z.split in
-          let R : List Post → Type 0 = λ o. IsFirst o to bytes in
+          let R : List Post → Type 0 = λ o. IsFirstPost o to bytes in
           let S : Move → Type 0 = λ m. SlaveMay m (desk_at (machine setup) w s log).owed in
           let O : List Event → Type 0 = λ es. Q es z.rest_of in
           record {
@@ -178,21 +178,21 @@ module _ (setup : Setup) (w : Parties) (s : ℕ) (is : IsSlaveOf w s) (apart : P
       e = Got at' from bytes
 
       P : Bool → Type 0
-      P b = (if b then e ∷ [] else []) ++ own_at setup.desc.address rest ≡ sent_by setup.desc.address x.posts ++ answered (rules_from setup) (events w s log) ((if b then Gram from bytes ∷ [] else []) ++ events_at setup.desc.address rest)
+      P b = (if b then e ∷ [] else []) ++ own_at setup.desc.address rest ≡ sent_by setup.desc.address x.posts ++ answered (slave_rules_from setup) (events_of_slave w s log) ((if b then Gram from bytes ∷ [] else []) ++ events_at setup.desc.address rest)
 
       Q : Bool → List Send → Type 0
-      Q b posts = own_at setup.desc.address rest ≡ sent_by setup.desc.address posts ++ answered (rules_from setup) (events w s log ++ (if b then Gram from bytes ∷ [] else [])) (events_at setup.desc.address rest)
+      Q b posts = own_at setup.desc.address rest ≡ sent_by setup.desc.address posts ++ answered (slave_rules_from setup) (events_of_slave w s log ++ (if b then Gram from bytes ∷ [] else [])) (events_at setup.desc.address rest)
 
       after : Bool → List Post
       after b = (if b then got (machine setup) w s from bytes (at (machine setup) w s log) else at (machine setup) w s log).desk.owed
 
-      sends_are : transport.sends (machine setup) (transport.slave (machine setup) (events w s log)) (Gram from bytes) ≡ transport.sends (machine setup) (at (machine setup) w s log).slave (Gram from bytes)
+      sends_are : transport.sends (machine setup) (transport.slave (machine setup) (events_of_slave w s log)) (Gram from bytes) ≡ transport.sends (machine setup) (at (machine setup) w s log).slave (Gram from bytes)
       sends_are = ap (λ (z : _). transport.sends (machine setup) z (Gram from bytes)) (sym (slave_is (machine setup) w s log))
 
       by : (b : Bool) → same at' (w.slave s) ≡ b → At rest (e ∷ log)
       by true f =
-          let z = got_alone at' from bytes (own_at setup.desc.address rest) (answered (rules_from setup) (events w s log) (Gram from bytes ∷ events_at setup.desc.address rest)) x.posts (subst P (sym (here at') ∙ f) x.comes) in
-          let posts = transport.sends (machine setup) (transport.slave (machine setup) (events w s log)) (Gram from bytes) in
+          let z = got_alone at' from bytes (own_at setup.desc.address rest) (answered (slave_rules_from setup) (events_of_slave w s log) (Gram from bytes ∷ events_at setup.desc.address rest)) x.posts (subst P (sym (here at') ∙ f) x.comes) in
+          let posts = transport.sends (machine setup) (transport.slave (machine setup) (events_of_slave w s log)) (Gram from bytes) in
           let O : Bool → Type 0 = λ b. Q b posts in
           record {
             run = (got_may at' from (role_heard w bytes) (desk_at (machine setup) w s log).owed (λ g. nothing log x.posts x.owed z.0), x.run);
@@ -201,18 +201,18 @@ module _ (setup : Setup) (w : Parties) (s : ℕ) (is : IsSlaveOf w s) (apart : P
             comes = subst O (sym f) (tails z.1);
           }
         where
-          tails : Got at' from bytes ∷ own_at setup.desc.address rest ≡ answered (rules_from setup) (events w s log) (Gram from bytes ∷ events_at setup.desc.address rest)
-              → own_at setup.desc.address rest ≡ sent_by setup.desc.address (transport.sends (machine setup) (transport.slave (machine setup) (events w s log)) (Gram from bytes)) ++ answered (rules_from setup) (events w s log ++ Gram from bytes ∷ []) (events_at setup.desc.address rest)
+          tails : Got at' from bytes ∷ own_at setup.desc.address rest ≡ answered (slave_rules_from setup) (events_of_slave w s log) (Gram from bytes ∷ events_at setup.desc.address rest)
+              → own_at setup.desc.address rest ≡ sent_by setup.desc.address (transport.sends (machine setup) (transport.slave (machine setup) (events_of_slave w s log)) (Gram from bytes)) ++ answered (slave_rules_from setup) (events_of_slave w s log ++ Gram from bytes ∷ []) (events_at setup.desc.address rest)
           tails y = cc
       by false f =
           let O : Bool → Type 0 = λ b. Q b x.posts in
           let g = subst P (sym (here at') ∙ f) x.comes in
-          let N : List Event → Type 0 = λ es. own_at setup.desc.address rest ≡ sent_by setup.desc.address x.posts ++ answered (rules_from setup) es (events_at setup.desc.address rest) in
+          let N : List Event → Type 0 = λ es. own_at setup.desc.address rest ≡ sent_by setup.desc.address x.posts ++ answered (slave_rules_from setup) es (events_at setup.desc.address rest) in
           record {
             run = (got_may at' from (role_heard w bytes) (desk_at (machine setup) w s log).owed (λ t. absurd (clash (sym t ∙ f))), x.run);
             posts = x.posts;
             owed = ap after f ∙ x.owed;
-            comes = subst O (sym f) (subst N (sym (append-nil (events w s log))) g);
+            comes = subst O (sym f) (subst N (sym (append-nil (events_of_slave w s log))) g);
           }
         where
           clash : true ≡ false → ⊥
@@ -225,21 +225,21 @@ module _ (setup : Setup) (w : Parties) (s : ℕ) (is : IsSlaveOf w s) (apart : P
       e = Turn at'
 
       P : Bool → Type 0
-      P b = (if b then e ∷ [] else []) ++ own_at setup.desc.address rest ≡ sent_by setup.desc.address x.posts ++ answered (rules_from setup) (events w s log) ((if b then Tick ∷ [] else []) ++ events_at setup.desc.address rest)
+      P b = (if b then e ∷ [] else []) ++ own_at setup.desc.address rest ≡ sent_by setup.desc.address x.posts ++ answered (slave_rules_from setup) (events_of_slave w s log) ((if b then Tick ∷ [] else []) ++ events_at setup.desc.address rest)
 
       Q : Bool → List Send → Type 0
-      Q b posts = own_at setup.desc.address rest ≡ sent_by setup.desc.address posts ++ answered (rules_from setup) (events w s log ++ (if b then Tick ∷ [] else [])) (events_at setup.desc.address rest)
+      Q b posts = own_at setup.desc.address rest ≡ sent_by setup.desc.address posts ++ answered (slave_rules_from setup) (events_of_slave w s log ++ (if b then Tick ∷ [] else [])) (events_at setup.desc.address rest)
 
       after : Bool → List Post
       after b = (if b then ticked (machine setup) w s (at (machine setup) w s log) else at (machine setup) w s log).desk.owed
 
-      sends_are : transport.sends (machine setup) (transport.slave (machine setup) (events w s log)) Tick ≡ transport.sends (machine setup) (at (machine setup) w s log).slave Tick
+      sends_are : transport.sends (machine setup) (transport.slave (machine setup) (events_of_slave w s log)) Tick ≡ transport.sends (machine setup) (at (machine setup) w s log).slave Tick
       sends_are = ap (λ (z : _). transport.sends (machine setup) z Tick) (sym (slave_is (machine setup) w s log))
 
       by : (b : Bool) → same at' (w.slave s) ≡ b → At rest (e ∷ log)
       by true f =
-          let z = turn_alone at' (own_at setup.desc.address rest) (answered (rules_from setup) (events w s log) (Tick ∷ events_at setup.desc.address rest)) x.posts (subst P (sym (here at') ∙ f) x.comes) in
-          let posts = transport.sends (machine setup) (transport.slave (machine setup) (events w s log)) Tick in
+          let z = turn_alone at' (own_at setup.desc.address rest) (answered (slave_rules_from setup) (events_of_slave w s log) (Tick ∷ events_at setup.desc.address rest)) x.posts (subst P (sym (here at') ∙ f) x.comes) in
+          let posts = transport.sends (machine setup) (transport.slave (machine setup) (events_of_slave w s log)) Tick in
           let O : Bool → Type 0 = λ b. Q b posts in
           record {
             run = (turn_may at' (desk_at (machine setup) w s log).owed (λ g. nothing log x.posts x.owed z.0), x.run);
@@ -248,18 +248,18 @@ module _ (setup : Setup) (w : Parties) (s : ℕ) (is : IsSlaveOf w s) (apart : P
             comes = subst O (sym f) (tails z.1);
           }
         where
-          tails : Turn at' ∷ own_at setup.desc.address rest ≡ answered (rules_from setup) (events w s log) (Tick ∷ events_at setup.desc.address rest)
-              → own_at setup.desc.address rest ≡ sent_by setup.desc.address (transport.sends (machine setup) (transport.slave (machine setup) (events w s log)) Tick) ++ answered (rules_from setup) (events w s log ++ Tick ∷ []) (events_at setup.desc.address rest)
+          tails : Turn at' ∷ own_at setup.desc.address rest ≡ answered (slave_rules_from setup) (events_of_slave w s log) (Tick ∷ events_at setup.desc.address rest)
+              → own_at setup.desc.address rest ≡ sent_by setup.desc.address (transport.sends (machine setup) (transport.slave (machine setup) (events_of_slave w s log)) Tick) ++ answered (slave_rules_from setup) (events_of_slave w s log ++ Tick ∷ []) (events_at setup.desc.address rest)
           tails y = cc
       by false f =
           let O : Bool → Type 0 = λ b. Q b x.posts in
           let g = subst P (sym (here at') ∙ f) x.comes in
-          let N : List Event → Type 0 = λ es. own_at setup.desc.address rest ≡ sent_by setup.desc.address x.posts ++ answered (rules_from setup) es (events_at setup.desc.address rest) in
+          let N : List Event → Type 0 = λ es. own_at setup.desc.address rest ≡ sent_by setup.desc.address x.posts ++ answered (slave_rules_from setup) es (events_at setup.desc.address rest) in
           record {
             run = (turn_may at' (desk_at (machine setup) w s log).owed (λ t. absurd (clash (sym t ∙ f))), x.run);
             posts = x.posts;
             owed = ap after f ∙ x.owed;
-            comes = subst O (sym f) (subst N (sym (append-nil (events w s log))) g);
+            comes = subst O (sym f) (subst N (sym (append-nil (events_of_slave w s log))) g);
           }
         where
           clash : true ≡ false → ⊥
@@ -267,19 +267,19 @@ module _ (setup : Setup) (w : Parties) (s : ℕ) (is : IsSlaveOf w s) (apart : P
 
   idle_at : (at' : Address) (rest log : List LogEntry) → RestsWhenDone setup.desc.address (Idle at' ∷ rest) → At (Idle at' ∷ rest) log → At rest (Idle at' ∷ log)
   idle_at at' rest log done x =
-      let N : List Event → Type 0 = λ es. own_at setup.desc.address rest ≡ sent_by setup.desc.address x.posts ++ answered (rules_from setup) es (events_at setup.desc.address rest) in
+      let N : List Event → Type 0 = λ es. own_at setup.desc.address rest ≡ sent_by setup.desc.address x.posts ++ answered (slave_rules_from setup) es (events_at setup.desc.address rest) in
       record {
         run = (rest_may at' (desk_at (machine setup) w s log).owed whole, x.run);
         posts = x.posts;
         owed = x.owed;
-        comes = subst N (sym (append-nil (events w s log))) x.comes;
+        comes = subst N (sym (append-nil (events_of_slave w s log))) x.comes;
       }
     where
       whole : same at' (w.slave s) ≡ true → (desk_at (machine setup) w s log).owed ≡ []
       whole e =
           let z : at' ≡ setup.desc.address = same_is at' (w.slave s) e ∙ place in
           let b = done [] rest (ap (λ (y : Address). Idle y ∷ rest) z) in
-          nothing log x.posts x.owed (idle_alone (own_at setup.desc.address rest) (answered (rules_from setup) (events w s log) (events_at setup.desc.address rest)) x.posts b x.comes)
+          nothing log x.posts x.owed (idle_alone (own_at setup.desc.address rest) (answered (slave_rules_from setup) (events_of_slave w s log) (events_at setup.desc.address rest)) x.posts b x.comes)
 
   rests_later : (e : LogEntry) (rest : List LogEntry) → RestsWhenDone setup.desc.address (e ∷ rest) → RestsWhenDone setup.desc.address rest
   rests_later e rest done before after z = done (e ∷ before) after (ap (λ (y : List LogEntry). e ∷ y) z)
@@ -296,7 +296,7 @@ module _ (setup : Setup) (w : Parties) (s : ℕ) (is : IsSlaveOf w s) (apart : P
       by (Idle at') d x = idle_at at' rest log d x
       by (Turn at') d x = turn_at at' rest log x
 
-  pub slave_runs : (log : List LogEntry) → Follows (rules_from setup) log → RestsWhenDone setup.desc.address log → SlaveRun w s (desk_at (machine setup) w s) (reverse log)
+  pub slave_runs : (log : List LogEntry) → Follows (slave_rules_from setup) log → RestsWhenDone setup.desc.address log → SlaveRun w s (desk_at (machine setup) w s) (reverse log)
   slave_runs log f done =
       let P : List LogEntry → Type 0 = λ z. SlaveRun w s (desk_at (machine setup) w s) z in
       subst P (append-nil (reverse log)) (goes_on log [] done (record { run = tt; posts = []; owed = refl; comes = f })).run

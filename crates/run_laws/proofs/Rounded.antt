@@ -16,10 +16,10 @@ use Rattle.log_spec.specs.Log.{Parties, IsSlaveOf, IsEnd, AreAtEnds}
 use Rattle.rounds.specs.Rounds.{AllSent, IsGot, IsTurn, Gots, IsLook, EachEnd, places_of, has_report, IsLooks, IsTurns, Rounds}
 use Rattle.rounds.proofs.Logs.{own_at-append}
 use Rattle.master_spec.specs.Rules.{master_rules}
-use Rattle.slave_spec.specs.Slaves.{rules_from}
+use Rattle.slave_spec.specs.Slaves.{slave_rules_from}
 use Rattle.model_laws.specs.Scenarios.{slave_numbered}
 use Rattle.model_laws.proofs.Scenarios.{has_parties}
-use Rattle.run_laws.specs.Laws.{parties, BeginsWithEvent, RestsWhenDone, slave_rules, RoundsAreRuns}
+use Rattle.run_laws.specs.Laws.{parties, BeginsWithEvent, RestsWhenDone, rules_of_slaves, RoundsAreRuns}
 
 abbrev AllAt : (Address → Type 0) → List Rules → Type 0
 AllAt E [] = Unit {0}
@@ -165,9 +165,9 @@ rests a log c before after e = let P : List LogEntry → Type 0 = Calm a in calm
 
 -- ---- the ends of a scenario
 anywhere : (sc : Scenario) (ds : List SlaveDesc) (E : Address → Type 0) → ((i : ℕ) (d : SlaveDesc) → slice_get ds i ≡ Some d → E d.address)
-    → (R : List Rules → Type 0) → R [] → ((r : Rules) (rs : List Rules) → E r.place → R rs → R (r ∷ rs)) → R (map (λ (d : SlaveDesc). rules_from (record { desc = d; micro = sc.micro })) ds)
+    → (R : List Rules → Type 0) → R [] → ((r : Rules) (rs : List Rules) → E r.place → R rs → R (r ∷ rs)) → R (map (λ (d : SlaveDesc). slave_rules_from (record { desc = d; micro = sc.micro })) ds)
 anywhere sc [] E h R nil more = nil
-anywhere sc (d ∷ ds) E h R nil more = more (rules_from (record { desc = d; micro = sc.micro })) (map (λ (d : SlaveDesc). rules_from (record { desc = d; micro = sc.micro })) ds) (h 0 d refl) (anywhere sc ds E (λ i d e. h (suc i) d e) R nil more)
+anywhere sc (d ∷ ds) E h R nil more = more (slave_rules_from (record { desc = d; micro = sc.micro })) (map (λ (d : SlaveDesc). slave_rules_from (record { desc = d; micro = sc.micro })) ds) (h 0 d refl) (anywhere sc ds E (λ i d e. h (suc i) d e) R nil more)
 
 slave_end : (sc : Scenario) (other : SlaveDesc) → IsScenario sc → (i : ℕ) (d : SlaveDesc) → slice_get sc.slaves i ≡ Some d → IsEnd (parties sc other) d.address
 slave_end sc other ok i d e =
@@ -185,17 +185,17 @@ all_there (r ∷ rs) = (tt, all_there rs)
 pub rounds_are_runs : RoundsAreRuns
 rounds_are_runs sc other ok log r = record {
   honest = r.honest;
-  hosted = ends_turned w log (whole (AreAtEnds w) (IsEnd w) tt (ends_join w) (ends_got w) (ends_turn w) (λ b e. (e, tt)) (master_rules sc) (slave_rules sc) (inl refl) all_ends r.count log r.rounds);
+  hosted = ends_turned w log (whole (AreAtEnds w) (IsEnd w) tt (ends_join w) (ends_got w) (ends_turn w) (λ b e. (e, tt)) (master_rules sc) (rules_of_slaves sc) (inl refl) all_ends r.count log r.rounds);
   master = r.master;
   slaves = r.slaves;
   rests = λ s is. (
       let a = (slave_numbered sc other s).address in
-      rests a log (whole (IsWhole a) (λ b. Unit {0}) (record { begins = tt; calm = tt }) (whole_join a) (λ b part e g. whole_got a b part g) (λ b part e g. whole_turn a b part g) (λ b e. record { begins = tt; calm = (tt, tt) }) (master_rules sc) (slave_rules sc) tt (all_there (slave_rules sc)) r.count log r.rounds).calm
+      rests a log (whole (IsWhole a) (λ b. Unit {0}) (record { begins = tt; calm = tt }) (whole_join a) (λ b part e g. whole_got a b part g) (λ b part e g. whole_turn a b part g) (λ b e. record { begins = tt; calm = (tt, tt) }) (master_rules sc) (rules_of_slaves sc) tt (all_there (rules_of_slaves sc)) r.count log r.rounds).calm
       );
 }
   where
     w : Parties
     w = parties sc other
 
-    all_ends : AllAt (IsEnd w) (slave_rules sc)
+    all_ends : AllAt (IsEnd w) (rules_of_slaves sc)
     all_ends = anywhere sc sc.slaves (IsEnd w) (slave_end sc other ok) (AllAt (IsEnd w)) tt (λ r rs e h. (e, h))

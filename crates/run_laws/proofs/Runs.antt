@@ -13,11 +13,11 @@ use Rattle.scenario.specs.Sound.{IsScenario}
 use Rattle.log_spec.specs.Log.{IsSlaveOf}
 use Rattle.master_spec.specs.declared.setups.Slave.{Slave}
 use Rattle.master_spec.specs.Setup.{setup_from, slave_of, slaves_from}
-use Rattle.slave_spec.specs.declared.words.Setup.{Setup}
+use Rattle.slave_spec.specs.declared.words.SlaveSetup.{SlaveSetup}
 use Rattle.slave_spec.specs.declared.words.Asked.TheVariants.{Change}
 use Rattle.slave_spec.specs.Requests.{first_true}
 use Rattle.slave_spec.specs.Slaves.{machine}
-use Rattle.slave_meets.specs.Desks.{accepts, accepts_asked}
+use Rattle.slave_meets.specs.Desks.{accepts_note, accepts_asked}
 use Rattle.model_laws.specs.Scenarios.{slave_numbered}
 use Rattle.model_laws.proofs.Scenarios.{has_parties}
 use Rattle.master_meets.specs.Laws.{IsParty, ArePartiesOf, register_note}
@@ -62,7 +62,7 @@ module _ (sc : Scenario) (other : SlaveDesc) (ok : IsScenario sc) where
           (is, record { is_in = (i, e); id = refl; address = ap (λ (x : Slave). x.address) (z.1).1 ∙ ap (λ (x : SlaveDesc). x.address) same })
 
 -- ---- the first request
-pub accepts_it : (setup : Setup) (id : ℕ) → accepts (machine setup) (register_note id setup.desc.uuid) ≡ true
+pub accepts_it : (setup : SlaveSetup) (id : ℕ) → accepts_note (machine setup) (register_note id setup.desc.uuid) ≡ true
 accepts_it setup id =
     ap (λ (b : Bool). accepts_asked (machine setup) 0 (Change Alive (stc.Register setup.desc.uuid 2 1 0)) (first_true ((false, WrongState) ∷ (not b, UuidMismatch) ∷ (false, Version) ∷ (false, OpMode) ∷ [])))
     (eq-eqb setup.desc.uuid setup.desc.uuid refl)

@@ -14,8 +14,8 @@ use Rattle.dcp_ends.specs.Events.{Rules}
 use Rattle.rounds.specs.Rounds.{Rounds}
 use Rattle.rounds.specs.Told.{Follows}
 use Rattle.master_spec.specs.Rules.{master_rules, MasterRun}
-use Rattle.slave_spec.specs.declared.words.Setup.{Setup}
-use Rattle.slave_spec.specs.Slaves.{rules_from}
+use Rattle.slave_spec.specs.declared.words.SlaveSetup.{SlaveSetup}
+use Rattle.slave_spec.specs.Slaves.{slave_rules_from}
 use Rattle.model_laws.specs.Scenarios.{slave_numbered, parties_of}
 
 -- the parties of a scenario, in whose run datagrams are read as the messages that they spell; other stands for slaves that are not there
@@ -23,8 +23,8 @@ abbrev pub parties : Scenario → (other : SlaveDesc) → Parties
 parties sc other = parties_of sc other message_in
 
 -- what slave s is given before the run
-abbrev pub setup_of : Scenario → (other : SlaveDesc) → ℕ → Setup
-setup_of sc other s = record { desc = slave_numbered sc other s; micro = sc.micro }
+abbrev pub slave_setup_of : Scenario → (other : SlaveDesc) → ℕ → SlaveSetup
+slave_setup_of sc other s = record { desc = slave_numbered sc other s; micro = sc.micro }
 
 abbrev pub BeginsWithEvent : List LogEntry → Type 0
 BeginsWithEvent [] = Unit {0}
@@ -42,20 +42,20 @@ pub record IsRunOf (sc : Scenario) (other : SlaveDesc) (log : List LogEntry) : T
   pub honest : Honest (parties sc other) log
   pub hosted : AreAtEnds (parties sc other) (reverse log)
   pub master : MasterRun sc log
-  pub slaves : (s : ℕ) → IsSlaveOf (parties sc other) s → Follows (rules_from (setup_of sc other s)) log
+  pub slaves : (s : ℕ) → IsSlaveOf (parties sc other) s → Follows (slave_rules_from (slave_setup_of sc other s)) log
   pub rests : (s : ℕ) → IsSlaveOf (parties sc other) s → RestsWhenDone (slave_numbered sc other s).address log
 
 -- what the slaves of a scenario are made to do, in order
-abbrev pub slave_rules : Scenario → List Rules
-slave_rules sc = map (λ (d : SlaveDesc). rules_from (record { desc = d; micro = sc.micro })) sc.slaves
+abbrev pub rules_of_slaves : Scenario → List Rules
+rules_of_slaves sc = map (λ (d : SlaveDesc). slave_rules_from (record { desc = d; micro = sc.micro })) sc.slaves
 
 -- the same of a log of whole rounds, as a host of all ends has it
 pub record IsRunInRounds (sc : Scenario) (other : SlaveDesc) (log : List LogEntry) : Type 0 where
   pub honest : Honest (parties sc other) log
   pub count : ℕ
-  pub rounds : Rounds (Some (master_rules sc)) (slave_rules sc) count log
+  pub rounds : Rounds (Some (master_rules sc)) (rules_of_slaves sc) count log
   pub master : MasterRun sc log
-  pub slaves : (s : ℕ) → IsSlaveOf (parties sc other) s → Follows (rules_from (setup_of sc other s)) log
+  pub slaves : (s : ℕ) → IsSlaveOf (parties sc other) s → Follows (slave_rules_from (slave_setup_of sc other s)) log
 
 abbrev pub RoundsAreRuns : Type 0
 RoundsAreRuns = (sc : Scenario) (other : SlaveDesc) → IsScenario sc → (log : List LogEntry) → IsRunInRounds sc other log → IsRunOf sc other log

@@ -11,14 +11,14 @@ use Rattle.master_spec.specs.declared.reports.Report.{Report}
 use Rattle.master_spec.specs.declared.setups.Slave.{Slave}
 use Rattle.master_spec.specs.declared.setups.Setup.{Setup}
 use Rattle.master_spec.specs.Marks.{Mark, Turned, kept}
-use Rattle.master_spec.specs.Course.{Course, Talk, fresh, course, step, still, marked, mark_of_gram, counted_at, row_now, outputs_in, values_in, has_passed, after_gram, after_turn, with_next, with_report, with_turns, decided, decided_if, begun, failed, is_quiet, is_settled}
+use Rattle.master_spec.specs.Course.{Course, CourseTalk, fresh_talk, course, step, still, marked, mark_of_gram, counted_at, row_now, talk_outputs, values_in, has_passed, after_gram, course_after_turn, with_next, with_report, with_turns, decided, decided_if, task_begun, failed, is_quiet, is_settled}
 
 -- how many outputs these slaves have
 abbrev pub width : List Slave → ℕ
 width [] = 0
 width (slave ∷ slaves) = length slave.types + width slaves
 
-abbrev pub slaves_in : List Talk → List Slave
+abbrev pub slaves_in : List CourseTalk → List Slave
 slaves_in [] = []
 slaves_in (talk ∷ talks) = talk.slave ∷ slaves_in talks
 
@@ -44,16 +44,16 @@ length_values : (kinds : List DataType) (payload : List ℕ) → length (values_
 length_values [] payload = refl
 length_values (kind ∷ kinds) payload = omega (arith, length_values kinds (drop (values.width kind) payload))
 
-length_row : (row : ℕ) (talks : List Talk) → length (flat_map (outputs_in row) talks) ≡ width (slaves_in talks)
+length_row : (row : ℕ) (talks : List CourseTalk) → length (flat_map (talk_outputs row) talks) ≡ width (slaves_in talks)
 length_row row [] = refl
 length_row row (talk ∷ talks) =
-    omega (arith, length-append (outputs_in row talk) (flat_map (outputs_in row) talks), length_values talk.slave.types (unwrap_or (kept row talk.marks) []), length_row row talks)
+    omega (arith, length-append (talk_outputs row talk) (flat_map (talk_outputs row) talks), length_values talk.slave.types (unwrap_or (kept row talk.marks) []), length_row row talks)
 
-slaves_marked : (limits : Limits) (m : Talk → Option Mark) (talks : List Talk) → slaves_in (map (λ (talk : Talk). marked limits talk (m talk)) talks) ≡ slaves_in talks
+slaves_marked : (limits : Limits) (m : CourseTalk → Option Mark) (talks : List CourseTalk) → slaves_in (map (λ (talk : CourseTalk). marked limits talk (m talk)) talks) ≡ slaves_in talks
 slaves_marked limits m [] = refl
 slaves_marked limits m (talk ∷ talks) = ap (λ (l : List Slave). talk.slave ∷ l) (slaves_marked limits m talks)
 
-slaves_fresh : (slaves : List Slave) → slaves_in (map fresh slaves) ≡ slaves
+slaves_fresh : (slaves : List Slave) → slaves_in (map fresh_talk slaves) ≡ slaves
 slaves_fresh [] = refl
 slaves_fresh (slave ∷ slaves) = ap (λ (l : List Slave). slave ∷ l) (slaves_fresh slaves)
 
@@ -65,25 +65,25 @@ wide_if : (slaves : List Slave) (b : Bool) (x y : Course) → IsWide slaves x �
 wide_if slaves true x y p q = p
 wide_if slaves false x y p q = q
 
-counted_wide : (n : ℕ) (due : Option ℕ) (talks : List Talk) (rows : List (List ℤ)) → width (slaves_in talks) ≡ n → AllWide n rows → AllWide n (counted_at due talks rows)
+counted_wide : (n : ℕ) (due : Option ℕ) (talks : List CourseTalk) (rows : List (List ℤ)) → width (slaves_in talks) ≡ n → AllWide n rows → AllWide n (counted_at due talks rows)
 counted_wide n None talks rows e h = h
 counted_wide n (Some row) talks rows e h =
-    rows_if n ((length rows == row) && list_all has_passed talks) (rows ++ flat_map (outputs_in row) talks ∷ []) rows (one_more n rows (flat_map (outputs_in row) talks) h (length_row row talks ∙ e)) h
+    rows_if n ((length rows == row) && list_all has_passed talks) (rows ++ flat_map (talk_outputs row) talks ∷ []) rows (one_more n rows (flat_map (talk_outputs row) talks) h (length_row row talks ∙ e)) h
 
 module _ (setup : Setup) where
   gram_wide : (from : Address) (bytes : List ℕ) (c : Course) → IsWide setup.slaves c → IsWide setup.slaves (after_gram setup from bytes c)
   gram_wide from bytes c h =
-      let talks = map (λ (talk : Talk). marked setup.limits talk (mark_of_gram talk from bytes)) c.talks in
-      let same = slaves_marked setup.limits (λ (talk : Talk). mark_of_gram talk from bytes) c.talks ∙ h.same in
+      let talks = map (λ (talk : CourseTalk). marked setup.limits talk (mark_of_gram talk from bytes)) c.talks in
+      let same = slaves_marked setup.limits (λ (talk : CourseTalk). mark_of_gram talk from bytes) c.talks ∙ h.same in
       record { same = same; rows = counted_wide (width setup.slaves) (row_now talks) talks c.rows (ap width same) h.rows }
 
   next_wide : (c : Course) → IsWide setup.slaves c → IsWide setup.slaves (with_next setup c)
-  next_wide c h = record { same = slaves_marked setup.limits (λ (talk : Talk). begun setup (c.phase + 1) talk) c.talks ∙ h.same; rows = h.rows }
+  next_wide c h = record { same = slaves_marked setup.limits (λ (talk : CourseTalk). task_begun setup (c.phase + 1) talk) c.talks ∙ h.same; rows = h.rows }
 
   turns_wide : (settled : Bool) (c : Course) → IsWide setup.slaves c → IsWide setup.slaves (with_turns setup settled c)
   turns_wide settled c h =
-      let talks = map (λ (talk : Talk). marked setup.limits talk (Some (Turned settled))) c.talks in
-      let same = slaves_marked setup.limits (λ (talk : Talk). Some (Turned settled)) c.talks ∙ h.same in
+      let talks = map (λ (talk : CourseTalk). marked setup.limits talk (Some (Turned settled))) c.talks in
+      let same = slaves_marked setup.limits (λ (talk : CourseTalk). Some (Turned settled)) c.talks ∙ h.same in
       record { same = same; rows = counted_wide (width setup.slaves) (row_now talks) talks c.rows (ap width same) h.rows }
 
   report_wide : (c : Course) (report : Report) → IsWide setup.slaves c → IsWide setup.slaves (with_report c report)
@@ -100,7 +100,7 @@ module _ (setup : Setup) where
   still_wide : (c : Course) → IsWide setup.slaves c → IsWide setup.slaves (still c)
   still_wide c h = record { same = h.same; rows = h.rows }
 
-  turn_wide : (c : Course) → IsWide setup.slaves c → IsWide setup.slaves (after_turn setup c)
+  turn_wide : (c : Course) → IsWide setup.slaves c → IsWide setup.slaves (course_after_turn setup c)
   turn_wide c h =
       wide_if setup.slaves _ _ _ (next_wide (still c) (still_wide c h))
       (turned_wide (list_all is_quiet (with_turns setup (list_all is_settled c.talks) c).talks) (with_turns setup (list_all is_settled c.talks) c) (turns_wide (list_all is_settled c.talks) c h))

@@ -5,12 +5,12 @@ use Rattle.slave_desc.specs.declared.descriptions.SlaveDesc.{SlaveDesc}
 use Rattle.scenario.specs.declared.scenarios.Scenario.{Scenario}
 use Rattle.master_spec.specs.declared.setups.Setup.{Setup}
 use Rattle.master_spec.specs.Course.{course}
-use Rattle.master_core.specs.Columns.{value_at}
+use Rattle.master_core.specs.Columns.{column_value}
 use Rattle.report_text.specs.Rows.{spaced_value}
 
 -- the value of a port in row k of a master after these events, the newest first, where there is such a row, slave and port
 abbrev pub value_after : Setup → List Event → (k slave port : ℕ) → Option ℤ
-value_after setup events k slave port = value_at setup.slaves (course setup events).rows k slave port
+value_after setup events k slave port = column_value setup.slaves (course setup events).rows k slave port
 
 -- the values of the first n ports, where they are there
 abbrev pub ports_of : (ℕ → Option ℤ) → (n : ℕ) → List ℤ

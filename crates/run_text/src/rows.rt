@@ -1,11 +1,10 @@
 //! The rows that a master counted, printed one a line.
 
-ghost use Rattle.std.specs.Prelude.{◌≡◌, ◌+◌, ◌<◌, List, length, reverse, slice_index_or};
+ghost use Rattle.std.specs.Prelude.{◌≡◌, ◌+◌, ◌<◌, List, reverse};
 ghost use Rattle.std.specs.List.{flat_map};
 ghost use Rattle.dcp_ends.specs.Events.{Event};
-ghost use Rattle.slave_desc.specs.declared.descriptions.SlaveDesc.{SlaveDesc};
 ghost use Rattle.scenario.specs.Sound.{IsScenario};
-ghost use Rattle.master_core.specs.Standing.{StandsAfter, setup_of};
+ghost use Rattle.master_core.specs.Standing.{StandsAfter, core_setup};
 ghost use Rattle.report_text.specs.Puts.{Puts};
 ghost use Rattle.report_text.specs.Rows.{row_text, rows_text, spaced_value};
 ghost use Rattle.run_text.specs.Tables.{ports_of, row_after, spaced_if, table_after, value_after};
@@ -26,7 +25,7 @@ fn put_port<K: Sink>(
     port: u8,
 )
     ensures { (events : List Event) → StandsAfter master.now events → Puts (K.written out.old) (K.written out.new) (K.faults out.old) (K.faults out.new) spool.old spool.new
-        (spaced_if (value_after (setup_of master.now) (reverse events) k slave port)) }
+        (spaced_if (value_after (core_setup master.now) (reverse events) k slave port)) }
 {
     match master.row(k, slave, port) {
         Some(value) => put_value(spool, out, &value),
@@ -44,7 +43,7 @@ fn put_slave<K: Sink>(
     ports: u8,
 )
     ensures { (events : List Event) → StandsAfter master.now events → Puts (K.written out.old) (K.written out.new) (K.faults out.old) (K.faults out.new) spool.old spool.new
-        (flat_map spaced_value (ports_of (value_after (setup_of master.now) (reverse events) k slave) ports)) }
+        (flat_map spaced_value (ports_of (value_after (core_setup master.now) (reverse events) k slave) ports)) }
 {
     for port in 0..ports {
         put_port(spool, out, master, k, slave, port);
@@ -61,7 +60,7 @@ fn put_row<K: Sink>(
 )
     requires { IsScenario scenario.now }
     ensures { (events : List Event) → StandsAfter master.now events → Puts (K.written out.old) (K.written out.new) (K.faults out.old) (K.faults out.new) spool.old spool.new
-        (row_text k (row_after scenario.now (setup_of master.now) (reverse events) k)) }
+        (row_text k (row_after scenario.now (core_setup master.now) (reverse events) k)) }
 {
     let slaves = scenario.slaves.as_slice();
     put_number(spool, out, k as usize);
@@ -81,7 +80,7 @@ pub(crate) fn put_rows<K: Sink>(
 )
     requires { IsScenario scenario.now }
     ensures { (events : List Event) → StandsAfter master.now events → Puts (K.written out.old) (K.written out.new) (K.faults out.old) (K.faults out.new) spool.old spool.new
-        (rows_text 0 (table_after scenario.now (setup_of master.now) (reverse events))) }
+        (rows_text 0 (table_after scenario.now (core_setup master.now) (reverse events))) }
 {
     for k in 0..master.rows() {
         put_row(spool, out, scenario, master, k);

@@ -6,7 +6,7 @@ ghost use Rattle.scenario.specs.Sound.{IsScenario};
 ghost use Rattle.byte_spool.specs.Outputs.{Delivers};
 ghost use Rattle.dcp_ends.specs.Logs.{IsInRange};
 ghost use Rattle.dcp_record.specs.Traces.{trace_bytes};
-ghost use Rattle.master_core.specs.Standing.{StandsAfter, setup_of};
+ghost use Rattle.master_core.specs.Standing.{StandsAfter, core_setup};
 ghost use Rattle.run_text.specs.Runs.{DeliversBoth, all_bits, text_after};
 
 use crate::rows::put_rows;
@@ -34,7 +34,7 @@ pub fn write_run<K: Sink, R: Sink>(
     requires log { All IsInRange log.now }
     ensures { (events : List Event) → StandsAfter master.now events → DeliversBoth (K.written out.old) (K.written out.new) (K.faults out.old) (K.faults out.new)
         (R.written trace.old) (R.written trace.new) (R.faults trace.old) (R.faults trace.new)
-        (text_after scenario.now (setup_of master.now) (reverse events) report) (trace_bytes (all_bits (length scenario.now.slaves)) input.now log.now) result }
+        (text_after scenario.now (core_setup master.now) (reverse events) report) (trace_bytes (all_bits (length scenario.now.slaves)) input.now log.now) result }
 {
     match write_report(out, scenario, master, report) {
         Delivery::Whole => write_trace(trace, scenario, input, log),
@@ -51,7 +51,7 @@ pub fn write_report<K: Sink>(
 ) -> Delivery
     requires { IsScenario scenario.now }
     ensures { (events : List Event) → StandsAfter master.now events → Delivers (K.written out.old) (K.written out.new) (K.faults out.old) (K.faults out.new)
-        (text_after scenario.now (setup_of master.now) (reverse events) report) result }
+        (text_after scenario.now (core_setup master.now) (reverse events) report) result }
 {
     let mut spool = Spool::new();
     put_rows(&mut spool, out, scenario, master);

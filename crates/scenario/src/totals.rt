@@ -1,6 +1,6 @@
 //! Limits on how much a scenario computes.
 
-ghost use Rattle.std.specs.Prelude.{◌≡◌, ◌≤◌, ◌<◌, ◌*◌, ◌+◌, ◌^◌, nat_lt, sum_by, length};
+ghost use Rattle.std.specs.Prelude.{◌≡◌, ◌≤◌, ◌<◌, ◌*◌, ◌+◌, ◌^◌, nat_lt, length};
 ghost use Rattle.scenario.specs.Totals.{total_outputs, is_too_much};
 
 use slave_desc::SlaveDesc;

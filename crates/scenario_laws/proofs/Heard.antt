@@ -20,7 +20,7 @@ use Rattle.master_spec.specs.declared.reactions.Reaction.TheVariants.{Ask}
 use Rattle.master_spec.specs.declared.setups.Slave.{Slave}
 use Rattle.master_spec.specs.declared.tasks.Task.TheVariants as tasks
 use Rattle.master_spec.specs.Jobs.{Job, asked_by, step_jobs, run_jobs, between_jobs, jobs_from, jobs}
-use Rattle.master_spec.specs.News.{pdu_of, bytes_of}
+use Rattle.master_spec.specs.News.{pdu_of, request_bytes}
 use Rattle.master_spec.specs.Conversation.{first_of}
 use Rattle.master_spec.specs.Setup.{slaves_from}
 use Rattle.master_core.specs.Askable.{IsAskable, IsJobAskable, IsScriptAskable}
@@ -32,7 +32,7 @@ use Rattle.scenario_laws.specs.Laws.{SetupsAreHeard}
 
 -- ---- what can be asked reads back
 pub back : (id : ℕ) (r : Request) → id < 256 → IsAskable r → ReadBack id r
-unfolding bytes_of
+unfolding request_bytes
 back id r h a number n = let m = message_of (pdu_of number id r) in (read_as_spelled m (spelling m)).1 (has_spelling m (a number id n h))
 
 ask_state : IsAskable AskState

@@ -8,32 +8,32 @@ use Rattle.dcp_ends.specs.Logs.{same_address, event_at, events_at}
 use Rattle.master_spec.specs.declared.setups.Setup.{Setup}
 use Rattle.master_spec.specs.Setup.{setup_from}
 use Rattle.master_spec.specs.Course.{course}
-use Rattle.index_laws.specs.Runs.{with_event, events}
+use Rattle.index_laws.specs.Runs.{with_event, events_of_master}
 use Rattle.index_laws.proofs.ByEntry.{address_turned, entry_by_entry}
 use Rattle.exchange_laws.proofs.Barriers.{barriers}
 use Rattle.exchange_laws.proofs.Finished.{finished_is_acknowledged}
 use Rattle.failure_laws.proofs.First.{failed_is_first}
 use Rattle.phase_laws.proofs.Numbered.{one_by_one}
-use Rattle.scenario_laws.specs.Laws.{FailedIsFirst, FinishedIsAcknowledged, PhasesAreBarriers, RequestsGoOneByOne}
+use Rattle.scenario_laws.specs.Laws.{FailedIsFirst, RunFinishIsAcknowledged, RunPhasesAreBarriers, RunRequestsGoOneByOne}
 use Rattle.scenario_laws.proofs.Heard.{setups_heard}
 
 -- the events of a log, the newest first, entry by entry
-events_more : (setup : Setup) (xs ys : List LogEntry) → events setup (xs ++ ys) ≡ events setup xs ++ events setup ys
+events_more : (setup : Setup) (xs ys : List LogEntry) → events_of_master setup (xs ++ ys) ≡ events_of_master setup xs ++ events_of_master setup ys
 events_more setup [] ys = refl
 events_more setup (Sent from to bytes ∷ xs) ys = events_more setup xs ys
 events_more setup (Got at from bytes ∷ xs) ys = by (same_address at setup.address) (events_more setup xs ys)
   where
-    by : (b : Bool) → events setup (xs ++ ys) ≡ events setup xs ++ events setup ys → with_event b (Gram from bytes) (events setup (xs ++ ys)) ≡ with_event b (Gram from bytes) (events setup xs) ++ events setup ys
+    by : (b : Bool) → events_of_master setup (xs ++ ys) ≡ events_of_master setup xs ++ events_of_master setup ys → with_event b (Gram from bytes) (events_of_master setup (xs ++ ys)) ≡ with_event b (Gram from bytes) (events_of_master setup xs) ++ events_of_master setup ys
     by true h = ap (λ (z : List Event). Gram from bytes ∷ z) h
     by false h = h
 events_more setup (Idle at ∷ xs) ys = events_more setup xs ys
 events_more setup (Turn at ∷ xs) ys = by (same_address at setup.address) (events_more setup xs ys)
   where
-    by : (b : Bool) → events setup (xs ++ ys) ≡ events setup xs ++ events setup ys → with_event b Tick (events setup (xs ++ ys)) ≡ with_event b Tick (events setup xs) ++ events setup ys
+    by : (b : Bool) → events_of_master setup (xs ++ ys) ≡ events_of_master setup xs ++ events_of_master setup ys → with_event b Tick (events_of_master setup (xs ++ ys)) ≡ with_event b Tick (events_of_master setup xs) ++ events_of_master setup ys
     by true h = ap (λ (z : List Event). Tick ∷ z) h
     by false h = h
 
-one : (setup : Setup) (e : LogEntry) → events setup (e ∷ []) ≡ reverse (event_at setup.address e)
+one : (setup : Setup) (e : LogEntry) → events_of_master setup (e ∷ []) ≡ reverse (event_at setup.address e)
 one setup (Sent from to bytes) = refl
 one setup (Got at from bytes) = ap (λ (b : Bool). with_event b (Gram from bytes) []) (address_turned at setup.address) ∙ by (same_address setup.address at)
   where
@@ -47,11 +47,11 @@ one setup (Turn at) = ap (λ (b : Bool). with_event b Tick []) (address_turned a
     by true = refl
     by false = refl
 
-pub events_reverse : (setup : Setup) (log : List LogEntry) → events setup (reverse log) ≡ reverse (events_at setup.address log)
+pub events_reverse : (setup : Setup) (log : List LogEntry) → events_of_master setup (reverse log) ≡ reverse (events_at setup.address log)
 events_reverse setup [] = refl
 events_reverse setup (e ∷ log) =
-    ap (events setup) (reverse-append (e ∷ []) log) ∙ events_more setup (reverse log) (e ∷ [])
-    ∙ ap (λ (z : List Event). z ++ events setup (e ∷ [])) (events_reverse setup log)
+    ap (events_of_master setup) (reverse-append (e ∷ []) log) ∙ events_more setup (reverse log) (e ∷ [])
+    ∙ ap (λ (z : List Event). z ++ events_of_master setup (e ∷ [])) (events_reverse setup log)
     ∙ ap (λ (z : List Event). reverse (events_at setup.address log) ++ z) (one setup e)
     ∙ sym (reverse-append (event_at setup.address e) (events_at setup.address log))
 
@@ -59,12 +59,12 @@ pub failed_first : FailedIsFirst
 failed_first sc h log run id phase cause r =
     failed_is_first (setup_from sc) (setups_heard sc h) (reverse log) (entry_by_entry sc log run) id phase cause (ap (λ (z : List Event). (course (setup_from sc) z).report) (events_reverse (setup_from sc) log) ∙ r)
 
-pub go_one_by_one : RequestsGoOneByOne
+pub go_one_by_one : RunRequestsGoOneByOne
 go_one_by_one sc h log run slave i = one_by_one (setup_from sc) (setups_heard sc h).heard (reverse log) (entry_by_entry sc log run) i.0 slave i.1
 
-pub finished_acknowledged : FinishedIsAcknowledged
+pub finished_acknowledged : RunFinishIsAcknowledged
 finished_acknowledged sc h log run steps r =
     finished_is_acknowledged (setup_from sc) (setups_heard sc h).heard (reverse log) (entry_by_entry sc log run) steps (ap (λ (z : List Event). (course (setup_from sc) z).report) (events_reverse (setup_from sc) log) ∙ r)
 
-pub are_barriers : PhasesAreBarriers
+pub are_barriers : RunPhasesAreBarriers
 are_barriers sc h log run s t i j = barriers (setup_from sc) (setups_heard sc h).heard (reverse log) (entry_by_entry sc log run) i.0 j.0 s t i.1 j.1

@@ -32,15 +32,15 @@ FailedIsFirst = (sc : Scenario) → IsScenario sc → (log : List LogEntry) → 
     → (slave : Slave) × ((slave.id ≡ id) × First (setup_from sc) (reverse log) slave phase cause)
 
 -- the master asks each slave one request after the other, each once the one before is decided
-abbrev pub RequestsGoOneByOne : Type 0
-RequestsGoOneByOne = (sc : Scenario) → IsScenario sc → (log : List LogEntry) → MasterRun sc log → (slave : Slave) → IsIn (setup_from sc) slave → AreOneByOne (asks sc.master slave (reverse log))
+abbrev pub RunRequestsGoOneByOne : Type 0
+RunRequestsGoOneByOne = (sc : Scenario) → IsScenario sc → (log : List LogEntry) → MasterRun sc log → (slave : Slave) → IsIn (setup_from sc) slave → AreOneByOne (asks sc.master slave (reverse log))
 
 -- where the master reports that it has finished, it had all steps of the scenario, and each slave acknowledged as many requests as its spine has
-abbrev pub FinishedIsAcknowledged : Type 0
-FinishedIsAcknowledged = (sc : Scenario) → IsScenario sc → (log : List LogEntry) → MasterRun sc log → (steps : ℕ) → (course_after sc log).report ≡ Some (reports.Finished steps)
+abbrev pub RunFinishIsAcknowledged : Type 0
+RunFinishIsAcknowledged = (sc : Scenario) → IsScenario sc → (log : List LogEntry) → MasterRun sc log → (steps : ℕ) → (course_after sc log).report ≡ Some (reports.Finished steps)
     → IsFinished (setup_from sc) (reverse log) steps
 
 -- once some slave has been asked a request of a phase, each slave has acknowledged as many requests as stand in its spine before that phase
-abbrev pub PhasesAreBarriers : Type 0
-PhasesAreBarriers = (sc : Scenario) → IsScenario sc → (log : List LogEntry) → MasterRun sc log → (s t : Slave) → IsIn (setup_from sc) s → IsIn (setup_from sc) t
+abbrev pub RunPhasesAreBarriers : Type 0
+RunPhasesAreBarriers = (sc : Scenario) → IsScenario sc → (log : List LogEntry) → MasterRun sc log → (s t : Slave) → IsIn (setup_from sc) s → IsIn (setup_from sc) t
     → length (spine (take (phase_reached (jobs_of (setup_from sc) t) (asks sc.master t (reverse log)) - 1) (jobs_of (setup_from sc) s))) ≤ acked (asks sc.master s (reverse log))

@@ -24,7 +24,7 @@ use Rattle.host.specs.declared.hosted.Hosted.{Hosted}
 use Rattle.host.specs.declared.hosted.Progress.TheVariants.{Done, Going}
 use Rattle.host.specs.Hosting.{master_of, slaves_of}
 use Rattle.host.specs.Views.{HostView, is_done, master_in, progress_of, slaves_in}
-use Rattle.scenario_runs.specs.Runs.{CameFrom, IsBegun, IsCut, IsWhole}
+use Rattle.scenario_runs.specs.Runs.{CameFrom, IsBegun, IsCutShort, IsWhole}
 
 same_self : (a : Address) → same_address a a ≡ true
 same_self a = and_from (a.ip == a.ip) (a.port == a.port) (eq-eqb a.ip a.ip refl) (eq-eqb a.port a.port refl)
@@ -150,7 +150,7 @@ module _ (old new : HostView) (sound : IsScenario old.scenario) (own : old.hoste
         fault = fault;
       }
 
-  pub cut_after : (n : ℕ) → Rounds (master_in old) (slaves_in old) n old.log → (part : List LogEntry) → new.log ≡ old.log ++ part → IsRoundPart (master_in old) (slaves_in old) old.log part → IsCut new
+  pub cut_after : (n : ℕ) → Rounds (master_in old) (slaves_in old) n old.log → (part : List LogEntry) → new.log ≡ old.log ++ part → IsRoundPart (master_in old) (slaves_in old) old.log part → IsCutShort new
   cut_after n rounds part form front =
       let master = same_master old new scenario hosted in
       let slaves = same_slaves old new scenario hosted in

@@ -8,14 +8,10 @@ use Rattle.dcp_io.specs.Faults.{Rose}
 use Rattle.rounds.specs.declared.one_end.HostFault.{HostFault}
 use Rattle.rounds.specs.declared.one_end.HostFault.TheVariants.{Net, OutOfMemory}
 use Rattle.scenario.specs.declared.scenarios.Scenario.{Scenario}
-use Rattle.host.specs.declared.hosted.Hosted.{Hosted}
+use Rattle.host.specs.Hosting.{all_ends}
 use Rattle.host.specs.Views.{HostView, master_in, slaves_in}
 use Rattle.scenario_runs.specs.declared.runs.Stopped.{Stopped}
 use Rattle.scenario_runs.specs.declared.runs.Stopped.TheVariants.{Unmade, Faulted}
-
--- the master and each slave that there is
-abbrev pub all_ends : Hosted
-all_ends = record { master = true; slaves = 65535 }
 
 -- a host whose network was opened, before the first round
 pub record IsBegun (host : HostView) : Type 0 where
@@ -37,7 +33,7 @@ pub record IsWhole (host : HostView) : Type 0 where
   pub fault : host.fault ≡ None
 
 -- The log is a list of whole rounds, and of the front of one more.
-pub record IsCut (host : HostView) : Type 0 where
+pub record IsCutShort (host : HostView) : Type 0 where
   pub count : ℕ
   pub before : List LogEntry
   pub part : List LogEntry
@@ -51,10 +47,10 @@ CameFrom (Net count) before now = Rose before now × (count ≡ now)
 CameFrom OutOfMemory before now = now ≡ before
 
 -- A fault stopped the run of this scenario, and its host keeps it.
-pub record IsStopped (sc : Scenario) (before now : ℕ) (host : HostView) : Type 0 where
+pub record IsStoppedRun (sc : Scenario) (before now : ℕ) (host : HostView) : Type 0 where
   pub scenario : host.scenario ≡ sc
   pub hosted : host.hosted ≡ all_ends
-  pub cut : IsCut host
+  pub cut : IsCutShort host
   pub fault : HostFault
   pub held : host.fault ≡ Some fault
   pub cause : CameFrom fault before now
@@ -62,4 +58,4 @@ pub record IsStopped (sc : Scenario) (before now : ℕ) (host : HostView) : Type
 -- what there is of a run that was stopped, where the network's count of faults was this before and is this now
 abbrev pub StopsAt : Scenario → (before now : ℕ) → Stopped → Type 0
 StopsAt sc before now Unmade = now ≡ before
-StopsAt sc before now (Faulted host) = IsStopped sc before now host
+StopsAt sc before now (Faulted host) = IsStoppedRun sc before now host

@@ -3,20 +3,14 @@
 ghost use Rattle.std.specs.Prelude.{◌≡◌, IsTrue, OnOk, OnErr, IfOk, IfErr, IfSome};
 ghost use Rattle.scenario.specs.Sound.{IsScenario};
 ghost use Rattle.rounds.specs.Steps.{Caused};
-ghost use Rattle.host.specs.Hosting.{opening_of};
+ghost use Rattle.host.specs.Hosting.{all_ends, opening_of};
 ghost use Rattle.host.specs.Views.{fault_of, Tells};
-ghost use Rattle.scenario_runs.specs.Runs.{IsBegun, IsWhole, IsCut, StopsAt, all_ends};
+ghost use Rattle.scenario_runs.specs.Runs.{IsBegun, IsWhole, IsCutShort, StopsAt};
 
 use dcp_net::Net;
-use host::{Host, HostFault, Hosted, Progress};
+use host::{ALL_ENDS, Host, HostFault, Progress};
 use scenario::Scenario;
 use std::alloc::Global;
-
-/// All ends of a scenario, which has at most 16 slaves.
-const ALL: Hosted = Hosted {
-    master: true,
-    slaves: u16::MAX,
-};
 
 /// Why a run did not come to its report.
 #[derive(Drop)]
@@ -34,7 +28,7 @@ fn run_on<N: Net>(host: &mut Host, net: &mut N) -> Result<(), HostFault>
     requires is_open { IsTrue (N.is_open net.old) }
     ensures same { (host.new.scenario ≡ host.old.scenario) × (host.new.hosted ≡ host.old.hosted) }
     ensures ok { OnOk result (IsWhole host.new) }
-    ensures err { OnErr result (IsCut host.new) }
+    ensures err { OnErr result (IsCutShort host.new) }
     ensures fault { host.new.fault ≡ fault_of result }
     ensures told { Tells (N.calls net.old) host.old.log → Tells (N.calls net.new) host.new.log }
     ensures opening { N.opening net.new ≡ N.opening net.old }
@@ -59,7 +53,7 @@ pub fn run_scenario<N: Net>(alloc: Global, scenario: Scenario, net: &mut N) -> R
     ensures still { IfOk result (λ host. N.count net.new ≡ N.count net.old) }
     ensures stopped { IfErr result (StopsAt scenario (N.count net.old) (N.count net.new)) }
 {
-    let Ok(mut host) = Host::new(alloc, scenario, ALL) else {
+    let Ok(mut host) = Host::new(alloc, scenario, ALL_ENDS) else {
         return Err(Stopped::Unmade);
     };
     if let Err(_fault) = host.begin(net) {

@@ -12,7 +12,7 @@ use Rattle.text_lines.specs.Causes.{or_why, refused_if, unless}
 use Rattle.text_lines.proofs.Results.{bind_ok, some_ok, moved}
 use Rattle.text_lines.specs.declared.reasons.TextWhy.TheVariants as why
 use Rattle.fixed_models.specs.Kinds.{has_ports}
-use Rattle.desc_text.specs.Machine.{put, nothing}
+use Rattle.desc_text.specs.Machine.{put_item, nothing}
 use Rattle.desc_text.specs.Machine as block
 use Rattle.desc_text.proofs.Held.{not_refused}
 use Rattle.desc_text.proofs.Judged.{unless_ok}
@@ -20,7 +20,7 @@ use Rattle.desc_text.specs.declared.items.Item.{Item}
 use Rattle.desc_text.specs.declared.items.Item.TheVariants as items
 use Rattle.desc_text.specs.declared.partials.Partial.{Partial}
 use Rattle.slave_desc.specs.declared.descriptions.SlaveDesc.{SlaveDesc}
-use Rattle.scenario_text.specs.Heads.{master_in, first_said}
+use Rattle.scenario_text.specs.Heads.{master_of_head, first_said}
 use Rattle.scenario_text.specs.Said.{same_address, is_master}
 use Rattle.scenario_text.specs.Clashes.{why_among}
 use Rattle.scenario_text.proofs.LinkSets.{none_at}
@@ -90,7 +90,7 @@ slave_new master slaves p d h e =
     }
 
 -- an item of the open block
-pub item_new : (head : List HeadItem) (slaves : List SlaveDesc) (p : Partial) (i : Item) → AreNew (first_said master_in head) slaves p → why_among head slaves i ≡ None → AreNew (first_said master_in head) slaves (put p i)
+pub item_new : (head : List HeadItem) (slaves : List SlaveDesc) (p : Partial) (i : Item) → AreNew (first_said master_of_head head) slaves p → why_among head slaves i ≡ None → AreNew (first_said master_of_head head) slaves (put_item p i)
 item_new head slaves p (items.Slave n) h e = record { names = h.names; addresses = h.addresses; others = h.others; name = (first_none (has_name slaves n) why.Repeated _ e).0; address = h.address }
 item_new head slaves p (items.Address a) h e = record { names = h.names; addresses = h.addresses; others = h.others; name = h.name; address = not_refused _ why.SameAddress e }
 item_new head slaves p (items.Uuid n) h e = record { names = h.names; addresses = h.addresses; others = h.others; name = h.name; address = h.address }

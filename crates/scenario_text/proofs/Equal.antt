@@ -29,9 +29,9 @@ use Rattle.scenario_text.specs.Heads.{head_item, steps_said, runs_said}
 use Rattle.scenario_text.specs.Links.{link_of, chaos_of}
 use Rattle.scenario.specs.Totals.{is_too_much}
 use Rattle.scenario_text.specs.Clashes.{why_head, why_slaves, is_chaos}
-use Rattle.scenario_text.specs.Said.{scenario_of, key_of_words, key_at, args_of, is_of, lines_in, section_now, opens, onto, is_slave_key, head_said, group, blocks, last_of, front_of, slaves_of, slaves_said, links_said, scenario_said}
-use Rattle.scenario_text.specs.Judging.{why_block, why_closes, why_item_read, why_link_read, why_acts, why_keyed, why_words, why_line, why_end_of, why_entry}
-use Rattle.scenario_text.specs.Grammar.{reads_by, IsOrdered, MayFollow, IsNew, AreSlaves, AreOf}
+use Rattle.scenario_text.specs.Said.{scenario_of, key_of_words, key_at, args_of, is_of, lines_in, section_now, opens, onto, is_slave_key, head_said, group, blocks, last_of, front_of, slaves_of_blocks, slaves_said, links_said, scenario_said}
+use Rattle.scenario_text.specs.Judging.{why_scenario_block, why_closes, why_item_read, why_link_read, why_acts, why_scenario_keyed, why_scenario_words, why_scenario_line, why_end_of, why_scenario_entry}
+use Rattle.scenario_text.specs.Grammar.{reads_by, IsOrdered, MayFollow, IsNew, AreSlaveBlocks, AreOf}
 use Rattle.scenario_text.proofs.Groups.{all_said}
 use Rattle.scenario_text.proofs.Moves.{slave_key_is, key_said}
 use Rattle.scenario_text.proofs.Kept.{block_key, line_item}
@@ -44,8 +44,8 @@ use Rattle.scenario_text.specs.declared.keys.LinkKey.TheVariants as linkkeys
 use Rattle.scenario_text.specs.declared.keys.AnyKey.{AnyKey}
 use Rattle.scenario_text.specs.declared.keys.AnyKey.TheVariants as any
 use Rattle.scenario_text.specs.declared.heads.HeadItem.{HeadItem}
-use Rattle.scenario_text.specs.declared.link_words.Link.{Link}
-use Rattle.scenario_text.specs.declared.link_words.Link.TheVariants as link
+use Rattle.scenario_text.specs.declared.link_words.LinkLine.{LinkLine}
+use Rattle.scenario_text.specs.declared.link_words.LinkLine.TheVariants as link
 use Rattle.scenario_text.specs.declared.collected.Links.{Links}
 use Rattle.scenario.specs.declared.scenarios.Scenario.{Scenario}
 use Rattle.scenario_text.proofs.Refusing.{none_refused}
@@ -118,7 +118,7 @@ slaves_none hd sl st rn e f some small =
     ap (λ (b : Bool). cond b (Some why.Missing) (refused_if (is_too_much sl (steps_said hd) (runs_said hd)) why.Limit)) (is_some_length (length sl) some)
     ∙ none_refused _ why.Limit (ap (λ (n : ℕ). is_too_much sl n (runs_said hd)) e ∙ ap (λ (n : ℕ). is_too_much sl st n) f ∙ small)
 
-chaos_none : (slaves : List SlaveDesc) (runs : ℕ) (k : LinkKey) (args : List (List ℕ)) (x : Link) (before : Links) → link_of slaves runs k args ≡ Ok x → MayFollow slaves before x → refused_if (is_chaos k && is_some before.net.chaos) why.Repeated ≡ None
+chaos_none : (slaves : List SlaveDesc) (runs : ℕ) (k : LinkKey) (args : List (List ℕ)) (x : LinkLine) (before : Links) → link_of slaves runs k args ≡ Ok x → MayFollow slaves before x → refused_if (is_chaos k && is_some before.net.chaos) why.Repeated ≡ None
 chaos_none slaves runs linkkeys.Wire args x before e f = refl
 chaos_none slaves runs linkkeys.Set args x before e f = refl
 chaos_none slaves runs linkkeys.RerunSet args x before e f = refl
@@ -128,7 +128,7 @@ chaos_none slaves runs linkkeys.Copy args x before e f = refl
 chaos_none slaves runs linkkeys.Hold args x before e f = refl
 chaos_none slaves runs linkkeys.Chaos args x before e f =
     let c = bind_ok (chaos_of args) _ x e in
-    none_refused _ why.Repeated (ap is_some (moved (λ (x : Link). MayFollow slaves before x → before.net.chaos ≡ None) (link.Chaos c.0) x c.2 (λ h. h) f))
+    none_refused _ why.Repeated (ap is_some (moved (λ (x : LinkLine). MayFollow slaves before x → before.net.chaos ≡ None) (link.Chaos c.0) x c.2 (λ h. h) f))
 
 module _ (ls : List (List ℕ)) (s : Scenario) (A : AreOf ls s) where
   said_slaves : slaves_said ls ≡ s.slaves
@@ -144,20 +144,20 @@ module _ (ls : List (List ℕ)) (s : Scenario) (A : AreOf ls s) where
     head_whole : (key : AnyKey) → key_at l ≡ Some key → 0 < section_of key → why_head (head_said before) ≡ None
     head_whole key k late = ap why_head (head_same key k late) ∙ none_refused _ why.Missing (ap not A.required)
 
-    blocks_split : (key : Key) → key_at l ≡ Some (any.Block key) → AreSlaves (group (lines_in 1 before ++ l ∷ lines_in 1 after)) s.slaves
-    blocks_split key k = subst (λ (x : List (List ℕ)). AreSlaves (group x) s.slaves) (ap (lines_in 1) split ∙ filter-append (λ (l : List ℕ). is_of 1 (key_at l)) before (l ∷ after) ∙ ap (λ (k : Option AnyKey). lines_in 1 before ++ cond (is_of 1 k) (l ∷ lines_in 1 after) (lines_in 1 after)) k) A.slaves
+    blocks_split : (key : Key) → key_at l ≡ Some (any.Block key) → AreSlaveBlocks (group (lines_in 1 before ++ l ∷ lines_in 1 after)) s.slaves
+    blocks_split key k = subst (λ (x : List (List ℕ)). AreSlaveBlocks (group x) s.slaves) (ap (lines_in 1) split ∙ filter-append (λ (l : List ℕ). is_of 1 (key_at l)) before (l ∷ after) ∙ ap (λ (k : Option AnyKey). lines_in 1 before ++ cond (is_of 1 k) (l ∷ lines_in 1 after) (lines_in 1 after)) k) A.slaves
 
-    link_blocks : (key : LinkKey) → key_at l ≡ Some (any.Link key) → AreSlaves (blocks before) s.slaves
-    link_blocks key k = subst (λ (x : List (List ℕ)). AreSlaves (group x) s.slaves) (ap (lines_in 1) split ∙ earlier_lines 1 before after l (any.Link key) ordered k (omega arith)) A.slaves
+    link_blocks : (key : LinkKey) → key_at l ≡ Some (any.Link key) → AreSlaveBlocks (blocks before) s.slaves
+    link_blocks key k = subst (λ (x : List (List ℕ)). AreSlaveBlocks (group x) s.slaves) (ap (lines_in 1) split ∙ earlier_lines 1 before after l (any.Link key) ordered k (omega arith)) A.slaves
 
-    slave_closes : key_at l ≡ Some (any.Block keys.Slave) → why_block before ≡ None
+    slave_closes : key_at l ≡ Some (any.Block keys.Slave) → why_scenario_block before ≡ None
     slave_closes k =
         ⊎_elim
         (λ none. no_block (lines_in 2 before) (lines_in 1 before) _ (no_lines (lines_in 1 before) none))
         (λ some. when_none (eqb (section_now before) 1) _ (last_whole (lines_in 1 before) (lines_in 1 after) l s.slaves (ap is_slave_key k) some (blocks_split keys.Slave k)))
         (whole (blocks before))
 
-    link_closes : (key : LinkKey) → key_at l ≡ Some (any.Link key) → why_block before ≡ None
+    link_closes : (key : LinkKey) → key_at l ≡ Some (any.Link key) → why_scenario_block before ≡ None
     link_closes key k =
         ⊎_elim
         (λ none. no_block (lines_in 2 before) (lines_in 1 before) _ (no_lines (lines_in 1 before) none))
@@ -182,22 +182,22 @@ module _ (ls : List (List ℕ)) (s : Scenario) (A : AreOf ls s) where
     closes_none (any.Block b) k = or_nones _ _ (when_none (eqb (section_now before) 0 && true) _ (head_whole (any.Block b) k (omega arith))) (and_none (ltb (section_now before) 2) _)
 
     module _ (w : List ℕ) (args : List (List ℕ)) (said : words l ≡ w ∷ args) (skip : is_skipped (w ∷ args) ≡ false) where
-      block_acts : (key : Key) → begins key ≡ false → any_key w ≡ Some (any.Block key) → key_at l ≡ Some (any.Block key) → section_now before ≤ 1 → (i : Item) → item_of key args ≡ Ok i → IsNew (head_said before) (slaves_of (front_of (blocks before))) i
-          → or_else (why_key (came_before (items_in (last_of (blocks before))) key) (came (filter_map name_in (items_in (last_of (blocks before))))) key) (why_item_read (items_in (last_of (blocks before))) (head_said before) (slaves_of (front_of (blocks before))) (item_of key args)) ≡ None
+      block_acts : (key : Key) → begins key ≡ false → any_key w ≡ Some (any.Block key) → key_at l ≡ Some (any.Block key) → section_now before ≤ 1 → (i : Item) → item_of key args ≡ Ok i → IsNew (head_said before) (slaves_of_blocks (front_of (blocks before))) i
+          → or_else (why_key (came_before (items_in (last_of (blocks before))) key) (came (filter_map name_in (items_in (last_of (blocks before))))) key) (why_item_read (items_in (last_of (blocks before))) (head_said before) (slaves_of_blocks (front_of (blocks before))) (item_of key args)) ≡ None
       block_acts key other k at up i read new =
           let item = line_item l w args key i said skip (block_key (head_key w) (key_of w) (link_key w) key k) read in
           let d = open_described (lines_in 1 before) (lines_in 1 after) l i s.slaves (ap is_slave_key at ∙ slave_key_is key ∙ other) item (blocks_split key at) in
           let key_is = item_key key args i read in
           or_nones _ _
           (subst (λ (k : Key). why_key (came_before (items_in (last_of (blocks before))) k) (came (filter_map name_in (items_in (last_of (blocks before))))) k ≡ None) key_is (key_none (items_in (last_of (blocks before))) i d.0 d.1 d.2))
-          (ap (why_item_read (items_in (last_of (blocks before))) (head_said before) (slaves_of (front_of (blocks before)))) read
-          ∙ or_nones _ _ (item_none (items_in (last_of (blocks before))) i d.0 d.1 d.2) (among_none (head_said before) (slaves_of (front_of (blocks before))) i new (λ e. absurd (false≢true (sym other ∙ ap begins (sym key_is ∙ e))))))
+          (ap (why_item_read (items_in (last_of (blocks before))) (head_said before) (slaves_of_blocks (front_of (blocks before)))) read
+          ∙ or_nones _ _ (item_none (items_in (last_of (blocks before))) i d.0 d.1 d.2) (among_none (head_said before) (slaves_of_blocks (front_of (blocks before))) i new (λ e. absurd (false≢true (sym other ∙ ap begins (sym key_is ∙ e))))))
 
-      other_acts : (key : Key) → begins key ≡ false → any_key w ≡ Some (any.Block key) → key_at l ≡ Some (any.Block key) → section_now before ≤ 1 → (i : Item) → item_of key args ≡ Ok i → IsNew (head_said before) (slaves_of (front_of (blocks before))) i
-          → or_else (why_key (came_before (cond (eqb (section_now before) 1) (items_in (last_of (blocks before))) []) key) (came (filter_map name_in (cond (eqb (section_now before) 1) (items_in (last_of (blocks before))) []))) key) (why_item_read (cond (eqb (section_now before) 1) (items_in (last_of (blocks before))) []) (head_said before) (slaves_of (front_of (blocks before))) (item_of key args)) ≡ None
+      other_acts : (key : Key) → begins key ≡ false → any_key w ≡ Some (any.Block key) → key_at l ≡ Some (any.Block key) → section_now before ≤ 1 → (i : Item) → item_of key args ≡ Ok i → IsNew (head_said before) (slaves_of_blocks (front_of (blocks before))) i
+          → or_else (why_key (came_before (cond (eqb (section_now before) 1) (items_in (last_of (blocks before))) []) key) (came (filter_map name_in (cond (eqb (section_now before) 1) (items_in (last_of (blocks before))) []))) key) (why_item_read (cond (eqb (section_now before) 1) (items_in (last_of (blocks before))) []) (head_said before) (slaves_of_blocks (front_of (blocks before))) (item_of key args)) ≡ None
       other_acts key other k at up i read new =
           let same : cond (eqb (section_now before) 1) (items_in (last_of (blocks before))) [] ≡ items_in (last_of (blocks before)) = items_same (came (lines_in 2 before)) (came (lines_in 1 before)) (lines_in 1 before) refl up in
-          subst (λ (b : List Item). or_else (why_key (came_before b key) (came (filter_map name_in b)) key) (why_item_read b (head_said before) (slaves_of (front_of (blocks before))) (item_of key args)) ≡ None) (sym same) (block_acts key other k at up i read new)
+          subst (λ (b : List Item). or_else (why_key (came_before b key) (came (filter_map name_in b)) key) (why_item_read b (head_said before) (slaves_of_blocks (front_of (blocks before))) (item_of key args)) ≡ None) (sym same) (block_acts key other k at up i read new)
 
       acts_none : (key : AnyKey) → any_key w ≡ Some key → key_at l ≡ Some key → section_now before ≤ section_of key → reads_by s.slaves s.runs (Some key) args ≡ true → args_of (words l) ≡ args → why_acts before key args ≡ None
       acts_none (any.Head h) k at up reads a =
@@ -227,26 +227,26 @@ module _ (ls : List (List ℕ)) (s : Scenario) (A : AreOf ls s) where
       acts_none (any.Block keys.Input) k at up reads a = let i = some_of (item_of keys.Input args) reads in other_acts keys.Input refl k at up i.0 i.1 (A.new before after l keys.Input i.0 split at (ap (item_of keys.Input) a ∙ i.1))
       acts_none (any.Block keys.Output) k at up reads a = let i = some_of (item_of keys.Output args) reads in other_acts keys.Output refl k at up i.0 i.1 (A.new before after l keys.Output i.0 split at (ap (item_of keys.Output) a ∙ i.1))
 
-      keyed_none : (key : Option AnyKey) → any_key w ≡ key → reads_by s.slaves s.runs key args ≡ true → why_keyed before key args ≡ None
+      keyed_none : (key : Option AnyKey) → any_key w ≡ key → reads_by s.slaves s.runs key args ≡ true → why_scenario_keyed before key args ≡ None
       keyed_none None k reads = absurd (false≢true reads)
       keyed_none (Some key) k reads =
           let at = key_said l w args key said skip k in
           let up = A.in_order before after l key split at in
           or_nones _ _ (none_refused _ why.Order (not_less (section_of key) (section_now before) up)) (or_nones _ _ (closes_none key at) (acts_none key k at up reads (ap args_of said)))
 
-    worded_none : (ws : List (List ℕ)) → words l ≡ ws → is_skipped ws ≡ false → reads_by s.slaves s.runs (key_of_words ws) (args_of ws) ≡ true → why_words before ws ≡ None
+    worded_none : (ws : List (List ℕ)) → words l ≡ ws → is_skipped ws ≡ false → reads_by s.slaves s.runs (key_of_words ws) (args_of ws) ≡ true → why_scenario_words before ws ≡ None
     worded_none [] said skip reads = refl
     worded_none (w ∷ args) said skip reads = keyed_none w args said skip (any_key w) refl reads
 
-    line_by : (u b : Bool) → is_utf8 l ≡ u → is_skipped (words l) ≡ b → (u && (b || reads_by s.slaves s.runs (cond b None (key_of_words (words l))) (args_of (words l)))) ≡ true → cond (not u) (Some why.NotUtf8) (cond b None (why_words before (words l))) ≡ None
+    line_by : (u b : Bool) → is_utf8 l ≡ u → is_skipped (words l) ≡ b → (u && (b || reads_by s.slaves s.runs (cond b None (key_of_words (words l))) (args_of (words l)))) ≡ true → cond (not u) (Some why.NotUtf8) (cond b None (why_scenario_words before (words l))) ≡ None
     line_by false b utf8 skip reads = absurd (false≢true reads)
     line_by true true utf8 skip reads = refl
     line_by true false utf8 skip reads = worded_none (words l) refl skip reads
 
-    line_none : why_line before l ≡ None
+    line_none : why_scenario_line before l ≡ None
     line_none = line_by (is_utf8 l) (is_skipped (words l)) refl refl (A.each before after l split)
 
-  end_closes : why_block ls ≡ None
+  end_closes : why_scenario_block ls ≡ None
   end_closes =
       ⊎_elim
       (λ none. no_block (lines_in 2 ls) (lines_in 1 ls) _ (no_lines (lines_in 1 ls) none))
@@ -267,10 +267,10 @@ module _ (ls : List (List ℕ)) (s : Scenario) (A : AreOf ls s) where
       (λ below.
       let line = get_or ls k [] in
       let cut : ls ≡ take k ls ++ line ∷ drop (suc k) ls = sym (take-append-drop k ls) ∙ ap (λ (l : List (List ℕ)). take k ls ++ l) (drop-cons ls k [] below) in
-      ap (λ (o : Option (List ℕ)). why_entry o (take k ls)) (slice_get-get_or ls k [] below) ∙ line_none (take k ls) (drop (suc k) ls) line cut)
+      ap (λ (o : Option (List ℕ)). why_scenario_entry o (take k ls)) (slice_get-get_or ls k [] below) ∙ line_none (take k ls) (drop (suc k) ls) line cut)
       (λ past.
       let last : k ≡ length ls = omega arith in
-      ap (λ (o : Option (List ℕ)). why_entry o (take k ls)) (slice_get_past ls k past) ∙ ap why_end_of (ap (λ (j : ℕ). take j ls) last ∙ take-length ls) ∙ end_none)
+      ap (λ (o : Option (List ℕ)). why_scenario_entry o (take k ls)) (slice_get_past ls k past) ∙ ap why_end_of (ap (λ (j : ℕ). take j ls) last ∙ take-length ls) ∙ end_none)
       (order k (length ls))
 
   pub says_all : s ≡ scenario_said ls

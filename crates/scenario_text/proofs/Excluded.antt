@@ -14,9 +14,9 @@ use Rattle.desc_text.specs.declared.keys.Key.TheVariants as keys
 use Rattle.desc_text.specs.declared.items.Item.{Item}
 use Rattle.desc_text.specs.declared.items.Item.TheVariants as items
 use Rattle.slave_desc.specs.declared.descriptions.SlaveDesc.{SlaveDesc}
-use Rattle.scenario_text.specs.Said.{begins_block, group, last_of, front_of, slaves_of}
+use Rattle.scenario_text.specs.Said.{begins_block, group, last_of, front_of, slaves_of_blocks}
 use Rattle.scenario_text.specs.Clashes.{why_among}
-use Rattle.scenario_text.specs.Grammar.{AreSlaves, IsNew}
+use Rattle.scenario_text.specs.Grammar.{AreSlaveBlocks, IsNew}
 use Rattle.scenario_text.proofs.Groups.{at_last, group_new, group_more, at_last_is}
 use Rattle.scenario_text.specs.declared.heads.HeadItem.{HeadItem}
 use Rattle.scenario_text.proofs.Refusing.{none_refused, is_few}
@@ -41,7 +41,7 @@ goes_on xs [] gs g e = record { more = []; others = []; joined = ap group (appen
 goes_on xs (y ∷ ys) gs g e = subst (λ (l : List (List ℕ)). GoesOn gs g (group l)) (append_assoc xs (y ∷ []) ys) (goes_on_by (begins_block y) xs ys y gs g refl e (λ hs h e. goes_on (xs ++ y ∷ []) ys hs h e))
 
 -- the slave that a block in the middle describes, and how many stand before it
-pub described : (gs : List (List (List ℕ))) (g : List (List ℕ)) (others : List (List (List ℕ))) (ds : List SlaveDesc) → AreSlaves (gs ++ g ∷ others) ds → ((d : SlaveDesc) × Describes (items_in g) d) × (length gs < length ds)
+pub described : (gs : List (List (List ℕ))) (g : List (List ℕ)) (others : List (List (List ℕ))) (ds : List SlaveDesc) → AreSlaveBlocks (gs ++ g ∷ others) ds → ((d : SlaveDesc) × Describes (items_in g) d) × (length gs < length ds)
 described [] g others [] h = absurd h
 described [] g others (d ∷ ds) h = ((d, h.0), omega arith)
 described (f ∷ gs) g others [] h = absurd h
@@ -61,7 +61,7 @@ whole (g ∷ h ∷ gs) = inr (rest (whole (h ∷ gs)))
     rest (inl e) = cc
     rest (inr e) = ap (λ l. g ∷ l) e
 
-map_length : (gs : List (List (List ℕ))) → length (slaves_of gs) ≡ length gs
+map_length : (gs : List (List (List ℕ))) → length (slaves_of_blocks gs) ≡ length gs
 map_length [] = refl
 map_length (g ∷ gs) = ap suc (map_length gs)
 
@@ -69,35 +69,35 @@ items_split : (g more : List (List ℕ)) (l : List ℕ) (i : Item) → item_in l
 items_split g more l i e = ap items_in (append_assoc g (l ∷ []) more) ∙ filter_map-append item_in g (l ∷ more) ∙ ap (λ (o : Option Item). items_in g ++ cons_option o (items_in more)) e
 
 -- a line of the open block, with what comes later in it, is a description
-pub open_described : (xs ys : List (List ℕ)) (l : List ℕ) (i : Item) (ds : List SlaveDesc) → begins_block l ≡ false → item_in l ≡ Some i → AreSlaves (group (xs ++ l ∷ ys)) ds → (after : List Item) × (d : SlaveDesc) × Describes (items_in (last_of (group xs)) ++ i ∷ after) d
+pub open_described : (xs ys : List (List ℕ)) (l : List ℕ) (i : Item) (ds : List SlaveDesc) → begins_block l ≡ false → item_in l ≡ Some i → AreSlaveBlocks (group (xs ++ l ∷ ys)) ds → (after : List Item) × (d : SlaveDesc) × Describes (items_in (last_of (group xs)) ++ i ∷ after) d
 open_described xs ys l i ds other item slaves =
     let now = group_more xs l other ∙ at_last_all (group xs) l in
     let t = goes_on (xs ++ l ∷ []) ys (front_of (group xs)) (last_of (group xs) ++ l ∷ []) now in
     let all : group (xs ++ l ∷ ys) ≡ front_of (group xs) ++ ((last_of (group xs) ++ l ∷ []) ++ t.more) ∷ t.others = ap group (sym (append_assoc xs (l ∷ []) ys)) ∙ t.joined in
-    let d = described (front_of (group xs)) ((last_of (group xs) ++ l ∷ []) ++ t.more) t.others ds (subst (λ (g : List (List (List ℕ))). AreSlaves g ds) all slaves) in
+    let d = described (front_of (group xs)) ((last_of (group xs) ++ l ∷ []) ++ t.more) t.others ds (subst (λ (g : List (List (List ℕ))). AreSlaveBlocks g ds) all slaves) in
     (items_in t.more, d.0.0, subst (λ (x : List Item). Describes x d.0.0) (items_split (last_of (group xs)) t.more l i item) d.0.1)
 
 -- a slave line leaves room for its slave
-pub slave_room : (xs ys : List (List ℕ)) (l : List ℕ) (ds : List SlaveDesc) → begins_block l ≡ true → AreSlaves (group (xs ++ l ∷ ys)) ds → length (slaves_of (group xs)) < length ds
+pub slave_room : (xs ys : List (List ℕ)) (l : List ℕ) (ds : List SlaveDesc) → begins_block l ≡ true → AreSlaveBlocks (group (xs ++ l ∷ ys)) ds → length (slaves_of_blocks (group xs)) < length ds
 slave_room xs ys l ds begun slaves =
     let t = goes_on (xs ++ l ∷ []) ys (group xs) (l ∷ []) (group_new xs l begun) in
     let all : group (xs ++ l ∷ ys) ≡ group xs ++ ((l ∷ []) ++ t.more) ∷ t.others = ap group (sym (append_assoc xs (l ∷ []) ys)) ∙ t.joined in
-    let d = described (group xs) ((l ∷ []) ++ t.more) t.others ds (subst (λ (g : List (List (List ℕ))). AreSlaves g ds) all slaves) in
+    let d = described (group xs) ((l ∷ []) ++ t.more) t.others ds (subst (λ (g : List (List (List ℕ))). AreSlaveBlocks g ds) all slaves) in
     subst (λ (n : ℕ). n < length ds) (sym (map_length (group xs))) d.1
 
 -- a slave line finds the block before it whole
-pub last_whole : (xs ys : List (List ℕ)) (l : List ℕ) (ds : List SlaveDesc) → begins_block l ≡ true → group xs ≡ front_of (group xs) ++ last_of (group xs) ∷ [] → AreSlaves (group (xs ++ l ∷ ys)) ds → why_end (items_in (last_of (group xs))) ≡ None
+pub last_whole : (xs ys : List (List ℕ)) (l : List ℕ) (ds : List SlaveDesc) → begins_block l ≡ true → group xs ≡ front_of (group xs) ++ last_of (group xs) ∷ [] → AreSlaveBlocks (group (xs ++ l ∷ ys)) ds → why_end (items_in (last_of (group xs))) ≡ None
 last_whole xs ys l ds begun e slaves =
     let t = goes_on (xs ++ l ∷ []) ys (group xs) (l ∷ []) (group_new xs l begun) in
     let all : group (xs ++ l ∷ ys) ≡ front_of (group xs) ++ last_of (group xs) ∷ ((l ∷ []) ++ t.more) ∷ t.others =
     ap group (sym (append_assoc xs (l ∷ []) ys)) ∙ t.joined ∙ ap (λ g. g ++ ((l ∷ []) ++ t.more) ∷ t.others) e ∙ append_assoc (front_of (group xs)) (last_of (group xs) ∷ []) (((l ∷ []) ++ t.more) ∷ t.others) in
-    let d = described (front_of (group xs)) (last_of (group xs)) (((l ∷ []) ++ t.more) ∷ t.others) ds (subst (λ (g : List (List (List ℕ))). AreSlaves g ds) all slaves) in
+    let d = described (front_of (group xs)) (last_of (group xs)) (((l ∷ []) ++ t.more) ∷ t.others) ds (subst (λ (g : List (List (List ℕ))). AreSlaveBlocks g ds) all slaves) in
     end_none (items_in (last_of (group xs))) d.0.0 d.0.1
 
 -- and so does the end of the slaves
-pub last_of_all : (gs : List (List (List ℕ))) (ds : List SlaveDesc) → gs ≡ front_of gs ++ last_of gs ∷ [] → AreSlaves gs ds → why_end (items_in (last_of gs)) ≡ None
+pub last_of_all : (gs : List (List (List ℕ))) (ds : List SlaveDesc) → gs ≡ front_of gs ++ last_of gs ∷ [] → AreSlaveBlocks gs ds → why_end (items_in (last_of gs)) ≡ None
 last_of_all gs ds e slaves =
-    let d = described (front_of gs) (last_of gs) [] ds (subst (λ (g : List (List (List ℕ))). AreSlaves g ds) e slaves) in
+    let d = described (front_of gs) (last_of gs) [] ds (subst (λ (g : List (List (List ℕ))). AreSlaveBlocks g ds) e slaves) in
     end_none (items_in (last_of gs)) d.0.0 d.0.1
 
 -- ---- causes that a description leaves none of

@@ -16,9 +16,9 @@ use Rattle.scenario_text.specs.Heads.{head_item, is_said, runs_said}
 use Rattle.scenario_text.specs.Links.{link_of}
 use Rattle.scenario_text.specs.Checks.{why_link}
 use Rattle.scenario_text.specs.Clashes.{why_head, why_among, is_chaos}
-use Rattle.scenario_text.specs.Said.{scenario_of, key_of_words, key_at, args_of, lines_in, section_now, head_said, group, blocks, slaves_of, slaves_said, links_said, block_for, slaves_for, scenario_said}
-use Rattle.scenario_text.specs.Judging.{why_closes, why_item_read, why_link_read, why_acts, why_line, scenario_why_at, why_end_of}
-use Rattle.scenario_text.specs.Grammar.{reads_by, is_read, IsOrdered, MayFollow, IsNew, AreSlaves, AreOf}
+use Rattle.scenario_text.specs.Said.{scenario_of, key_of_words, key_at, args_of, lines_in, section_now, head_said, group, blocks, slaves_of_blocks, slaves_said, links_said, block_for, slaves_for, scenario_said}
+use Rattle.scenario_text.specs.Judging.{why_closes, why_item_read, why_link_read, why_acts, why_scenario_line, scenario_why_at, why_end_of}
+use Rattle.scenario_text.specs.Grammar.{reads_by, is_read, IsOrdered, MayFollow, IsNew, AreSlaveBlocks, AreOf}
 use Rattle.scenario_text.proofs.Orders.{earlier_lines, earlier_head, same_now}
 use Rattle.scenario_text.proofs.Passing.{PassedKey, passed, new_item, fits_if}
 use Rattle.scenario_text.proofs.Moves.{chaos_key, and_one, lines_push, head_push}
@@ -31,7 +31,7 @@ use Rattle.scenario_text.specs.declared.keys.LinkKey.{LinkKey}
 use Rattle.scenario_text.specs.declared.keys.AnyKey.{AnyKey}
 use Rattle.scenario_text.specs.declared.keys.AnyKey.TheVariants as any
 use Rattle.scenario_text.specs.declared.heads.HeadItem.{HeadItem}
-use Rattle.scenario_text.specs.declared.link_words.Link.{Link}
+use Rattle.scenario_text.specs.declared.link_words.LinkLine.{LinkLine}
 use Rattle.scenario_text.specs.declared.collected.Links.{Links}
 use Rattle.scenario.specs.declared.scenarios.Scenario.{Scenario}
 use Rattle.scenario_text.proofs.Refusing.{item_none, bad_none, link_none}
@@ -56,11 +56,11 @@ or_true false c e = e
 item_right : (all : List Item) (head : List HeadItem) (slaves : List SlaveDesc) (x : Result Item TextWhy) (i : Item) → x ≡ Ok i → why_item_read all head slaves x ≡ None → why_among head slaves i ≡ None
 item_right all head slaves x i e h = (none_first (why_item all i) (why_among head slaves i) (ap (why_item_read all head slaves) (sym e) ∙ h)).1
 
-link_right : (slaves : List SlaveDesc) (links : Links) (x : Result Link TextWhy) (l : Link) → x ≡ Ok l → why_link_read slaves links x ≡ None → why_link slaves links l ≡ None
+link_right : (slaves : List SlaveDesc) (links : Links) (x : Result LinkLine TextWhy) (l : LinkLine) → x ≡ Ok l → why_link_read slaves links x ≡ None → why_link slaves links l ≡ None
 link_right slaves links x l e h = ap (why_link_read slaves links) (sym e) ∙ h
 
 module _ (ls : List (List ℕ)) (p : Passes ls) where
-  line_passes : (before after : List (List ℕ)) (l : List ℕ) → ls ≡ before ++ l ∷ after → why_line before l ≡ None
+  line_passes : (before after : List (List ℕ)) (l : List ℕ) → ls ≡ before ++ l ∷ after → why_scenario_line before l ≡ None
   line_passes before after l e =
       let long = ap length e in
       let more = length-append before (l ∷ after) in
@@ -84,7 +84,7 @@ module _ (ls : List (List ℕ)) (p : Passes ls) where
     in_order = subst IsOrdered split ordered
 
     slaves_same : (k : LinkKey) → key_at l ≡ Some (any.Link k) → slaves_said before ≡ slaves_said ls
-    slaves_same k at = sym (ap (λ (x : List (List ℕ)). slaves_of (group x)) (ap (lines_in 1) split ∙ earlier_lines 1 before after l (any.Link k) in_order at (omega arith)))
+    slaves_same k at = sym (ap (λ (x : List (List ℕ)). slaves_of_blocks (group x)) (ap (lines_in 1) split ∙ earlier_lines 1 before after l (any.Link k) in_order at (omega arith)))
 
     head_same : (k : LinkKey) → key_at l ≡ Some (any.Link k) → head_said before ≡ head_said ls
     head_same k at = sym (ap head_said split ∙ earlier_head before after l (any.Link k) in_order at (omega arith))
@@ -117,7 +117,7 @@ module _ (ls : List (List ℕ)) (p : Passes ls) where
     pub new_line : (k : Key) (i : Item) → key_at l ≡ Some (any.Block k) → item_of k (args_of (words l)) ≡ Ok i → IsNew (head_said before) (slaves_for before k) i
     new_line k i at read = new_item (head_said before) (slaves_for before k) i (item_right (block_for before k) (head_said before) (slaves_for before k) (item_of k (args_of (words l))) i read (none_first _ _ (keyed before after l (any.Block k) split at).2).1)
 
-    pub fit_line : (k : LinkKey) (x : Link) → key_at l ≡ Some (any.Link k) → link_of (slaves_said ls) (runs_said (head_said ls)) k (args_of (words l)) ≡ Ok x → MayFollow (slaves_said ls) (links_said before) x
+    pub fit_line : (k : LinkKey) (x : LinkLine) → key_at l ≡ Some (any.Link k) → link_of (slaves_said ls) (runs_said (head_said ls)) k (args_of (words l)) ≡ Ok x → MayFollow (slaves_said ls) (links_said before) x
     fit_line k x at read =
         let t = link_acts k at in
         fits_if (slaves_said ls) (links_said before) x
@@ -171,7 +171,7 @@ module _ (ls : List (List ℕ)) (p : Passes ls) where
       (order 0 (section_now ls))
 
   -- what passes is of the grammar, where its blocks describe the slaves
-  pub grammatical : (s : Scenario) → AreSlaves (blocks ls) s.slaves → IsScenario s → s ≡ scenario_said ls → AreOf ls s
+  pub grammatical : (s : Scenario) → AreSlaveBlocks (blocks ls) s.slaves → IsScenario s → s ≡ scenario_said ls → AreOf ls s
   grammatical s slaves sound says =
       let same : slaves_said ls ≡ s.slaves = all_said (blocks ls) s.slaves slaves in
       let runs : runs_said (head_said ls) ≡ s.runs = sym (ap (λ (s : Scenario). s.runs) says) in

@@ -7,8 +7,8 @@ use Rattle.desc_text.specs.Said.{busy_in, heartbeat_in, resolution_in, items_in}
 use Rattle.desc_text.specs.Reads.{Describes, IsOr}
 use Rattle.desc_text.specs.declared.items.Item.{Item}
 use Rattle.slave_desc.specs.declared.descriptions.SlaveDesc.{SlaveDesc}
-pub use Rattle.scenario_text.specs.Grammar.{AreSlaves}
-use Rattle.scenario_text.specs.Said.{begins_block, opens, onto, group, last_of, front_of, first_or, slave_said, slaves_of}
+pub use Rattle.scenario_text.specs.Grammar.{AreSlaveBlocks}
+use Rattle.scenario_text.specs.Said.{begins_block, opens, onto, group, last_of, front_of, first_or, slave_said, slaves_of_blocks}
 
 -- a line at the end of the last block
 abbrev pub at_last : List (List (List ℕ)) → List ℕ → List (List (List ℕ))
@@ -68,7 +68,7 @@ front_is (h ∷ i ∷ gs) g = ap (λ l. h ∷ l) (front_is (i ∷ gs) g)
 
 -- ---- the slaves of blocks
 
-pub slaves_more : (gs : List (List (List ℕ))) (ds : List SlaveDesc) (g : List (List ℕ)) (d : SlaveDesc) → AreSlaves gs ds → Describes (items_in g) d → AreSlaves (gs ++ g ∷ []) (ds ++ d ∷ [])
+pub slaves_more : (gs : List (List (List ℕ))) (ds : List SlaveDesc) (g : List (List ℕ)) (d : SlaveDesc) → AreSlaveBlocks gs ds → Describes (items_in g) d → AreSlaveBlocks (gs ++ g ∷ []) (ds ++ d ∷ [])
 slaves_more [] [] g d h k = (k, tt)
 slaves_more [] (e ∷ ds) g d h k = absurd h
 slaves_more (f ∷ gs) [] g d h k = absurd h
@@ -96,8 +96,8 @@ one_said all d says =
       outputs = says.outputs i;
     }
 
-pub all_said : (gs : List (List (List ℕ))) (ds : List SlaveDesc) → AreSlaves gs ds → slaves_of gs ≡ ds
+pub all_said : (gs : List (List (List ℕ))) (ds : List SlaveDesc) → AreSlaveBlocks gs ds → slaves_of_blocks gs ≡ ds
 all_said [] [] h = refl
 all_said [] (d ∷ ds) h = absurd h
 all_said (g ∷ gs) [] h = absurd h
-all_said (g ∷ gs) (d ∷ ds) h = ap (λ (e : SlaveDesc). e ∷ slaves_of gs) (one_said (items_in g) d h.0) ∙ ap (λ (l : List SlaveDesc). d ∷ l) (all_said gs ds h.1)
+all_said (g ∷ gs) (d ∷ ds) h = ap (λ (e : SlaveDesc). e ∷ slaves_of_blocks gs) (one_said (items_in g) d h.0) ∙ ap (λ (l : List SlaveDesc). d ∷ l) (all_said gs ds h.1)

@@ -10,7 +10,7 @@ use Rattle.text_lines.specs.Counts.{one_word}
 use Rattle.text_lines.proofs.Results.{bind_ok, moved}
 use Rattle.text_lines.proofs.WordRanges.{number_fits, address_fits}
 use Rattle.scenario_text.specs.Keys.{or_some, head_code}
-use Rattle.scenario_text.specs.Heads.{least, greatest, number_item, protocol_of, head_item, is_said, number_in, master_in, first_said}
+use Rattle.scenario_text.specs.Heads.{least_head, greatest_head, number_item, protocol_of, head_item, is_said, number_in, master_of_head, first_said}
 use Rattle.scenario.specs.Sound.{IsAddress}
 use Rattle.scenario_text.specs.declared.keys.HeadKey.{HeadKey}
 use Rattle.scenario_text.specs.declared.keys.HeadKey.TheVariants as heads
@@ -42,7 +42,7 @@ same_key : (j k : HeadKey) → eqb (head_code j) (head_code k) ≡ true → j �
 same_key j k e = sym (code_back j) ∙ ap of_code (equal_numbers (head_code j) (head_code k) e) ∙ code_back k
 
 abbrev pub InRange : HeadKey → ℕ → Type 0
-InRange k n = (least k ≤ n) × (n ≤ greatest k)
+InRange k n = (least_head k ≤ n) × (n ≤ greatest_head k)
 
 abbrev pub FitsItem : HeadItem → Type 0
 FitsItem (said.Number k n) = InRange k n × (eqb (head_code k) (head_code heads.Master) ≡ false)
@@ -70,8 +70,8 @@ first_fits k (i ∷ is) d fits default = first_by k i (first_said (number_in k) 
 number_item_fits : (k : HeadKey) (args : List (List ℕ)) (i : HeadItem) → eqb (head_code k) (head_code heads.Master) ≡ false → number_item k args ≡ Ok i → FitsItem i
 number_item_fits k args i other e =
     let w = bind_ok (one_word args) _ i e in
-    let n = bind_ok (number_from (least k) (greatest k) w.0) _ i w.2 in
-    moved FitsItem (said.Number k n.0) i n.2 (number_fits (least k) (greatest k) w.0 n.0 n.1, other)
+    let n = bind_ok (number_from (least_head k) (greatest_head k) w.0) _ i w.2 in
+    moved FitsItem (said.Number k n.0) i n.2 (number_fits (least_head k) (greatest_head k) w.0 n.0 n.1, other)
 
 address_is : (args : List (List ℕ)) (a : Address) → address args ≡ Ok a → IsAddress a
 address_is args a e = let f = address_fits args a e in record { ip = f.0; port = (f.1, f.2) }
@@ -94,7 +94,7 @@ head_item_fits heads.DataTurns args i e = number_item_fits heads.DataTurns args 
 head_item_fits heads.StepTries args i e = number_item_fits heads.StepTries args i refl e
 
 -- a head that names the master gives its address
-pub master_fits : (is : List HeadItem) (default : Address) → AllByRecursion FitsItem is → is_said heads.Master is ≡ true → IsAddress (unwrap_or (first_said master_in is) default) × (first_said master_in is ≡ Some (unwrap_or (first_said master_in is) default))
+pub master_fits : (is : List HeadItem) (default : Address) → AllByRecursion FitsItem is → is_said heads.Master is ≡ true → IsAddress (unwrap_or (first_said master_of_head is) default) × (first_said master_of_head is ≡ Some (unwrap_or (first_said master_of_head is) default))
 master_fits [] default fits named = absurd (false≢true named)
 master_fits (said.Master a ∷ is) default fits named = (fits.0, refl)
 master_fits (said.Protocol p ∷ is) default fits named = master_fits is default fits.1 named

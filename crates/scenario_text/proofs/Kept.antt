@@ -20,7 +20,7 @@ use Rattle.desc_text.specs.Items.{key_of, item_of}
 use Rattle.slave_desc.specs.Descriptions.{IsDesc}
 use Rattle.desc_text.specs.Judging.{begins, why_key}
 use Rattle.desc_text.specs.Said.{item_keyed, item_of_words, item_in, items_in}
-use Rattle.desc_text.specs.Machine.{has, put, why_held, nothing}
+use Rattle.desc_text.specs.Machine.{has, put_item, why_held, nothing}
 use Rattle.desc_text.specs.Machine as block
 use Rattle.desc_text.proofs.Held.{Holds, holds_nothing, holds_more, may_come, not_refused, not_not}
 use Rattle.desc_text.proofs.Judged.{item_key, unless_ok, end_ok, items_push}
@@ -30,7 +30,7 @@ use Rattle.desc_text.specs.declared.items.Item.{Item}
 use Rattle.desc_text.specs.declared.partials.Partial.{Partial}
 use Rattle.slave_desc.specs.declared.descriptions.SlaveDesc.{SlaveDesc}
 use Rattle.scenario_text.specs.Keys.{or_some, head_key, link_key, any_key, section_of, closes_block}
-use Rattle.scenario_text.specs.Heads.{head_item, is_said, master_in, first_said, steps_said, runs_said}
+use Rattle.scenario_text.specs.Heads.{head_item, is_said, master_of_head, first_said, steps_said, runs_said}
 use Rattle.scenario.specs.Lookups.{parameters_at, parameters_in}
 use Rattle.scenario_text.specs.Links.{link_of}
 use Rattle.scenario.specs.Settings.{takes_at, taken_by}
@@ -39,7 +39,7 @@ use Rattle.scenario_text.specs.Collecting.{put_link, no_links}
 use Rattle.scenario.specs.Totals.{is_too_much}
 use Rattle.scenario_text.specs.Clashes.{why_head, why_slaves, why_among, is_chaos}
 use Rattle.scenario_text.specs.Said.{scenario_of}
-use Rattle.scenario_text.specs.Machine.{start, close_head, close_block, close_slaves, closes, take_head, take_block, take_link, act, take_keyed, take_words, take_line, finished}
+use Rattle.scenario_text.specs.Machine.{reader_at_start, close_head, close_block, close_slaves, closes, take_head, take_scenario_block, take_link, act_on_key, take_scenario_keyed, take_scenario_words, take_scenario_line, scenario_finished}
 use Rattle.scenario.specs.Sound.{IsSlave, IsScenario}
 use Rattle.scenario_text.proofs.HeadRanges.{FitsItem, first_fits, head_item_fits, master_fits}
 use Rattle.scenario_text.proofs.LinkRanges.{link_there}
@@ -74,7 +74,7 @@ pub record Sound (r : Reader) : Type 0 where
   pub shut : r.section ≡ 2 → is_some r.block.name ≡ false
   pub ready : r.section ≡ 2 → (1 ≤ length r.slaves) × (is_too_much r.slaves (steps_said r.head) (runs_said r.head) ≡ false)
   pub bounded : r.section ≤ 2
-  pub new : AreNew (first_said master_in r.head) r.slaves r.block
+  pub new : AreNew (first_said master_of_head r.head) r.slaves r.block
   pub bare : r.section ≡ 0 → (r.slaves ≡ []) × (r.block ≡ nothing)
   pub mastered : 1 ≤ r.section → is_said heads.Master r.head ≡ true
 
@@ -130,7 +130,7 @@ with_slave r d h desc given late early room =
       shut = λ _. refl;
       ready = λ two. absurd (omega arith);
       bounded = h.bounded;
-      new = slave_new (first_said master_in r.head) r.slaves r.block d h.new given;
+      new = slave_new (first_said master_of_head r.head) r.slaves r.block d h.new given;
       bare = λ zero. absurd (omega arith);
       mastered = h.mastered;
     }
@@ -220,7 +220,7 @@ head_keeps r q key args h at e =
       shut = h.shut;
       ready = λ two. absurd (omega arith);
       bounded = h.bounded;
-      new = bare_new (first_said master_in (r.head ++ i.0 ∷ [])) r.slaves r.block (h.bare at);
+      new = bare_new (first_said master_of_head (r.head ++ i.0 ∷ [])) r.slaves r.block (h.bare at);
       bare = h.bare;
       mastered = λ one. absurd (omega arith);
     })
@@ -232,7 +232,7 @@ line_item line w args key i e skip k read =
     ∙ ap (λ (k : Option Key). item_keyed k args) k
     ∙ ap result_ok read
 
-block_takes : (r q : Reader) (key : Key) (line w : List ℕ) (args : List (List ℕ)) → Sound r → r.section ≡ 1 → words line ≡ w ∷ args → is_skipped (w ∷ args) ≡ false → key_of w ≡ Some key → take_block r key args ≡ Ok q → Sound q
+block_takes : (r q : Reader) (key : Key) (line w : List ℕ) (args : List (List ℕ)) → Sound r → r.section ≡ 1 → words line ≡ w ∷ args → is_skipped (w ∷ args) ≡ false → key_of w ≡ Some key → take_scenario_block r key args ≡ Ok q → Sound q
 block_takes r q key line w args h at said skip k e =
     let u = unless_ok (why_key (has r.block key) (is_some r.block.name) key) _ q e in
     let i = bind_ok (item_of key args) _ q u.1 in
@@ -242,9 +242,9 @@ block_takes r q key line w args h at said skip k e =
     let key_is = item_key key args i.0 i.1 in
     let more = holds_more (items_in h.lines) r.block h.block i.0 (ap (has r.block) key_is ∙ may.0) (subst (λ (k : Key). (begins k ≡ true) ⊎ (is_some r.block.name ≡ true)) (sym key_is) may.1) v.0 in
     let items : items_in (h.lines ++ line ∷ []) ≡ items_in h.lines ++ i.0 ∷ [] = items_push h.lines line ∙ ap (λ (o : Option Item). items_in h.lines ++ cons_option o []) (line_item line w args key i.0 said skip k i.1) in
-    moved Sound (record r { block = put r.block i.0 }) q x.1 (record {
+    moved Sound (record r { block = put_item r.block i.0 }) q x.1 (record {
       lines = h.lines ++ line ∷ [];
-      block = subst (λ (l : List Item). Holds l (put r.block i.0)) (sym items) more;
+      block = subst (λ (l : List Item). Holds l (put_item r.block i.0)) (sym items) more;
       head = h.head;
       slaves = h.slaves;
       few = h.few;
@@ -285,7 +285,7 @@ block_key None (Some b) l k e = cc
 block_key None None (Some l) k e = cc
 block_key None None None k e = cc
 
-act_keeps : (r q : Reader) (key : AnyKey) (line w : List ℕ) (args : List (List ℕ)) → Sound r → r.section ≡ section_of key → words line ≡ w ∷ args → is_skipped (w ∷ args) ≡ false → any_key w ≡ Some key → act r key args ≡ Ok q → Sound q
+act_keeps : (r q : Reader) (key : AnyKey) (line w : List ℕ) (args : List (List ℕ)) → Sound r → r.section ≡ section_of key → words line ≡ w ∷ args → is_skipped (w ∷ args) ≡ false → any_key w ≡ Some key → act_on_key r key args ≡ Ok q → Sound q
 act_keeps r q (any.Head key) line w args h at said skip k e = head_keeps r q key args h at e
 act_keeps r q (any.Block key) line w args h at said skip k e = block_takes r q key line w args h at said skip (block_key (head_key w) (key_of w) (link_key w) key k) e
 act_keeps r q (any.Link key) line w args h at said skip k e = link_keeps r q key args h at e
@@ -300,7 +300,7 @@ last_closes (any.Head k) e = absurd (omega arith)
 last_closes (any.Block k) e = absurd (omega arith)
 last_closes (any.Link k) e = refl
 
-keyed_keeps : (r q : Reader) (key : Option AnyKey) (line w : List ℕ) (args : List (List ℕ)) → Sound r → words line ≡ w ∷ args → is_skipped (w ∷ args) ≡ false → any_key w ≡ key → take_keyed r key args ≡ Ok q → Sound q
+keyed_keeps : (r q : Reader) (key : Option AnyKey) (line w : List ℕ) (args : List (List ℕ)) → Sound r → words line ≡ w ∷ args → is_skipped (w ∷ args) ≡ false → any_key w ≡ key → take_scenario_keyed r key args ≡ Ok q → Sound q
 keyed_keeps r q None line w args h said skip k e = cc
 keyed_keeps r q (Some key) line w args h said skip k e =
     let u = unless_ok (refused_if (ltb (section_of key) r.section) why.Order) _ q e in
@@ -308,21 +308,21 @@ keyed_keeps r q (Some key) line w args h said skip k e =
     let t = closes_keeps r c.0 (closes_block key) (section_of key) h (not_above (section_of key) r.section (not_refused _ why.Order u.0)) (few_sections key) (last_closes key) c.1 in
     act_keeps c.0 q key line w args t.0 t.1 said skip k c.2
 
-words_keep : (r q : Reader) (line : List ℕ) (ws : List (List ℕ)) → Sound r → words line ≡ ws → is_skipped ws ≡ false → take_words r ws ≡ Ok q → Sound q
+words_keep : (r q : Reader) (line : List ℕ) (ws : List (List ℕ)) → Sound r → words line ≡ ws → is_skipped ws ≡ false → take_scenario_words r ws ≡ Ok q → Sound q
 words_keep r q line [] h said skip e = absurd (false≢true (sym skip))
 words_keep r q line (w ∷ args) h said skip e = keyed_keeps r q (any_key w) line w args h said skip refl e
 
-line_by : (u s : Bool) (r q : Reader) (line : List ℕ) → Sound r → is_skipped (words line) ≡ s → cond (not u) (Err why.NotUtf8) (cond s (Ok r) (take_words r (words line))) ≡ Ok q → Sound q
+line_by : (u s : Bool) (r q : Reader) (line : List ℕ) → Sound r → is_skipped (words line) ≡ s → cond (not u) (Err why.NotUtf8) (cond s (Ok r) (take_scenario_words r (words line))) ≡ Ok q → Sound q
 line_by false s r q line h skip e = cc
 line_by true true r q line h skip e = moved Sound r q e h
 line_by true false r q line h skip e = words_keep r q line (words line) h refl skip e
 
-line_keeps : (r q : Reader) (line : List ℕ) → Sound r → take_line r line ≡ Ok q → Sound q
+line_keeps : (r q : Reader) (line : List ℕ) → Sound r → take_scenario_line r line ≡ Ok q → Sound q
 line_keeps r q line h e = line_by (is_utf8 line) (is_skipped (words line)) r q line h refl e
 
 -- ---- the end
 
-end_gives : (r : Reader) (s : Scenario) → Sound r → finished r ≡ Ok s → IsScenario s
+end_gives : (r : Reader) (s : Scenario) → Sound r → scenario_finished r ≡ Ok s → IsScenario s
 end_gives r s h e =
     let c = bind_ok (closes r true 2) _ s e in
     let t = closes_keeps r c.0 true 2 h h.bounded (omega arith) (λ _. refl) c.1 in
@@ -348,7 +348,7 @@ end_gives r s h e =
       slaves = k.slaves;
       names_apart = k.new.names;
       addresses_apart = k.new.addresses;
-      master_apart = others_differ c.0.slaves (first_said master_in c.0.head) _ master.1 k.new.others;
+      master_apart = others_differ c.0.slaves (first_said master_of_head c.0.head) _ master.1 k.new.others;
       small = ready.1;
       wires = k.links.wires;
       one_wire = k.links.one_wire;
@@ -362,7 +362,7 @@ end_gives r s h e =
       net = k.links.net;
     })
 
-start_sound : Sound start
+start_sound : Sound reader_at_start
 start_sound = record {
   lines = [];
   block = holds_nothing;
@@ -379,12 +379,12 @@ start_sound = record {
   mastered = λ one. absurd (omega arith);
 }
 
-run_gives : (n : ℕ) (r : Reader) (ls : List (List ℕ)) (s : Scenario) → Sound r → run_of take_line finished n r ls ≡ Ok s → IsScenario s
-run_gives n r [] s h e = end_gives r s h (at_ok n (finished r) s e)
+run_gives : (n : ℕ) (r : Reader) (ls : List (List ℕ)) (s : Scenario) → Sound r → run_of take_scenario_line scenario_finished n r ls ≡ Ok s → IsScenario s
+run_gives n r [] s h e = end_gives r s h (at_ok n (scenario_finished r) s e)
 run_gives n r (l ∷ ls) s h e =
-    let t = and_ok (at_line n (take_line r l)) (λ t. run_of take_line finished (n + 1) t ls) s e in
-    run_gives (n + 1) t.0 ls s (line_keeps r t.0 l h (at_ok n (take_line r l) t.0 t.1)) t.2
+    let t = and_ok (at_line n (take_scenario_line r l)) (λ t. run_of take_scenario_line scenario_finished (n + 1) t ls) s e in
+    run_gives (n + 1) t.0 ls s (line_keeps r t.0 l h (at_ok n (take_scenario_line r l) t.0 t.1)) t.2
 
 -- what a text gives is in range
-pub text_gives : (ls : List (List ℕ)) (s : Scenario) → run_of take_line finished 1 start ls ≡ Ok s → IsScenario s
-text_gives ls s e = run_gives 1 start ls s start_sound e
+pub text_gives : (ls : List (List ℕ)) (s : Scenario) → run_of take_scenario_line scenario_finished 1 reader_at_start ls ≡ Ok s → IsScenario s
+text_gives ls s e = run_gives 1 reader_at_start ls s start_sound e

@@ -22,7 +22,7 @@ use Rattle.scenario_text.specs.LastSettings.{same_parameter, SameSettings, IsLas
 use Rattle.scenario.proofs.Changes.{changed-append}
 use Rattle.scenario.specs.declared.scenarios.Setting.{Setting}
 use Rattle.scenario.specs.declared.scenarios.Rerun.{Rerun}
-use Rattle.scenario_text.specs.declared.link_words.Link.{Link}
+use Rattle.scenario_text.specs.declared.link_words.LinkLine.{LinkLine}
 use Rattle.scenario_text.specs.declared.collected.Links.{Links}
 
 -- ---- two settings of one slave
@@ -128,7 +128,7 @@ map_longer rs None = refl
 map_longer rs (Some r) = sym (map-append setting_in rs (r ∷ []))
 
 -- what is kept stays so with one more line
-pub kept_with : (links new : Links) (l : Link) (first later first' later' : List Setting) (run run' : ℕ) → IsKept links first later run → new ≡ put_link links l
+pub kept_with : (links new : Links) (l : LinkLine) (first later first' later' : List Setting) (run run' : ℕ) → IsKept links first later run → new ≡ put_link links l
     → SameSettings first' (longer first (set_in l)) → SameSettings later' (longer later (option_map setting_in (rerun_in l))) → IsLastRun run' (longer links.reruns (rerun_in l)) → IsKept new first' later' run'
 kept_with links new l first later first' later' run run' h e f g k =
     subst (λ (n : Links). IsKept n first' later' run') (sym e) (record {

@@ -8,7 +8,7 @@ use Rattle.scenario.specs.declared.net_plans.Chaos.{Chaos}
 use Rattle.std.proofs.lemmas.Bool.{leb-true}
 use Rattle.std.proofs.lemmas.Bool.Decides.{nat_tests}
 use Rattle.text_lines.specs.Causes.{or_why}
-use Rattle.text_lines.specs.Numbers.{number, number_from, int64}
+use Rattle.text_lines.specs.Numbers.{decimal_number, number_from, int64}
 use Rattle.text_lines.specs.Names.{name}
 use Rattle.text_lines.specs.Counts.{three_words, four_words}
 use Rattle.text_lines.proofs.PlainWords.{and_both}
@@ -17,7 +17,7 @@ use Rattle.text_lines.proofs.WordRanges.{number_fits}
 use Rattle.desc_text.proofs.Ranges.{int64_fits}
 use Rattle.text_lines.specs.declared.reasons.TextWhy.TheVariants as why
 use Rattle.slave_desc.specs.declared.descriptions.SlaveDesc.{SlaveDesc}
-use Rattle.scenario_text.specs.Links.{place_of, slave_of, index_of, end_of, hex_value, type_of, wire_of, setting_of, rerun_of, every_of, message_of, drop_of, copy_of, hold_of, chaos_of, link_of}
+use Rattle.scenario_text.specs.Links.{place_of, number_of_slave, index_of, end_of, hex_value, type_of, wire_of, setting_of, rerun_of, every_of, message_named, drop_of, copy_of, hold_of, chaos_of, link_of}
 use Rattle.scenario.specs.Lookups.{outputs_at, inputs_at, parameters_at}
 use Rattle.scenario.specs.Sound.{IsSlave, IsSetting, IsRerun, AreMessages, IsNetLine, IsChaos}
 use Rattle.scenario.specs.declared.scenarios.Wire.{Wire}
@@ -26,13 +26,13 @@ use Rattle.scenario.specs.declared.scenarios.Every.{Every}
 use Rattle.scenario.specs.declared.scenarios.Rerun.{Rerun}
 use Rattle.scenario_text.specs.declared.keys.LinkKey.{LinkKey}
 use Rattle.scenario_text.specs.declared.keys.LinkKey.TheVariants as keys
-use Rattle.scenario_text.specs.declared.link_words.Link.{Link}
-use Rattle.scenario_text.specs.declared.link_words.Link.TheVariants as link
+use Rattle.scenario_text.specs.declared.link_words.LinkLine.{LinkLine}
+use Rattle.scenario_text.specs.declared.link_words.LinkLine.TheVariants as link
 
 found_in : (k n at : ℕ) → cond (ltb k n) (Some k) None ≡ Some at → at < n
 found_in k n at e = grind (arith, nat_tests)
 
-slave_fits : (slaves : List SlaveDesc) (w : List ℕ) (s : ℕ) → slave_of slaves w ≡ Ok s → IsSlave slaves s
+slave_fits : (slaves : List SlaveDesc) (w : List ℕ) (s : ℕ) → number_of_slave slaves w ≡ Ok s → IsSlave slaves s
 slave_fits slaves w s e =
     let n = bind_ok (name w) _ s e in
     let p = bind_ok (or_why (place_of slaves n.0) why.UnknownSlave) _ s n.2 in
@@ -41,7 +41,7 @@ slave_fits slaves w s e =
 
 index_fits : (count : ℕ) (w : List ℕ) (n : ℕ) → index_of count w ≡ Ok n → n < count
 index_fits count w n e =
-    let t = bind_ok (or_why (number w) why.BadNumber) (λ n. cond (ltb n count && ltb n 256) (Ok n) (Err why.UnknownPort)) n e in
+    let t = bind_ok (or_why (decimal_number w) why.BadNumber) (λ n. cond (ltb n count && ltb n 256) (Ok n) (Err why.UnknownPort)) n e in
     let c = chosen_ok (ltb t.0 count && ltb t.0 256) t.0 n why.UnknownPort t.2 in
     let b = and_both (ltb t.0 count) (ltb t.0 256) c.0 in
     subst (λ (n : ℕ). n < count) c.1 (grind (arith, nat_tests))
@@ -58,7 +58,7 @@ pub record IsPair (slaves : List SlaveDesc) (e : Every) : Type 0 where
   pub q : (1 ≤ e.q) × (e.q ≤ 1000)
 
 -- what a line names is there
-abbrev pub IsThere : List SlaveDesc → ℕ → Link → Type 0
+abbrev pub IsThere : List SlaveDesc → ℕ → LinkLine → Type 0
 IsThere slaves runs (link.Wire w) = IsPlaced slaves w
 IsThere slaves runs (link.Set x) = IsSetting slaves x
 IsThere slaves runs (link.RerunSet r) = IsRerun slaves runs r
@@ -69,9 +69,9 @@ IsThere slaves runs (link.Chaos c) = IsChaos c
 wire_fits : (slaves : List SlaveDesc) (args : List (List ℕ)) (w : Wire) → wire_of slaves args ≡ Ok w → IsPlaced slaves w
 wire_fits slaves args w e =
     let a = bind_ok (four_words args) _ w e in
-    let f = bind_ok (slave_of slaves a.0.0) _ w a.2 in
+    let f = bind_ok (number_of_slave slaves a.0.0) _ w a.2 in
     let o = bind_ok (index_of (length (outputs_at slaves f.0)) a.0.1) _ w f.2 in
-    let t = bind_ok (slave_of slaves a.0.2) _ w o.2 in
+    let t = bind_ok (number_of_slave slaves a.0.2) _ w o.2 in
     let i = bind_ok (index_of (length (inputs_at slaves t.0)) a.0.3) _ w t.2 in
     moved (IsPlaced slaves) (record { from = f.0; out = o.0; to = t.0; into = i.0 }) w i.2 (record {
       from = slave_fits slaves a.0.0 f.0 f.1;
@@ -83,7 +83,7 @@ wire_fits slaves args w e =
 setting_fits : (slaves : List SlaveDesc) (args : List (List ℕ)) (x : Setting) → setting_of slaves args ≡ Ok x → IsSetting slaves x
 setting_fits slaves args x e =
     let a = bind_ok (three_words args) _ x e in
-    let s = bind_ok (slave_of slaves a.0.0) _ x a.2 in
+    let s = bind_ok (number_of_slave slaves a.0.0) _ x a.2 in
     let i = bind_ok (index_of (length (parameters_at slaves s.0)) a.0.1) _ x s.2 in
     let v = bind_ok (int64 a.0.2) _ x i.2 in
     moved (IsSetting slaves) (record { slave = s.0; index = i.0; value = v.0 }) x v.2 (record {
@@ -96,7 +96,7 @@ rerun_fits : (slaves : List SlaveDesc) (runs : ℕ) (args : List (List ℕ)) (r 
 rerun_fits slaves runs args r e =
     let a = bind_ok (four_words args) _ r e in
     let n = bind_ok (number_from 2 runs a.0.0) _ r a.2 in
-    let s = bind_ok (slave_of slaves a.0.1) _ r n.2 in
+    let s = bind_ok (number_of_slave slaves a.0.1) _ r n.2 in
     let i = bind_ok (index_of (length (parameters_at slaves s.0)) a.0.2) _ r s.2 in
     let v = bind_ok (int64 a.0.3) _ r i.2 in
     moved (IsRerun slaves runs) (record { run = n.0; slave = s.0; index = i.0; value = v.0 }) r v.2 (record {
@@ -111,8 +111,8 @@ rerun_fits slaves runs args r e =
 every_fits : (slaves : List SlaveDesc) (args : List (List ℕ)) (x : Every) → every_of slaves args ≡ Ok x → IsPair slaves x
 every_fits slaves args x e =
     let a = bind_ok (three_words args) _ x e in
-    let f = bind_ok (slave_of slaves a.0.0) _ x a.2 in
-    let t = bind_ok (slave_of slaves a.0.1) _ x f.2 in
+    let f = bind_ok (number_of_slave slaves a.0.0) _ x a.2 in
+    let t = bind_ok (number_of_slave slaves a.0.1) _ x f.2 in
     let q = bind_ok (number_from 1 1000 a.0.2) _ x t.2 in
     moved (IsPair slaves) (record { from = f.0; to = t.0; q = q.0 }) x q.2 (record {
       from = slave_fits slaves a.0.0 f.0 f.1;
@@ -122,7 +122,7 @@ every_fits slaves args x e =
 
 end_fits : (count : ℕ) (w : List ℕ) (n : ℕ) → end_of count w ≡ Ok n → n ≤ count
 end_fits count w n e =
-    let t = bind_ok (or_why (number w) why.BadNumber) (λ n. cond (leb n count) (Ok n) (Err why.UnknownSlave)) n e in
+    let t = bind_ok (or_why (decimal_number w) why.BadNumber) (λ n. cond (leb n count) (Ok n) (Err why.UnknownSlave)) n e in
     let c = chosen_ok (leb t.0 count) t.0 n why.UnknownSlave t.2 in
     subst (λ (n : ℕ). n ≤ count) c.1 (leb-true t.0 count c.0)
 
@@ -153,7 +153,7 @@ type_fits (a ∷ b ∷ []) n e =
     let low = hex_fits b l.0 (some_ok (hex_value b) why.BadNumber l.0 l.1) in
     moved (λ (n : ℕ). n < 256) (h.0 * 16 + l.0) n l.2 (omega (arith, high, low))
 
-message_fits : (slaves : List SlaveDesc) (end type_id nth : List ℕ) (m : ℕ × ℕ × ℕ) → message_of (length slaves) end type_id nth ≡ Ok m → AreMessages slaves m.0 m.1 m.2
+message_fits : (slaves : List SlaveDesc) (end type_id nth : List ℕ) (m : ℕ × ℕ × ℕ) → message_named (length slaves) end type_id nth ≡ Ok m → AreMessages slaves m.0 m.1 m.2
 message_fits slaves end type_id nth m e =
     let d = bind_ok (end_of (length slaves) end) _ m e in
     let t = bind_ok (type_of type_id) _ m d.2 in
@@ -163,20 +163,20 @@ message_fits slaves end type_id nth m e =
 drop_fits : (slaves : List SlaveDesc) (args : List (List ℕ)) (l : NetLine) → drop_of (length slaves) args ≡ Ok l → IsNetLine slaves l
 drop_fits slaves args l e =
     let a = bind_ok (three_words args) _ l e in
-    let m = bind_ok (message_of (length slaves) a.0.0 a.0.1 a.0.2) _ l a.2 in
+    let m = bind_ok (message_named (length slaves) a.0.0 a.0.1 a.0.2) _ l a.2 in
     moved (IsNetLine slaves) (lines.Drop m.0.0 m.0.1 m.0.2) l m.2 (message_fits slaves a.0.0 a.0.1 a.0.2 m.0 m.1)
 
 copy_fits : (slaves : List SlaveDesc) (args : List (List ℕ)) (l : NetLine) → copy_of (length slaves) args ≡ Ok l → IsNetLine slaves l
 copy_fits slaves args l e =
     let a = bind_ok (four_words args) _ l e in
-    let m = bind_ok (message_of (length slaves) a.0.0 a.0.1 a.0.2) _ l a.2 in
+    let m = bind_ok (message_named (length slaves) a.0.0 a.0.1 a.0.2) _ l a.2 in
     let lag = bind_ok (number_from 1 1000 a.0.3) _ l m.2 in
     moved (IsNetLine slaves) (lines.Copy m.0.0 m.0.1 m.0.2 lag.0) l lag.2 (message_fits slaves a.0.0 a.0.1 a.0.2 m.0 m.1, number_fits 1 1000 a.0.3 lag.0 lag.1)
 
 hold_fits : (slaves : List SlaveDesc) (args : List (List ℕ)) (l : NetLine) → hold_of (length slaves) args ≡ Ok l → IsNetLine slaves l
 hold_fits slaves args l e =
     let a = bind_ok (four_words args) _ l e in
-    let m = bind_ok (message_of (length slaves) a.0.0 a.0.1 a.0.2) _ l a.2 in
+    let m = bind_ok (message_named (length slaves) a.0.0 a.0.1 a.0.2) _ l a.2 in
     let lag = bind_ok (number_from 1 1000 a.0.3) _ l m.2 in
     moved (IsNetLine slaves) (lines.Hold m.0.0 m.0.1 m.0.2 lag.0) l lag.2 (message_fits slaves a.0.0 a.0.1 a.0.2 m.0 m.1, number_fits 1 1000 a.0.3 lag.0 lag.1)
 
@@ -195,7 +195,7 @@ chaos_fits args c e =
       hold = (number_fits 0 1000 a.0.3 h.0 h.1).1;
     })
 
-pub link_there : (slaves : List SlaveDesc) (runs : ℕ) (key : LinkKey) (args : List (List ℕ)) (l : Link) → link_of slaves runs key args ≡ Ok l → IsThere slaves runs l
+pub link_there : (slaves : List SlaveDesc) (runs : ℕ) (key : LinkKey) (args : List (List ℕ)) (l : LinkLine) → link_of slaves runs key args ≡ Ok l → IsThere slaves runs l
 link_there slaves runs keys.Wire args l e = let w = bind_ok (wire_of slaves args) _ l e in moved (IsThere slaves runs) (link.Wire w.0) l w.2 (wire_fits slaves args w.0 w.1)
 link_there slaves runs keys.Set args l e = let x = bind_ok (setting_of slaves args) _ l e in moved (IsThere slaves runs) (link.Set x.0) l x.2 (setting_fits slaves args x.0 x.1)
 link_there slaves runs keys.RerunSet args l e = let r = bind_ok (rerun_of slaves runs args) _ l e in moved (IsThere slaves runs) (link.RerunSet r.0) l r.2 (rerun_fits slaves runs args r.0 r.1)

@@ -27,8 +27,8 @@ use Rattle.scenario.specs.declared.scenarios.Wire.{Wire}
 use Rattle.scenario.specs.declared.scenarios.Setting.{Setting}
 use Rattle.scenario.specs.declared.scenarios.Every.{Every}
 use Rattle.scenario.specs.declared.scenarios.Rerun.{Rerun}
-use Rattle.scenario_text.specs.declared.link_words.Link.{Link}
-use Rattle.scenario_text.specs.declared.link_words.Link.TheVariants as link
+use Rattle.scenario_text.specs.declared.link_words.LinkLine.{LinkLine}
+use Rattle.scenario_text.specs.declared.link_words.LinkLine.TheVariants as link
 use Rattle.scenario_text.specs.declared.collected.Links.{Links}
 use Rattle.text_lines.proofs.NumberTests.{equal_numbers}
 use Rattle.scenario.proofs.Changes.{changed-append}
@@ -201,7 +201,7 @@ module _ (slaves : List SlaveDesc) (runs : ℕ) (links : Links) (h : AreSound sl
     net = record { few = h.net.few; lines = h.net.lines; chaos = there };
   }
 
-  pub links_more : (l : Link) → IsThere slaves runs l → why_link slaves links l ≡ None → AreSound slaves runs (put_link links l)
+  pub links_more : (l : LinkLine) → IsThere slaves runs l → why_link slaves links l ≡ None → AreSound slaves runs (put_link links l)
   links_more (link.Wire w) there e = wire_more w there e
   links_more (link.Set x) there e = set_more x there e
   links_more (link.RerunSet r) there e = rerun_more r there e

@@ -15,7 +15,7 @@ use Rattle.desc_text.specs.Items.{key_of, item_of}
 use Rattle.text_lines.specs.Causes.{came, refused_if}
 use Rattle.desc_text.specs.Judging.{begins, why_key}
 use Rattle.desc_text.specs.Said.{item_in, items_in}
-use Rattle.desc_text.specs.Machine.{newer, longer, has, put, why_held, nothing}
+use Rattle.desc_text.specs.Machine.{newer, longer, has, put_item, why_held, nothing}
 use Rattle.desc_text.proofs.Held.{Holds, holds_nothing, key_in, holds_more, may_come, not_refused, lengthened}
 use Rattle.desc_text.proofs.Judged.{item_key, unless_ok, items_push}
 use Rattle.desc_text.specs.declared.keys.Key.{Key}
@@ -29,10 +29,10 @@ use Rattle.scenario_text.specs.Heads.{head_item, is_said, runs_said}
 use Rattle.scenario_text.specs.Links.{link_of, wire_of, setting_of, rerun_of, every_of, drop_of, copy_of, hold_of}
 use Rattle.scenario_text.specs.Checks.{why_link}
 use Rattle.scenario_text.specs.Collecting.{put_link}
-use Rattle.scenario_text.specs.Said.{wire_in, set_in, rerun_in, every_in, line_in, chaos_in, key_of_words, key_at, args_of, is_of, lines_in, head_by, head_said, is_slave_key, begins_block, group, slaves_of, link_by, links_of}
+use Rattle.scenario_text.specs.Said.{wire_in, set_in, rerun_in, every_in, line_in, chaos_in, key_of_words, key_at, args_of, is_of, lines_in, head_by, head_said, is_slave_key, begins_block, group, slaves_of_blocks, link_by, links_of}
 use Rattle.scenario_text.specs.Clashes.{why_among, is_chaos}
-use Rattle.scenario_text.specs.Machine.{closes, take_head, take_block, take_link, act, take_keyed, take_words, take_line, start}
-use Rattle.scenario_text.proofs.Groups.{at_last, group_new, group_more, at_last_is, AreSlaves, all_said}
+use Rattle.scenario_text.specs.Machine.{closes, take_head, take_scenario_block, take_link, act_on_key, take_scenario_keyed, take_scenario_words, take_scenario_line, reader_at_start}
+use Rattle.scenario_text.proofs.Groups.{at_last, group_new, group_more, at_last_is, AreSlaveBlocks, all_said}
 use Rattle.scenario_text.proofs.Kept.{block_key, line_item}
 use Rattle.scenario_text.proofs.Stands.{IsOpen, Stands, After, closes_after}
 use Rattle.scenario_text.specs.declared.keys.HeadKey.{HeadKey}
@@ -41,8 +41,8 @@ use Rattle.scenario_text.specs.declared.keys.LinkKey.TheVariants as linkkeys
 use Rattle.scenario_text.specs.declared.keys.AnyKey.{AnyKey}
 use Rattle.scenario_text.specs.declared.keys.AnyKey.TheVariants as any
 use Rattle.scenario_text.specs.declared.heads.HeadItem.{HeadItem}
-use Rattle.scenario_text.specs.declared.link_words.Link.{Link}
-use Rattle.scenario_text.specs.declared.link_words.Link.TheVariants as link
+use Rattle.scenario_text.specs.declared.link_words.LinkLine.{LinkLine}
+use Rattle.scenario_text.specs.declared.link_words.LinkLine.TheVariants as link
 use Rattle.scenario_text.specs.declared.collected.Links.{Links}
 use Rattle.scenario_text.specs.declared.readers.Reader.{Reader}
 use Rattle.text_lines.proofs.NumberTests.{not_above}
@@ -53,8 +53,8 @@ use Rattle.scenario_text.proofs.Refusing.{has_room}
 abbrev section_by : List (List ℕ) → List (List ℕ) → ℕ
 section_by l2 l1 = cond (came l2) 2 (cond (came l1) 1 0)
 
-abbrev link_at : List (List ℕ) → List HeadItem → List ℕ → Option Link
-link_at l1 head l = link_by (slaves_of (group l1)) (runs_said head) (key_at l) (args_of (words l))
+abbrev link_at : List (List ℕ) → List HeadItem → List ℕ → Option LinkLine
+link_at l1 head l = link_by (slaves_of_blocks (group l1)) (runs_said head) (key_at l) (args_of (words l))
 
 abbrev links_by : List (List ℕ) → List HeadItem → List (List ℕ) → Links
 links_by l1 head l2 = links_of (filter_map (link_at l1 head) l2)
@@ -65,7 +65,7 @@ record Frame (l1 l2 : List (List ℕ)) (head : List HeadItem) (r : Reader) : Typ
   closed : List (List (List ℕ))
   now : Option (List (List ℕ))
   split : group l1 ≡ closed ++ option_to_list now
-  slaves : AreSlaves closed r.slaves
+  slaves : AreSlaveBlocks closed r.slaves
   block : IsOpen now r.block
   at : is_some now ≡ eqb r.section 1
   room : is_some now ≡ true → length r.slaves < 16
@@ -93,7 +93,7 @@ came_push (y ∷ ys) x = refl
 
 -- ---- the links with one more
 
-listed : {X : Type 0} (f : Link → Option X) (all : List Link) (l : Link) → filter_map f (all ++ l ∷ []) ≡ longer (filter_map f all) (f l)
+listed : {X : Type 0} (f : LinkLine → Option X) (all : List LinkLine) (l : LinkLine) → filter_map f (all ++ l ∷ []) ≡ longer (filter_map f all) (f l)
 listed f all l = filter_map-append f all (l ∷ []) ∙ lengthened (filter_map f all) (f l)
 
 first_newer : {X : Type 0} (xs : List X) (o : Option X) → (is_some o ≡ true → is_some (slice_get xs 0) ≡ false) → slice_get (longer xs o) 0 ≡ newer (slice_get xs 0) o
@@ -101,7 +101,7 @@ first_newer xs None fresh = refl
 first_newer [] (Some x) fresh = refl
 first_newer (y ∷ ys) (Some x) fresh = absurd (false≢true (sym (fresh refl)))
 
-links_push : (all : List Link) (l : Link) → (is_some (chaos_in l) ≡ true → is_some (slice_get (filter_map chaos_in all) 0) ≡ false) → links_of (all ++ l ∷ []) ≡ put_link (links_of all) l
+links_push : (all : List LinkLine) (l : LinkLine) → (is_some (chaos_in l) ≡ true → is_some (slice_get (filter_map chaos_in all) 0) ≡ false) → links_of (all ++ l ∷ []) ≡ put_link (links_of all) l
 links_push all l fresh = λ i. record {
   wires = listed wire_in all l i;
   settings = listed set_in all l i;
@@ -110,10 +110,10 @@ links_push all l fresh = λ i. record {
   net = record { lines = listed line_in all l i; chaos = (ap (λ xs. slice_get xs 0) (listed chaos_in all l) ∙ first_newer (filter_map chaos_in all) (chaos_in l) fresh) i };
 }
 
-abbrev pub IsChaosKey : LinkKey → Link → Type 0
+abbrev pub IsChaosKey : LinkKey → LinkLine → Type 0
 IsChaosKey key l = is_some (chaos_in l) ≡ true → is_chaos key ≡ true
 
-pub chaos_key : (slaves : List SlaveDesc) (runs : ℕ) (key : LinkKey) (args : List (List ℕ)) (l : Link) → link_of slaves runs key args ≡ Ok l → IsChaosKey key l
+pub chaos_key : (slaves : List SlaveDesc) (runs : ℕ) (key : LinkKey) (args : List (List ℕ)) (l : LinkLine) → link_of slaves runs key args ≡ Ok l → IsChaosKey key l
 chaos_key slaves runs linkkeys.Wire args l e = let x = bind_ok (wire_of slaves args) _ l e in moved (IsChaosKey linkkeys.Wire) (link.Wire x.0) l x.2 (λ t. absurd (false≢true t))
 chaos_key slaves runs linkkeys.Set args l e = let x = bind_ok (setting_of slaves args) _ l e in moved (IsChaosKey linkkeys.Set) (link.Set x.0) l x.2 (λ t. absurd (false≢true t))
 chaos_key slaves runs linkkeys.RerunSet args l e = let x = bind_ok (rerun_of slaves runs args) _ l e in moved (IsChaosKey linkkeys.RerunSet) (link.RerunSet x.0) l x.2 (λ t. absurd (false≢true t))
@@ -145,7 +145,7 @@ second_none true w o e = cc
 second_none false w o e = e
 
 -- a name that may come has room, and names the block
-named_item : (head : List HeadItem) (slaves : List SlaveDesc) (i : Item) → key_in i ≡ keys.Slave → why_among head slaves i ≡ None → (length slaves < 16) × (is_some (put nothing i).name ≡ true)
+named_item : (head : List HeadItem) (slaves : List SlaveDesc) (i : Item) → key_in i ≡ keys.Slave → why_among head slaves i ≡ None → (length slaves < 16) × (is_some (put_item nothing i).name ≡ true)
 named_item head slaves (items.Slave n) k e = (has_room (length slaves) (not_refused (leb 16 (length slaves)) why.Limit (second_none _ why.Repeated _ e)), refl)
 named_item head slaves (items.Uuid n) k e = cc
 named_item head slaves (items.Address a) k e = cc
@@ -156,7 +156,7 @@ named_item head slaves (items.Resolution n d) k e = cc
 named_item head slaves (items.Input p) k e = cc
 named_item head slaves (items.Output p) k e = cc
 
-still_named : (p : Partial) (i : Item) → is_some p.name ≡ true → is_some (put p i).name ≡ true
+still_named : (p : Partial) (i : Item) → is_some p.name ≡ true → is_some (put_item p i).name ≡ true
 still_named p (items.Slave n) e = refl
 still_named p (items.Uuid n) e = e
 still_named p (items.Address a) e = e
@@ -190,7 +190,7 @@ module _ (ls : List (List ℕ)) (r q : Reader) (h : Stands ls r) where
         closed = h.closed;
         now = h.now;
         split = h.split;
-        slaves = subst (AreSlaves h.closed) (sym kept.0) h.slaves;
+        slaves = subst (AreSlaveBlocks h.closed) (sym kept.0) h.slaves;
         block = subst (IsOpen h.now) (sym kept.1) h.block;
         at = h.at ∙ ap (λ (n : ℕ). eqb n 1) (sym same);
         room = λ t. subst (λ (l : List SlaveDesc). length l < 16) (sym kept.0) (h.room t);
@@ -199,15 +199,15 @@ module _ (ls : List (List ℕ)) (r q : Reader) (h : Stands ls r) where
         links = after.links ∙ h.links ∙ no_links_by L1 L1 (head_said ls) (head_said ls ++ i ∷ []) L2 none;
       }
 
-  move_link : (key : LinkKey) (args : List (List ℕ)) (line : List ℕ) (l : Link) → After ls r q true 2 → key_at line ≡ Some (any.Link key) → args_of (words line) ≡ args → link_of q.slaves (runs_said q.head) key args ≡ Ok l → refused_if (is_chaos key && is_some q.links.net.chaos) why.Repeated ≡ None
+  move_link : (key : LinkKey) (args : List (List ℕ)) (line : List ℕ) (l : LinkLine) → After ls r q true 2 → key_at line ≡ Some (any.Link key) → args_of (words line) ≡ args → link_of q.slaves (runs_said q.head) key args ≡ Ok l → refused_if (is_chaos key && is_some q.links.net.chaos) why.Repeated ≡ None
       → Frame L1 (L2 ++ line ∷ []) (head_said ls) (record q { links = put_link q.links l })
   move_link key args line l after k a read fresh =
-      let slaves_are : slaves_of (group L1) ≡ q.slaves = all_said (group L1) q.slaves (after.shut refl).0 in
+      let slaves_are : slaves_of_blocks (group L1) ≡ q.slaves = all_said (group L1) q.slaves (after.shut refl).0 in
       let head_is : q.head ≡ head_said ls = after.head ∙ h.head in
       let links_are : q.links ≡ links_by L1 (head_said ls) L2 = after.links ∙ h.links in
       let said : link_at L1 (head_said ls) line ≡ Some l =
-      ap (λ (k : Option AnyKey). link_by (slaves_of (group L1)) (runs_said (head_said ls)) k (args_of (words line))) k
-      ∙ ap (λ (a : List (List ℕ)). result_ok (link_of (slaves_of (group L1)) (runs_said (head_said ls)) key a)) a
+      ap (λ (k : Option AnyKey). link_by (slaves_of_blocks (group L1)) (runs_said (head_said ls)) k (args_of (words line))) k
+      ∙ ap (λ (a : List (List ℕ)). result_ok (link_of (slaves_of_blocks (group L1)) (runs_said (head_said ls)) key a)) a
       ∙ ap (λ (s : List SlaveDesc). result_ok (link_of s (runs_said (head_said ls)) key args)) slaves_are
       ∙ ap (λ (hd : List HeadItem). result_ok (link_of q.slaves (runs_said hd) key args)) (sym head_is)
       ∙ ap result_ok read in
@@ -228,11 +228,11 @@ module _ (ls : List (List ℕ)) (r q : Reader) (h : Stands ls r) where
         links =
             ap (λ (k : Links). put_link k l) links_are
             ∙ sym (links_push (filter_map (link_at L1 (head_said ls)) L2) l before)
-            ∙ ap links_of (sym (filter_map-append (link_at L1 (head_said ls)) L2 (line ∷ []) ∙ ap (λ (o : Option Link). filter_map (link_at L1 (head_said ls)) L2 ++ cons_option o []) said));
+            ∙ ap links_of (sym (filter_map-append (link_at L1 (head_said ls)) L2 (line ∷ []) ∙ ap (λ (o : Option LinkLine). filter_map (link_at L1 (head_said ls)) L2 ++ cons_option o []) said));
       }
 
   move_slave : (line : List ℕ) (i : Item) → After ls r q true 1 → r.section ≤ 1 → begins_block line ≡ true → item_in line ≡ Some i → key_in i ≡ keys.Slave → why_held q.block i ≡ None → why_among q.head q.slaves i ≡ None
-      → Frame (L1 ++ line ∷ []) L2 (head_said ls) (record q { block = put q.block i })
+      → Frame (L1 ++ line ∷ []) L2 (head_said ls) (record q { block = put_item q.block i })
   move_slave line i after up begun item k held among =
       let none : L2 ≡ [] = h.early (omega arith) in
       let shut = after.shut refl in
@@ -245,7 +245,7 @@ module _ (ls : List (List ℕ)) (r q : Reader) (h : Stands ls r) where
         now = Some (line ∷ []);
         split = group_new L1 line begun;
         slaves = shut.0;
-        block = subst (λ (p : Partial). Holds (items_in (line ∷ [])) (put p i) × (is_some (put p i).name ≡ true)) (sym shut.1) (subst (λ (o : Option Item). Holds (cons_option o []) (put nothing i)) (sym item) more, named.1);
+        block = subst (λ (p : Partial). Holds (items_in (line ∷ [])) (put_item p i) × (is_some (put_item p i).name ≡ true)) (sym shut.1) (subst (λ (o : Option Item). Holds (cons_option o []) (put_item nothing i)) (sym item) more, named.1);
         at = ap (λ (n : ℕ). eqb n 1) (sym after.arrived);
         room = λ _. named.0;
         early = λ _. none;
@@ -254,13 +254,13 @@ module _ (ls : List (List ℕ)) (r q : Reader) (h : Stands ls r) where
       }
 
   move_block : (line : List ℕ) (key : Key) (i : Item) → After ls r q false 1 → r.section ≤ 1 → begins_block line ≡ false → begins key ≡ false → item_in line ≡ Some i → key_in i ≡ key → why_key (has q.block key) (is_some q.block.name) key ≡ None → why_held q.block i ≡ None
-      → Frame (L1 ++ line ∷ []) L2 (head_said ls) (record q { block = put q.block i })
+      → Frame (L1 ++ line ∷ []) L2 (head_said ls) (record q { block = put_item q.block i })
   move_block line key i after up other not_name item k may held = by h.now h.split h.block h.at h.room
     where
       named : is_some q.block.name ≡ true
       named = ⊎_elim (λ b. absurd (false≢true (sym not_name ∙ b))) (λ n. n) (may_come (has q.block key) (is_some q.block.name) key may).1
 
-      by : (now : Option (List (List ℕ))) → group L1 ≡ h.closed ++ option_to_list now → IsOpen now r.block → is_some now ≡ eqb r.section 1 → (is_some now ≡ true → length r.slaves < 16) → Frame (L1 ++ line ∷ []) L2 (head_said ls) (record q { block = put q.block i })
+      by : (now : Option (List (List ℕ))) → group L1 ≡ h.closed ++ option_to_list now → IsOpen now r.block → is_some now ≡ eqb r.section 1 → (is_some now ≡ true → length r.slaves < 16) → Frame (L1 ++ line ∷ []) L2 (head_said ls) (record q { block = put_item q.block i })
       by None split open_block at room =
           let kept = after.kept refl in
           absurd (false≢true (ap (λ (p : Partial). is_some p.name) (sym (kept.1 ∙ open_block)) ∙ named))
@@ -277,8 +277,8 @@ module _ (ls : List (List ℕ)) (r q : Reader) (h : Stands ls r) where
             closed = h.closed;
             now = Some (g ++ line ∷ []);
             split = group_more L1 line other ∙ ap (λ (gs : List (List (List ℕ))). at_last gs line) split ∙ at_last_is h.closed g line;
-            slaves = subst (AreSlaves h.closed) (sym kept.0) h.slaves;
-            block = (subst (λ (l : List Item). Holds l (put q.block i)) (sym said) more, still_named q.block i named);
+            slaves = subst (AreSlaveBlocks h.closed) (sym kept.0) h.slaves;
+            block = (subst (λ (l : List Item). Holds l (put_item q.block i)) (sym said) more, still_named q.block i named);
             at = ap (λ (n : ℕ). eqb n 1) (sym after.arrived);
             room = λ _. subst (λ (l : List SlaveDesc). length l < 16) (sym kept.0) (room refl);
             early = λ _. none;
@@ -324,7 +324,7 @@ module _ (ls : List (List ℕ)) (r q t : Reader) (h : Stands ls r) (line w : Lis
       (sym (head_push ls line (Some (any.Link key)) at ∙ append-nil (head_said ls)))
       (move_link ls r q h key args line l.0 after at (ap args_of said) l.1 u.0)))
 
-  act_block : (key : Key) (ends : Bool) → begins key ≡ ends → any_key w ≡ Some (any.Block key) → After ls r q ends 1 → r.section ≤ 1 → take_block q key args ≡ Ok t → Stands (ls ++ line ∷ []) t
+  act_block : (key : Key) (ends : Bool) → begins key ≡ ends → any_key w ≡ Some (any.Block key) → After ls r q ends 1 → r.section ≤ 1 → take_scenario_block q key args ≡ Ok t → Stands (ls ++ line ∷ []) t
   act_block key ends begun k after up e =
       let u = unless_ok (why_key (has q.block key) (is_some q.block.name) key) _ t e in
       let i = bind_ok (item_of key args) _ t u.1 in
@@ -335,9 +335,9 @@ module _ (ls : List (List ℕ)) (r q t : Reader) (h : Stands ls r) (line w : Lis
       let item = line_item line w args key i.0 said skip own i.1 in
       let key_is = item_key key args i.0 i.1 in
       let begins_line : begins_block line ≡ ends = ap is_slave_key at ∙ slave_key_is key ∙ begun in
-      moved (Stands (ls ++ line ∷ [])) (record q { block = put q.block i.0 }) t x.1
-      (stands_of (ls ++ line ∷ []) (record q { block = put q.block i.0 })
-      (reframe _ _ _ _ _ _ (record q { block = put q.block i.0 })
+      moved (Stands (ls ++ line ∷ [])) (record q { block = put_item q.block i.0 }) t x.1
+      (stands_of (ls ++ line ∷ []) (record q { block = put_item q.block i.0 })
+      (reframe _ _ _ _ _ _ (record q { block = put_item q.block i.0 })
       (sym (lines_push 1 ls line (Some (any.Block key)) at))
       (sym (lines_push 2 ls line (Some (any.Block key)) at ∙ append-nil (lines_in 2 ls)))
       (sym (head_push ls line (Some (any.Block key)) at ∙ append-nil (head_said ls)))
@@ -354,7 +354,7 @@ module _ (ls : List (List ℕ)) (r q t : Reader) (h : Stands ls r) (line w : Lis
       slave_only keys.Input e = absurd (false≢true e)
       slave_only keys.Output e = absurd (false≢true e)
 
-      moves : (ends : Bool) → begins key ≡ ends → After ls r q ends 1 → begins_block line ≡ ends → {i : Item} → item_in line ≡ Some i → key_in i ≡ key → why_key (has q.block key) (is_some q.block.name) key ≡ None → why_held q.block i ≡ None → why_among q.head q.slaves i ≡ None → (j : Item) → Frame (lines_in 1 ls ++ line ∷ []) (lines_in 2 ls) (head_said ls) (record q { block = put q.block i })
+      moves : (ends : Bool) → begins key ≡ ends → After ls r q ends 1 → begins_block line ≡ ends → {i : Item} → item_in line ≡ Some i → key_in i ≡ key → why_key (has q.block key) (is_some q.block.name) key ≡ None → why_held q.block i ≡ None → why_among q.head q.slaves i ≡ None → (j : Item) → Frame (lines_in 1 ls ++ line ∷ []) (lines_in 2 ls) (head_said ls) (record q { block = put_item q.block i })
       moves true begun after begins_line {i} item key_is may held among j = move_slave ls r q h line i after up begins_line item (key_is ∙ slave_only key begun) held among
       moves false begun after begins_line {i} item key_is may held among j = move_block ls r q h line key i after up begins_line begun item key_is may held
 
@@ -369,19 +369,19 @@ closes_is keys.Resolution = refl
 closes_is keys.Input = refl
 closes_is keys.Output = refl
 
-act_by : (ls : List (List ℕ)) (r q t : Reader) (h : Stands ls r) (line w : List ℕ) (args : List (List ℕ)) → words line ≡ w ∷ args → is_skipped (w ∷ args) ≡ false → (key : AnyKey) → any_key w ≡ Some key → After ls r q (closes_block key) (section_of key) → r.section ≤ section_of key → act q key args ≡ Ok t → Stands (ls ++ line ∷ []) t
+act_by : (ls : List (List ℕ)) (r q t : Reader) (h : Stands ls r) (line w : List ℕ) (args : List (List ℕ)) → words line ≡ w ∷ args → is_skipped (w ∷ args) ≡ false → (key : AnyKey) → any_key w ≡ Some key → After ls r q (closes_block key) (section_of key) → r.section ≤ section_of key → act_on_key q key args ≡ Ok t → Stands (ls ++ line ∷ []) t
 act_by ls r q t h line w args said skip (any.Head key) k after up e = act_head ls r q t h line w args said skip key k after up e
 act_by ls r q t h line w args said skip (any.Link key) k after up e = act_link ls r q t h line w args said skip key k after e
 act_by ls r q t h line w args said skip (any.Block key) k after up e = act_block ls r q t h line w args said skip key (begins key) refl k (subst (λ (b : Bool). After ls r q b 1) (closes_is key) after) up e
 
-keyed_moves : (ls : List (List ℕ)) (r t : Reader) (h : Stands ls r) (line w : List ℕ) (args : List (List ℕ)) → words line ≡ w ∷ args → is_skipped (w ∷ args) ≡ false → (key : Option AnyKey) → any_key w ≡ key → take_keyed r key args ≡ Ok t → Stands (ls ++ line ∷ []) t
+keyed_moves : (ls : List (List ℕ)) (r t : Reader) (h : Stands ls r) (line w : List ℕ) (args : List (List ℕ)) → words line ≡ w ∷ args → is_skipped (w ∷ args) ≡ false → (key : Option AnyKey) → any_key w ≡ key → take_scenario_keyed r key args ≡ Ok t → Stands (ls ++ line ∷ []) t
 keyed_moves ls r t h line w args said skip None k e = cc
 keyed_moves ls r t h line w args said skip (Some key) k e =
     let u = unless_ok (refused_if (ltb (section_of key) r.section) why.Order) _ t e in
     let c = bind_ok (closes r (closes_block key) (section_of key)) _ t u.1 in
     act_by ls r c.0 t h line w args said skip key k (closes_after ls r h (closes_block key) (section_of key) c.0 c.1) (not_above (section_of key) r.section (not_refused _ why.Order u.0)) c.2
 
-words_move : (ls : List (List ℕ)) (r t : Reader) (h : Stands ls r) (line : List ℕ) (ws : List (List ℕ)) → words line ≡ ws → is_skipped ws ≡ false → take_words r ws ≡ Ok t → Stands (ls ++ line ∷ []) t
+words_move : (ls : List (List ℕ)) (r t : Reader) (h : Stands ls r) (line : List ℕ) (ws : List (List ℕ)) → words line ≡ ws → is_skipped ws ≡ false → take_scenario_words r ws ≡ Ok t → Stands (ls ++ line ∷ []) t
 words_move ls r t h line [] said skip e = absurd (false≢true (sym skip))
 words_move ls r t h line (w ∷ args) said skip e = keyed_moves ls r t h line w args said skip (any_key w) refl e
 
@@ -395,14 +395,14 @@ skipped ls r h line skip =
     (sym (head_push ls line None at ∙ append-nil (head_said ls)))
     (frame_of ls r h))
 
-line_by : (u s : Bool) (ls : List (List ℕ)) (r t : Reader) (h : Stands ls r) (line : List ℕ) → is_skipped (words line) ≡ s → cond (not u) (Err why.NotUtf8) (cond s (Ok r) (take_words r (words line))) ≡ Ok t → Stands (ls ++ line ∷ []) t
+line_by : (u s : Bool) (ls : List (List ℕ)) (r t : Reader) (h : Stands ls r) (line : List ℕ) → is_skipped (words line) ≡ s → cond (not u) (Err why.NotUtf8) (cond s (Ok r) (take_scenario_words r (words line))) ≡ Ok t → Stands (ls ++ line ∷ []) t
 line_by false s ls r t h line skip e = cc
 line_by true true ls r t h line skip e = moved (Stands (ls ++ line ∷ [])) r t e (skipped ls r h line skip)
 line_by true false ls r t h line skip e = words_move ls r t h line (words line) refl skip e
 
 -- a line that is taken
-pub line_moves : (ls : List (List ℕ)) (r t : Reader) (line : List ℕ) → Stands ls r → take_line r line ≡ Ok t → Stands (ls ++ line ∷ []) t
+pub line_moves : (ls : List (List ℕ)) (r t : Reader) (line : List ℕ) → Stands ls r → take_scenario_line r line ≡ Ok t → Stands (ls ++ line ∷ []) t
 line_moves ls r t line h e = line_by (is_utf8 line) (is_skipped (words line)) ls r t h line refl e
 
-pub starts : Stands [] start
+pub starts : Stands [] reader_at_start
 starts = record { section = refl; head = refl; closed = []; now = None; split = refl; slaves = tt; block = refl; at = refl; room = λ t. absurd (false≢true t); early = λ _. refl; first = λ _. refl; links = refl }

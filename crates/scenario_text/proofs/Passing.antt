@@ -18,12 +18,12 @@ use Rattle.scenario.specs.Settings.{changed_by, takes_at, setting_in}
 use Rattle.scenario_text.specs.Said.{parameters_now, chaos_in, key_of_words, key_at, args_of, section_now}
 use Rattle.scenario_text.specs.Checks.{why_change, why_link}
 use Rattle.scenario_text.specs.Clashes.{why_among}
-use Rattle.scenario_text.specs.Judging.{why_closes, why_order, why_acts, why_keyed, why_words, why_line}
+use Rattle.scenario_text.specs.Judging.{why_closes, why_order, why_acts, why_scenario_keyed, why_scenario_words, why_scenario_line}
 use Rattle.scenario_text.specs.Grammar.{MayFollow, IsNew}
 use Rattle.scenario_text.specs.declared.keys.AnyKey.{AnyKey}
 use Rattle.scenario_text.specs.declared.heads.HeadItem.{HeadItem}
-use Rattle.scenario_text.specs.declared.link_words.Link.{Link}
-use Rattle.scenario_text.specs.declared.link_words.Link.TheVariants as link
+use Rattle.scenario_text.specs.declared.link_words.LinkLine.{LinkLine}
+use Rattle.scenario_text.specs.declared.link_words.LinkLine.TheVariants as link
 use Rattle.scenario_text.specs.declared.collected.Links.{Links}
 use Rattle.scenario.specs.declared.scenarios.Setting.{Setting}
 use Rattle.scenario.specs.declared.scenarios.Wire.{Wire}
@@ -43,7 +43,7 @@ pub record Passed (before : List (List ℕ)) (l : List ℕ) : Type 0 where
   pub utf8 : is_utf8 l ≡ true
   pub said : (is_skipped (words l) ≡ true) ⊎ PassedKey before l
 
-keyed_by : (before : List (List ℕ)) (l w : List ℕ) (args : List (List ℕ)) (key : Option AnyKey) → words l ≡ w ∷ args → is_skipped (w ∷ args) ≡ false → any_key w ≡ key → why_keyed before key args ≡ None → PassedKey before l
+keyed_by : (before : List (List ℕ)) (l w : List ℕ) (args : List (List ℕ)) (key : Option AnyKey) → words l ≡ w ∷ args → is_skipped (w ∷ args) ≡ false → any_key w ≡ key → why_scenario_keyed before key args ≡ None → PassedKey before l
 keyed_by before l w args None said skip k e = cc
 keyed_by before l w args (Some key) said skip k e =
     let t = none_first (why_order before key) (or_else (why_closes before (closes_block key) (section_of key)) (why_acts before key args)) e in
@@ -56,16 +56,16 @@ keyed_by before l w args (Some key) said skip k e =
       acts = subst (λ (a : List (List ℕ)). why_acts before key a ≡ None) (sym (ap args_of said)) u.1;
     }
 
-worded_by : (before : List (List ℕ)) (l : List ℕ) (ws : List (List ℕ)) → words l ≡ ws → is_skipped ws ≡ false → why_words before ws ≡ None → PassedKey before l
+worded_by : (before : List (List ℕ)) (l : List ℕ) (ws : List (List ℕ)) → words l ≡ ws → is_skipped ws ≡ false → why_scenario_words before ws ≡ None → PassedKey before l
 worded_by before l [] said skip e = absurd (false≢true (sym skip))
 worded_by before l (w ∷ args) said skip e = keyed_by before l w args (any_key w) said skip refl e
 
-passed_by : (before : List (List ℕ)) (l : List ℕ) (u s : Bool) → is_utf8 l ≡ u → is_skipped (words l) ≡ s → cond (not u) (Some why.NotUtf8) (cond s None (why_words before (words l))) ≡ None → Passed before l
+passed_by : (before : List (List ℕ)) (l : List ℕ) (u s : Bool) → is_utf8 l ≡ u → is_skipped (words l) ≡ s → cond (not u) (Some why.NotUtf8) (cond s None (why_scenario_words before (words l))) ≡ None → Passed before l
 passed_by before l false s utf8 skip e = cc
 passed_by before l true true utf8 skip e = record { utf8 = utf8; said = inl skip }
 passed_by before l true false utf8 skip e = record { utf8 = utf8; said = inr (worded_by before l (words l) refl skip e) }
 
-pub passed : (before : List (List ℕ)) (l : List ℕ) → why_line before l ≡ None → Passed before l
+pub passed : (before : List (List ℕ)) (l : List ℕ) → why_scenario_line before l ≡ None → Passed before l
 passed before l e = passed_by before l (is_utf8 l) (is_skipped (words l)) refl refl e
 
 -- ---- what it says
@@ -99,7 +99,7 @@ taken_of : (slaves : List SlaveDesc) (before : Links) (x : Setting) → why_chan
 taken_of slaves before x e = not_not _ (not_refused _ why.Parameters e)
 
 -- a link that is not refused fits
-pub fits_if : (slaves : List SlaveDesc) (before : Links) (l : Link) → (is_some (chaos_in l) ≡ true → is_some before.net.chaos ≡ false) → why_link slaves before l ≡ None → MayFollow slaves before l
+pub fits_if : (slaves : List SlaveDesc) (before : Links) (l : LinkLine) → (is_some (chaos_in l) ≡ true → is_some before.net.chaos ≡ false) → why_link slaves before l ≡ None → MayFollow slaves before l
 fits_if slaves before (link.Wire w) fresh e =
     let t = first_none (not (eqb (type_at (outputs_at slaves w.from) w.out) (type_at (inputs_at slaves w.to) w.into))) why.TypeMismatch (refused_if (list_any (λ (v : Wire). same_input v w) before.wires) why.TwoWires) e in
     (equal_numbers (type_at (outputs_at slaves w.from) w.out) (type_at (inputs_at slaves w.to) w.into) (not_not _ t.0), not_refused (list_any (λ (v : Wire). same_input v w) before.wires) why.TwoWires t.1)
@@ -120,7 +120,7 @@ takes_none : (slaves : List SlaveDesc) (before : Links) (x : Setting) → takes_
 takes_none slaves before x e = none_refused _ why.Parameters (ap not e)
 
 -- and one that fits is not refused
-pub if_fits : (slaves : List SlaveDesc) (before : Links) (l : Link) → MayFollow slaves before l → why_link slaves before l ≡ None
+pub if_fits : (slaves : List SlaveDesc) (before : Links) (l : LinkLine) → MayFollow slaves before l → why_link slaves before l ≡ None
 if_fits slaves before (link.Wire w) f =
     ap (λ (t : Bool). cond (not t) (Some why.TypeMismatch) (refused_if (list_any (λ (v : Wire). same_input v w) before.wires) why.TwoWires)) (is_equal (type_at (outputs_at slaves w.from) w.out) (type_at (inputs_at slaves w.to) w.into) f.0)
     ∙ none_refused _ why.TwoWires f.1

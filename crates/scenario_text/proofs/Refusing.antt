@@ -8,7 +8,7 @@ use Rattle.desc_text.specs.declared.items.Item.{Item}
 use Rattle.slave_desc.specs.declared.descriptions.SlaveDesc.{SlaveDesc}
 use Rattle.scenario_text.specs.Judging.{why_item_read, why_link_read}
 use Rattle.scenario_text.specs.declared.heads.HeadItem.{HeadItem}
-use Rattle.scenario_text.specs.declared.link_words.Link.{Link}
+use Rattle.scenario_text.specs.declared.link_words.LinkLine.{LinkLine}
 use Rattle.scenario_text.specs.declared.collected.Links.{Links}
 
 pub first_none : (b : Bool) (w : TextWhy) (o : Option TextWhy) → cond b (Some w) o ≡ None → (b ≡ false) × (o ≡ None)
@@ -26,7 +26,7 @@ pub item_none : (all : List Item) (head : List HeadItem) (slaves : List SlaveDes
 item_none all head slaves (Ok i) e = refl
 item_none all head slaves (Err w) e = cc
 
-pub link_none : (slaves : List SlaveDesc) (links : Links) (x : Result Link TextWhy) → why_link_read slaves links x ≡ None → is_some (result_ok x) ≡ true
+pub link_none : (slaves : List SlaveDesc) (links : Links) (x : Result LinkLine TextWhy) → why_link_read slaves links x ≡ None → is_some (result_ok x) ≡ true
 link_none slaves links (Ok l) e = refl
 link_none slaves links (Err w) e = cc
 

@@ -12,7 +12,7 @@ use Rattle.text_lines.specs.declared.reasons.TextWhy.TheVariants as why
 use Rattle.desc_text.specs.Items.{item_of}
 use Rattle.desc_text.specs.Said.{name_in, items_in}
 use Rattle.desc_text.specs.Judging.{came_before, why_key, why_end}
-use Rattle.desc_text.specs.Machine.{has, put, why_held, nothing}
+use Rattle.desc_text.specs.Machine.{has, put_item, why_held, nothing}
 use Rattle.desc_text.specs.Machine as block
 use Rattle.desc_text.proofs.Held.{Holds, holds_nothing, same_has, same_named, same_why}
 use Rattle.desc_text.proofs.Judged.{unless_ok, end_ok, end_err}
@@ -28,17 +28,17 @@ use Rattle.scenario_text.specs.Links.{link_of}
 use Rattle.scenario_text.specs.Checks.{why_link}
 use Rattle.scenario_text.specs.Collecting.{put_link}
 use Rattle.scenario_text.specs.Clashes.{why_head, why_slaves, why_among, is_chaos}
-use Rattle.scenario_text.specs.Machine.{close_head, close_block, close_slaves, closes, take_head, take_block, take_link, act, take_keyed, take_words, take_line}
-use Rattle.scenario_text.specs.Said.{lines_in, section_now, head_said, group, blocks, last_of, front_of, slaves_of, slaves_said, links_said}
-use Rattle.scenario_text.specs.Judging.{why_block, why_closes, why_item_read, why_link_read, why_acts, why_keyed, why_words, why_line}
-use Rattle.scenario_text.proofs.Groups.{last_is, front_is, AreSlaves, slaves_more, all_said}
+use Rattle.scenario_text.specs.Machine.{close_head, close_block, close_slaves, closes, take_head, take_scenario_block, take_link, act_on_key, take_scenario_keyed, take_scenario_words, take_scenario_line}
+use Rattle.scenario_text.specs.Said.{lines_in, section_now, head_said, group, blocks, last_of, front_of, slaves_of_blocks, slaves_said, links_said}
+use Rattle.scenario_text.specs.Judging.{why_scenario_block, why_closes, why_item_read, why_link_read, why_acts, why_scenario_keyed, why_scenario_words, why_scenario_line}
+use Rattle.scenario_text.proofs.Groups.{last_is, front_is, AreSlaveBlocks, slaves_more, all_said}
 use Rattle.scenario_text.proofs.Kept.{head_same, last_closes, closed_with}
 use Rattle.scenario_text.specs.declared.keys.HeadKey.{HeadKey}
 use Rattle.scenario_text.specs.declared.keys.LinkKey.{LinkKey}
 use Rattle.scenario_text.specs.declared.keys.AnyKey.{AnyKey}
 use Rattle.scenario_text.specs.declared.keys.AnyKey.TheVariants as any
 use Rattle.scenario_text.specs.declared.heads.HeadItem.{HeadItem}
-use Rattle.scenario_text.specs.declared.link_words.Link.{Link}
+use Rattle.scenario_text.specs.declared.link_words.LinkLine.{LinkLine}
 use Rattle.scenario_text.specs.declared.collected.Links.{Links}
 use Rattle.scenario_text.specs.declared.readers.Reader.{Reader}
 use Rattle.text_lines.proofs.NumberTests.{equal_numbers, not_above}
@@ -55,7 +55,7 @@ pub record Stands (ls : List (List ℕ)) (r : Reader) : Type 0 where
   pub closed : List (List (List ℕ))
   pub now : Option (List (List ℕ))
   pub split : blocks ls ≡ closed ++ option_to_list now
-  pub slaves : AreSlaves closed r.slaves
+  pub slaves : AreSlaveBlocks closed r.slaves
   pub block : IsOpen now r.block
   pub at : is_some now ≡ eqb r.section 1
   pub room : is_some now ≡ true → length r.slaves < 16
@@ -112,16 +112,16 @@ block_bad (Some g) r held room = ap bad (named_same r held.1 (room refl)) ∙ ba
 
 -- what closing leaves
 pub record Shut (gs : List (List (List ℕ))) (r q : Reader) : Type 0 where
-  pub slaves : AreSlaves gs q.slaves
+  pub slaves : AreSlaveBlocks gs q.slaves
   pub block : q.block ≡ nothing
   pub section : q.section ≡ r.section
   pub head : q.head ≡ r.head
   pub links : q.links ≡ r.links
 
-block_shut : (closed : List (List (List ℕ))) (now : Option (List (List ℕ))) (r q : Reader) → AreSlaves closed r.slaves → IsOpen now r.block → (is_some now ≡ true → length r.slaves < 16) → close_block r ≡ Ok q → Shut (closed ++ option_to_list now) r q
+block_shut : (closed : List (List (List ℕ))) (now : Option (List (List ℕ))) (r q : Reader) → AreSlaveBlocks closed r.slaves → IsOpen now r.block → (is_some now ≡ true → length r.slaves < 16) → close_block r ≡ Ok q → Shut (closed ++ option_to_list now) r q
 block_shut closed None r q slaves none room e =
     moved (λ (q : Reader). Shut (closed ++ []) r q) r q (sym (unnamed_same r (ap (λ (p : Partial). is_some p.name) none)) ∙ e)
-    (record { slaves = subst (λ (l : List (List (List ℕ))). AreSlaves l r.slaves) (sym (append-nil closed)) slaves; block = none; section = refl; head = refl; links = refl })
+    (record { slaves = subst (λ (l : List (List (List ℕ))). AreSlaveBlocks l r.slaves) (sym (append-nil closed)) slaves; block = none; section = refl; head = refl; links = refl })
 block_shut closed (Some g) r q slaves held room e =
     let d = bind_ok (block.finished r.block) (λ d. Ok (closed_with r d)) q (sym (named_same r held.1 (room refl)) ∙ e) in
     moved (λ (q : Reader). Shut (closed ++ g ∷ []) r q) (closed_with r d.0) q d.2
@@ -153,11 +153,11 @@ pub record After (ls : List (List ℕ)) (r q : Reader) (ends : Bool) (section : 
   pub arrived : q.section ≡ section
   pub head : q.head ≡ r.head
   pub links : q.links ≡ r.links
-  pub shut : ends ≡ true → AreSlaves (blocks ls) q.slaves × (q.block ≡ nothing)
+  pub shut : ends ≡ true → AreSlaveBlocks (blocks ls) q.slaves × (q.block ≡ nothing)
   pub kept : ends ≡ false → (q.slaves ≡ r.slaves) × (q.block ≡ r.block)
 
 module _ (ls : List (List ℕ)) (r : Reader) (h : Stands ls r) where
-  named_last : (now : Option (List (List ℕ))) → is_some now ≡ eqb r.section 1 → blocks ls ≡ h.closed ++ option_to_list now → why_block ls ≡ why_open now
+  named_last : (now : Option (List (List ℕ))) → is_some now ≡ eqb r.section 1 → blocks ls ≡ h.closed ++ option_to_list now → why_scenario_block ls ≡ why_open now
   named_last None at split = ap (λ (n : ℕ). when (eqb n 1) (why_end (items_in (last_of (blocks ls))))) (sym h.section) ∙ ap (λ (b : Bool). when b (why_end (items_in (last_of (blocks ls))))) (sym at)
   named_last (Some g) at split =
       ap (λ (n : ℕ). when (eqb n 1) (why_end (items_in (last_of (blocks ls))))) (sym h.section)
@@ -165,7 +165,7 @@ module _ (ls : List (List ℕ)) (r : Reader) (h : Stands ls r) where
       ∙ ap (λ (gs : List (List (List ℕ))). why_end (items_in (last_of gs))) split
       ∙ ap (λ (g : List (List ℕ)). why_end (items_in g)) (last_is h.closed g)
 
-  ends_bad : (ends : Bool) → bad (cond ends (close_block r) (Ok r)) ≡ when ends (why_block ls)
+  ends_bad : (ends : Bool) → bad (cond ends (close_block r) (Ok r)) ≡ when ends (why_scenario_block ls)
   ends_bad true = block_bad h.now r h.block h.room ∙ sym (named_last h.now h.at h.split)
   ends_bad false = refl
 
@@ -186,12 +186,12 @@ module _ (ls : List (List ℕ)) (r : Reader) (h : Stands ls r) where
 
   pub closes_bad : (ends : Bool) (section : ℕ) → (section ≡ 2 → ends ≡ true) → why_closes ls ends section ≡ bad (closes r ends section)
   closes_bad ends section last =
-      sym (seq_bad (cond (eqb r.section 0 && ltb 0 section) (close_head r) (Ok r)) (λ a. (cond ends (close_block a) (Ok a)) >>= tail section) (or_else (when ends (why_block ls)) (when (ltb (section_now ls) 2 && eqb section 2) (why_slaves (head_said ls) (slaves_said ls))))
+      sym (seq_bad (cond (eqb r.section 0 && ltb 0 section) (close_head r) (Ok r)) (λ a. (cond ends (close_block a) (Ok a)) >>= tail section) (or_else (when ends (why_scenario_block ls)) (when (ltb (section_now ls) 2 && eqb section 2) (why_slaves (head_said ls) (slaves_said ls))))
       (λ a e. ap (λ (a : Reader). bad ((cond ends (close_block a) (Ok a)) >>= tail section)) (sym (head_same (eqb r.section 0 && ltb 0 section) r a e))
       ∙ seq_bad (cond ends (close_block r) (Ok r)) (tail section) (when (ltb (section_now ls) 2 && eqb section 2) (why_slaves (head_said ls) (slaves_said ls)))
       (λ b f. tail_bad (ltb b.section 2 && eqb section 2) b section ∙ tail_same ends section b (eqb section 2) refl last f)
       ∙ ap (λ (o : Option TextWhy). or_else o (when (ltb (section_now ls) 2 && eqb section 2) (why_slaves (head_said ls) (slaves_said ls)))) (ends_bad ends))
-      ∙ ap (λ (o : Option TextWhy). or_else o (or_else (when ends (why_block ls)) (when (ltb (section_now ls) 2 && eqb section 2) (why_slaves (head_said ls) (slaves_said ls)))))
+      ∙ ap (λ (o : Option TextWhy). or_else o (or_else (when ends (why_scenario_block ls)) (when (ltb (section_now ls) 2 && eqb section 2) (why_slaves (head_said ls) (slaves_said ls)))))
       (head_bad (eqb r.section 0 && ltb 0 section) r
       ∙ ap (λ (n : ℕ). when (eqb n 0 && ltb 0 section) (why_head r.head)) h.section
       ∙ ap (λ (l : List HeadItem). when (eqb (section_now ls) 0 && ltb 0 section) (why_head l)) h.head))
@@ -224,16 +224,16 @@ item_bad p head slaves (Ok i) next all h =
     ∙ ap (λ (o : Option TextWhy). or_else o (why_among head slaves i)) (sym (same_why all p h i))
 
 block_acts : (q : Reader) (key : Key) (args : List (List ℕ)) (all : List Item) (head : List HeadItem) (slaves : List SlaveDesc) → Holds all q.block → q.head ≡ head → q.slaves ≡ slaves
-    → or_else (why_key (came_before all key) (came (filter_map name_in all)) key) (why_item_read all head slaves (item_of key args)) ≡ bad (take_block q key args)
+    → or_else (why_key (came_before all key) (came (filter_map name_in all)) key) (why_item_read all head slaves (item_of key args)) ≡ bad (take_scenario_block q key args)
 block_acts q key args all head slaves h same_head same_slaves =
     sym (bad_unless (why_key (has q.block key) (is_some q.block.name) key) _
-    ∙ ap (or_else (why_key (has q.block key) (is_some q.block.name) key)) (item_bad q.block q.head q.slaves (item_of key args) (λ i. record q { block = put q.block i }) all h)
+    ∙ ap (or_else (why_key (has q.block key) (is_some q.block.name) key)) (item_bad q.block q.head q.slaves (item_of key args) (λ i. record q { block = put_item q.block i }) all h)
     ∙ ap (λ (b : Bool). or_else (why_key b (is_some q.block.name) key) (why_item_read all q.head q.slaves (item_of key args))) (sym (same_has all q.block h key))
     ∙ ap (λ (b : Bool). or_else (why_key (came_before all key) b key) (why_item_read all q.head q.slaves (item_of key args))) (sym (same_named all q.block h))
     ∙ ap (λ (l : List HeadItem). or_else (why_key (came_before all key) (came (filter_map name_in all)) key) (why_item_read all l q.slaves (item_of key args))) same_head
     ∙ ap (λ (l : List SlaveDesc). or_else (why_key (came_before all key) (came (filter_map name_in all)) key) (why_item_read all head l (item_of key args))) same_slaves)
 
-link_bad : (slaves : List SlaveDesc) (links : Links) (x : Result Link TextWhy) (next : Link → Reader) → bad (x >>= λ l. unless (why_link slaves links l) (Ok (next l))) ≡ why_link_read slaves links x
+link_bad : (slaves : List SlaveDesc) (links : Links) (x : Result LinkLine TextWhy) (next : LinkLine → Reader) → bad (x >>= λ l. unless (why_link slaves links l) (Ok (next l))) ≡ why_link_read slaves links x
 link_bad slaves links (Err w) next = refl
 link_bad slaves links (Ok l) next = bad_unless (why_link slaves links l) (Ok (next l)) ∙ or_none (why_link slaves links l)
 
@@ -265,54 +265,54 @@ module _ (ls : List (List ℕ)) (r : Reader) (h : Stands ls r) where
       let last : last_of (blocks ls) ≡ g = ap last_of split ∙ last_is h.closed g in
       subst (λ (b : Bool). Holds (cond b (items_in (last_of (blocks ls))) []) r.block) (sym test) (subst (λ (g : List (List ℕ)). Holds (items_in g) r.block) (sym last) held.0)
 
-  open_slaves : (now : Option (List (List ℕ))) → is_some now ≡ eqb r.section 1 → r.section ≤ 1 → blocks ls ≡ h.closed ++ option_to_list now → r.slaves ≡ slaves_of (front_of (blocks ls))
-  open_slaves (Some g) at up split = sym (all_said h.closed r.slaves h.slaves) ∙ ap slaves_of (sym (ap front_of split ∙ front_is h.closed g))
+  open_slaves : (now : Option (List (List ℕ))) → is_some now ≡ eqb r.section 1 → r.section ≤ 1 → blocks ls ≡ h.closed ++ option_to_list now → r.slaves ≡ slaves_of_blocks (front_of (blocks ls))
+  open_slaves (Some g) at up split = sym (all_said h.closed r.slaves h.slaves) ∙ ap slaves_of_blocks (sym (ap front_of split ∙ front_is h.closed g))
   open_slaves None at up split = none_of (eqb r.section 1) refl
     where
-      none_of : (b : Bool) → eqb r.section 1 ≡ b → r.slaves ≡ slaves_of (front_of (blocks ls))
+      none_of : (b : Bool) → eqb r.section 1 ≡ b → r.slaves ≡ slaves_of_blocks (front_of (blocks ls))
       none_of true e = absurd (false≢true (at ∙ e))
       none_of false e =
           let not_one : r.section ≢ 1 = λ one. false≢true (sym e ∙ ap (λ (n : ℕ). eqb n 1) one) in
           let zero_section : r.section ≡ 0 = omega arith in
           let no_blocks : blocks ls ≡ [] = ap group (h.first zero_section) in
           let none : h.closed ≡ [] = sym (append-nil h.closed) ∙ sym split ∙ no_blocks in
-          sym (all_said h.closed r.slaves h.slaves) ∙ ap slaves_of (none ∙ sym (ap front_of no_blocks))
+          sym (all_said h.closed r.slaves h.slaves) ∙ ap slaves_of_blocks (none ∙ sym (ap front_of no_blocks))
 
   -- the judging of what a line says is the reader's, after what it closes
-  acts : (key : AnyKey) (args : List (List ℕ)) (q : Reader) → r.section ≤ section_of key → After ls r q (closes_block key) (section_of key) → why_acts ls key args ≡ bad (act q key args)
+  acts : (key : AnyKey) (args : List (List ℕ)) (q : Reader) → r.section ≤ section_of key → After ls r q (closes_block key) (section_of key) → why_acts ls key args ≡ bad (act_on_key q key args)
   acts (any.Head k) args q up after = head_acts q k args (head_said ls) (after.head ∙ h.head)
   acts (any.Link k) args q up after = link_acts q k args (slaves_said ls) (links_said ls) (head_said ls) (sym (all_said (blocks ls) q.slaves (after.shut refl).0)) (after.links ∙ h.links) (after.head ∙ h.head)
   acts (any.Block keys.Slave) args q up after = block_acts q keys.Slave args [] (head_said ls) (slaves_said ls) (subst (Holds []) (sym (after.shut refl).1) holds_nothing) (after.head ∙ h.head) (sym (all_said (blocks ls) q.slaves (after.shut refl).0))
   acts (any.Block k) args q up after =
-      block_acts q k args (cond (eqb (section_now ls) 1) (items_in (last_of (blocks ls))) []) (head_said ls) (slaves_of (front_of (blocks ls)))
+      block_acts q k args (cond (eqb (section_now ls) 1) (items_in (last_of (blocks ls))) []) (head_said ls) (slaves_of_blocks (front_of (blocks ls)))
       (subst (Holds (cond (eqb (section_now ls) 1) (items_in (last_of (blocks ls))) [])) (sym (after.kept refl).1) (open_items h.now h.block h.at h.split))
       (after.head ∙ h.head) ((after.kept refl).0 ∙ open_slaves h.now h.at up h.split)
 
-  acts_after : (key : AnyKey) (args : List (List ℕ)) (x : Result Reader TextWhy) → closes r (closes_block key) (section_of key) ≡ x → r.section ≤ section_of key → or_else (bad x) (why_acts ls key args) ≡ bad (x >>= λ q. act q key args)
+  acts_after : (key : AnyKey) (args : List (List ℕ)) (x : Result Reader TextWhy) → closes r (closes_block key) (section_of key) ≡ x → r.section ≤ section_of key → or_else (bad x) (why_acts ls key args) ≡ bad (x >>= λ q. act_on_key q key args)
   acts_after key args (Err w) e up = refl
   acts_after key args (Ok q) e up = acts key args q up (closes_after ls r h (closes_block key) (section_of key) q e)
 
-  keyed_by : (key : AnyKey) (args : List (List ℕ)) (b : Bool) → ltb (section_of key) r.section ≡ b → or_else (refused_if b why.Order) (or_else (why_closes ls (closes_block key) (section_of key)) (why_acts ls key args)) ≡ bad (unless (refused_if b why.Order) (closes r (closes_block key) (section_of key) >>= λ q. act q key args))
+  keyed_by : (key : AnyKey) (args : List (List ℕ)) (b : Bool) → ltb (section_of key) r.section ≡ b → or_else (refused_if b why.Order) (or_else (why_closes ls (closes_block key) (section_of key)) (why_acts ls key args)) ≡ bad (unless (refused_if b why.Order) (closes r (closes_block key) (section_of key) >>= λ q. act_on_key q key args))
   keyed_by key args true e = refl
   keyed_by key args false e =
       ap (λ (o : Option TextWhy). or_else o (why_acts ls key args)) (closes_bad ls r h (closes_block key) (section_of key) (last_closes key))
       ∙ acts_after key args (closes r (closes_block key) (section_of key)) refl (not_above (section_of key) r.section e)
 
-  keyed : (key : Option AnyKey) (args : List (List ℕ)) → why_keyed ls key args ≡ bad (take_keyed r key args)
+  keyed : (key : Option AnyKey) (args : List (List ℕ)) → why_scenario_keyed ls key args ≡ bad (take_scenario_keyed r key args)
   keyed None args = refl
   keyed (Some key) args =
       ap (λ (n : ℕ). or_else (refused_if (ltb (section_of key) n) why.Order) (or_else (why_closes ls (closes_block key) (section_of key)) (why_acts ls key args))) (sym h.section)
       ∙ keyed_by key args (ltb (section_of key) r.section) refl
 
-  worded : (ws : List (List ℕ)) → why_words ls ws ≡ bad (take_words r ws)
+  worded : (ws : List (List ℕ)) → why_scenario_words ls ws ≡ bad (take_scenario_words r ws)
   worded [] = refl
   worded (w ∷ args) = keyed (any_key w) args
 
-  lined_by : (u s : Bool) (ws : List (List ℕ)) → cond (not u) (Some why.NotUtf8) (cond s None (why_words ls ws)) ≡ bad (cond (not u) (Err why.NotUtf8) (cond s (Ok r) (take_words r ws)))
+  lined_by : (u s : Bool) (ws : List (List ℕ)) → cond (not u) (Some why.NotUtf8) (cond s None (why_scenario_words ls ws)) ≡ bad (cond (not u) (Err why.NotUtf8) (cond s (Ok r) (take_scenario_words r ws)))
   lined_by false s ws = refl
   lined_by true true ws = refl
   lined_by true false ws = worded ws
 
   -- what is wrong with the next line is why the reader refuses it
-  pub lined : (line : List ℕ) → why_line ls line ≡ bad (take_line r line)
+  pub lined : (line : List ℕ) → why_scenario_line ls line ≡ bad (take_scenario_line r line)
   lined line = lined_by (is_utf8 line) (is_skipped (words line)) (words line)

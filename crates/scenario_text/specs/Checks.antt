@@ -13,8 +13,8 @@ use Rattle.scenario.specs.declared.scenarios.Setting.{Setting}
 use Rattle.scenario.specs.declared.scenarios.Every.{Every}
 use Rattle.scenario.specs.declared.scenarios.Rerun.{Rerun}
 use Rattle.scenario_text.specs.Said.{parameters_now}
-use Rattle.scenario_text.specs.declared.link_words.Link.{Link}
-use Rattle.scenario_text.specs.declared.link_words.Link.TheVariants as link
+use Rattle.scenario_text.specs.declared.link_words.LinkLine.{LinkLine}
+use Rattle.scenario_text.specs.declared.link_words.LinkLine.TheVariants as link
 use Rattle.scenario_text.specs.declared.collected.Links.{Links}
 
 -- the two ports are of one type, and no wire before goes into the input
@@ -45,7 +45,7 @@ abbrev pub why_net : Links → Option TextWhy
 why_net before = refused_if (nat_le 64 (length before.net.lines)) why.Limit
 
 -- what is wrong with the whole line that says this
-abbrev pub why_link : List SlaveDesc → Links → Link → Option TextWhy
+abbrev pub why_link : List SlaveDesc → Links → LinkLine → Option TextWhy
 why_link slaves before (link.Wire w) = why_wire slaves before.wires w
 why_link slaves before (link.Set x) = why_setting slaves before x
 why_link slaves before (link.RerunSet r) = why_rerun slaves before r

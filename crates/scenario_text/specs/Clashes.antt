@@ -9,7 +9,7 @@ use Rattle.text_lines.specs.Causes.{refused_if}
 use Rattle.desc_text.specs.declared.items.Item.{Item}
 use Rattle.desc_text.specs.declared.items.Item.TheVariants as items
 use Rattle.slave_desc.specs.declared.descriptions.SlaveDesc.{SlaveDesc}
-use Rattle.scenario_text.specs.Heads.{is_said, master_in, first_said, steps_said, runs_said}
+use Rattle.scenario_text.specs.Heads.{is_said, master_of_head, first_said, steps_said, runs_said}
 use Rattle.scenario_text.specs.Said.{same_address, is_master}
 use Rattle.scenario.specs.Totals.{is_too_much}
 use Rattle.scenario_text.specs.declared.keys.HeadKey.TheVariants as heads
@@ -40,7 +40,7 @@ why_slaves head slaves =
 -- what is wrong with an item among the lines before its block
 abbrev pub why_among : List HeadItem → List SlaveDesc → Item → Option TextWhy
 why_among head slaves (items.Slave n) = why_name slaves n
-why_among head slaves (items.Address a) = why_address (first_said master_in head) slaves a
+why_among head slaves (items.Address a) = why_address (first_said master_of_head head) slaves a
 why_among head slaves _ = None
 
 abbrev pub is_chaos : LinkKey → Bool

@@ -2,7 +2,7 @@
 use Rattle.std.specs.Prelude.{[], None}
 use Rattle.desc_text.specs.Machine.{newer, longer}
 use Rattle.scenario_text.specs.Said.{wire_in, set_in, rerun_in, every_in, line_in, chaos_in}
-use Rattle.scenario_text.specs.declared.link_words.Link.{Link}
+use Rattle.scenario_text.specs.declared.link_words.LinkLine.{LinkLine}
 use Rattle.scenario_text.specs.declared.collected.Links.{Links}
 
 -- no lines
@@ -10,7 +10,7 @@ abbrev pub no_links : Links
 no_links = record { wires = []; settings = []; every = []; reruns = []; net = record { lines = []; chaos = None } }
 
 -- the links with one more
-abbrev pub put_link : Links → Link → Links
+abbrev pub put_link : Links → LinkLine → Links
 put_link links l = record {
   wires = longer links.wires (wire_in l);
   settings = longer links.settings (set_in l);

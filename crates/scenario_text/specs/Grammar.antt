@@ -14,7 +14,7 @@ use Rattle.desc_text.specs.declared.items.Item.TheVariants as items
 use Rattle.scenario_text.specs.Keys.{section_of}
 use Rattle.scenario_text.specs.declared.keys.HeadKey.{HeadKey}
 use Rattle.scenario_text.specs.declared.keys.LinkKey.{LinkKey}
-use Rattle.scenario_text.specs.Heads.{head_item, is_said, master_in, first_said}
+use Rattle.scenario_text.specs.Heads.{head_item, is_said, master_of_head, first_said}
 use Rattle.scenario.specs.Lookups.{outputs_at, inputs_at, type_at}
 use Rattle.scenario_text.specs.Links.{link_of}
 use Rattle.scenario.specs.Wiring.{same_input}
@@ -25,8 +25,8 @@ use Rattle.scenario_text.specs.declared.keys.HeadKey.TheVariants as heads
 use Rattle.scenario_text.specs.declared.keys.AnyKey.{AnyKey}
 use Rattle.scenario_text.specs.declared.keys.AnyKey.TheVariants as any
 use Rattle.scenario_text.specs.declared.heads.HeadItem.{HeadItem}
-use Rattle.scenario_text.specs.declared.link_words.Link.{Link}
-use Rattle.scenario_text.specs.declared.link_words.Link.TheVariants as link
+use Rattle.scenario_text.specs.declared.link_words.LinkLine.{LinkLine}
+use Rattle.scenario_text.specs.declared.link_words.LinkLine.TheVariants as link
 use Rattle.scenario_text.specs.declared.collected.Links.{Links}
 use Rattle.scenario.specs.declared.scenarios.Scenario.{Scenario}
 
@@ -45,7 +45,7 @@ abbrev pub IsOrdered : List (List ℕ) → Type 0
 IsOrdered ls = (before after : List (List ℕ)) (l : List ℕ) (key : AnyKey) → ls ≡ before ++ l ∷ after → key_at l ≡ Some key → section_now before ≤ section_of key
 
 -- a link after those before it: ports of one type and an input without a wire; parameters that the kind takes, first those of the first run, then those of later runs in order; one interval for a pair that has a wire; at most 64 net lines; one chaos
-abbrev pub MayFollow : List SlaveDesc → Links → Link → Type 0
+abbrev pub MayFollow : List SlaveDesc → Links → LinkLine → Type 0
 MayFollow slaves before (link.Wire w) = (type_at (outputs_at slaves w.from) w.out ≡ type_at (inputs_at slaves w.to) w.into) × (list_any (λ v. same_input v w) before.wires ≡ false)
 MayFollow slaves before (link.Set x) = (before.reruns ≡ []) × (takes_at slaves x.slave (changed_by (parameters_now slaves before x.slave) x.slave x) ≡ true)
 MayFollow slaves before (link.RerunSet r) = (list_any (λ q. nat_lt r.run q.run) before.reruns ≡ false) × (takes_at slaves r.slave (changed_by (parameters_now slaves before r.slave) r.slave (setting_in r)) ≡ true)
@@ -56,15 +56,15 @@ MayFollow slaves before (link.Chaos c) = before.net.chaos ≡ None
 -- a slave's name, and an address, are new among the slaves before and the master
 abbrev pub IsNew : List HeadItem → List SlaveDesc → Item → Type 0
 IsNew head slaves (items.Slave n) = list_any (λ s. bytes_eq s.name n) slaves ≡ false
-IsNew head slaves (items.Address a) = (is_master (first_said master_in head) a || list_any (λ s. same_address s.address a) slaves) ≡ false
+IsNew head slaves (items.Address a) = (is_master (first_said master_of_head head) a || list_any (λ s. same_address s.address a) slaves) ≡ false
 IsNew head slaves _ = Unit {0}
 
 -- the blocks describe these slaves
-abbrev pub AreSlaves : List (List (List ℕ)) → List SlaveDesc → Type 0
-AreSlaves [] [] = Unit {0}
-AreSlaves [] (d ∷ ds) = ⊥
-AreSlaves (g ∷ gs) [] = ⊥
-AreSlaves (g ∷ gs) (d ∷ ds) = Describes (items_in g) d × AreSlaves gs ds
+abbrev pub AreSlaveBlocks : List (List (List ℕ)) → List SlaveDesc → Type 0
+AreSlaveBlocks [] [] = Unit {0}
+AreSlaveBlocks [] (d ∷ ds) = ⊥
+AreSlaveBlocks (g ∷ gs) [] = ⊥
+AreSlaveBlocks (g ∷ gs) (d ∷ ds) = Describes (items_in g) d × AreSlaveBlocks gs ds
 
 -- the lines are those of this scenario: each reads by itself, the sections come in order, no key of the head comes twice and the required ones come, each block describes a slave, names and addresses are new, each link fits after those before it, and the scenario is not too much
 pub record AreOf (ls : List (List ℕ)) (s : Scenario) : Type 0 where
@@ -72,9 +72,9 @@ pub record AreOf (ls : List (List ℕ)) (s : Scenario) : Type 0 where
   pub in_order : IsOrdered ls
   pub once : (before after : List (List ℕ)) (l : List ℕ) (k : HeadKey) → ls ≡ before ++ l ∷ after → key_at l ≡ Some (any.Head k) → is_said k (head_said before) ≡ false
   pub required : (is_said heads.Steps (head_said ls) && is_said heads.Master (head_said ls)) ≡ true
-  pub slaves : AreSlaves (blocks ls) s.slaves
+  pub slaves : AreSlaveBlocks (blocks ls) s.slaves
   pub few : (1 ≤ length s.slaves) × (length s.slaves ≤ 16)
   pub new : (before after : List (List ℕ)) (l : List ℕ) (k : Key) (i : Item) → ls ≡ before ++ l ∷ after → key_at l ≡ Some (any.Block k) → item_of k (args_of (words l)) ≡ Ok i → IsNew (head_said before) (slaves_for before k) i
   pub small : is_too_much s.slaves s.steps s.runs ≡ false
-  pub fit : (before after : List (List ℕ)) (l : List ℕ) (k : LinkKey) (x : Link) → ls ≡ before ++ l ∷ after → key_at l ≡ Some (any.Link k) → link_of s.slaves s.runs k (args_of (words l)) ≡ Ok x → MayFollow s.slaves (links_said before) x
+  pub fit : (before after : List (List ℕ)) (l : List ℕ) (k : LinkKey) (x : LinkLine) → ls ≡ before ++ l ∷ after → key_at l ≡ Some (any.Link k) → link_of s.slaves s.runs k (args_of (words l)) ≡ Ok x → MayFollow s.slaves (links_said before) x
   pub says : s ≡ scenario_of (head_said ls) s.slaves (links_said ls)

@@ -20,22 +20,22 @@ use Rattle.scenario_text.specs.declared.heads.HeadItem.{HeadItem}
 use Rattle.scenario_text.specs.declared.heads.HeadItem.TheVariants as said
 
 -- the range of the number of a key
-abbrev pub least : HeadKey → ℕ
-least heads.Steps = 0
-least heads.StepTries = 2
-least _ = 1
+abbrev pub least_head : HeadKey → ℕ
+least_head heads.Steps = 0
+least_head heads.StepTries = 2
+least_head _ = 1
 
-abbrev pub greatest : HeadKey → ℕ
-greatest heads.Steps = 100000
-greatest heads.Runs = 100
-greatest heads.Tries = 20
-greatest heads.StepTries = 20
-greatest _ = 1000
+abbrev pub greatest_head : HeadKey → ℕ
+greatest_head heads.Steps = 100000
+greatest_head heads.Runs = 100
+greatest_head heads.Tries = 20
+greatest_head heads.StepTries = 20
+greatest_head _ = 1000
 
 abbrev pub number_item : HeadKey → List (List ℕ) → Result HeadItem TextWhy
 number_item key args = do
   w ← one_word args
-  n ← number_from (least key) (greatest key) w
+  n ← number_from (least_head key) (greatest_head key) w
   Ok (said.Number key n)
 
 abbrev pub protocol_of : List ℕ → Result Protocol TextWhy
@@ -67,9 +67,9 @@ abbrev pub number_in : HeadKey → HeadItem → Option ℕ
 number_in key (said.Number k n) = if head_code k == head_code key then Some n else None
 number_in key _ = None
 
-abbrev pub master_in : HeadItem → Option Address
-master_in (said.Master a) = Some a
-master_in _ = None
+abbrev pub master_of_head : HeadItem → Option Address
+master_of_head (said.Master a) = Some a
+master_of_head _ = None
 
 abbrev pub protocol_in : HeadItem → Option Protocol
 protocol_in (said.Protocol p) = Some p

@@ -21,17 +21,17 @@ use Rattle.scenario_text.specs.Clashes.{why_head, why_slaves, why_among, is_chao
 use Rattle.scenario_text.specs.declared.keys.AnyKey.{AnyKey}
 use Rattle.scenario_text.specs.declared.keys.AnyKey.TheVariants as any
 use Rattle.scenario_text.specs.declared.heads.HeadItem.{HeadItem}
-use Rattle.scenario_text.specs.declared.link_words.Link.{Link}
+use Rattle.scenario_text.specs.declared.link_words.LinkLine.{LinkLine}
 use Rattle.scenario_text.specs.declared.collected.Links.{Links}
 
 -- what is wrong with what a line closes
-abbrev pub why_block : List (List ℕ) → Option TextWhy
-why_block ls = when (section_now ls == 1) (why_end (items_in (last_of (blocks ls))))
+abbrev pub why_scenario_block : List (List ℕ) → Option TextWhy
+why_scenario_block ls = when (section_now ls == 1) (why_end (items_in (last_of (blocks ls))))
 
 abbrev pub why_closes : List (List ℕ) → Bool → ℕ → Option TextWhy
 why_closes ls ends_block section =
     or_else (when ((section_now ls == 0) && nat_lt 0 section) (why_head (head_said ls)))
-    (or_else (when ends_block (why_block ls))
+    (or_else (when ends_block (why_scenario_block ls))
     (when (nat_lt (section_now ls) 2 && (section == 2)) (why_slaves (head_said ls) (slaves_said ls))))
 
 abbrev pub why_order : List (List ℕ) → AnyKey → Option TextWhy
@@ -42,7 +42,7 @@ abbrev pub why_item_read : List Item → List HeadItem → List SlaveDesc → Re
 why_item_read block head slaves (Err why) = Some why
 why_item_read block head slaves (Ok item) = or_else (why_item block item) (why_among head slaves item)
 
-abbrev pub why_link_read : List SlaveDesc → Links → Result Link TextWhy → Option TextWhy
+abbrev pub why_link_read : List SlaveDesc → Links → Result LinkLine TextWhy → Option TextWhy
 why_link_read slaves links (Err why) = Some why
 why_link_read slaves links (Ok link) = why_link slaves links link
 
@@ -56,27 +56,27 @@ why_acts ls (any.Link k) args =
     (why_link_read (slaves_said ls) (links_said ls) (link_of (slaves_said ls) (runs_said (head_said ls)) k args))
 
 -- what is wrong with a line: order, then what it closes, then what it says
-abbrev pub why_keyed : List (List ℕ) → Option AnyKey → List (List ℕ) → Option TextWhy
-why_keyed ls None args = Some why.UnknownKey
-why_keyed ls (Some key) args = or_else (why_order ls key) (or_else (why_closes ls (closes_block key) (section_of key)) (why_acts ls key args))
+abbrev pub why_scenario_keyed : List (List ℕ) → Option AnyKey → List (List ℕ) → Option TextWhy
+why_scenario_keyed ls None args = Some why.UnknownKey
+why_scenario_keyed ls (Some key) args = or_else (why_order ls key) (or_else (why_closes ls (closes_block key) (section_of key)) (why_acts ls key args))
 
-abbrev pub why_words : List (List ℕ) → List (List ℕ) → Option TextWhy
-why_words ls [] = None
-why_words ls (w ∷ args) = why_keyed ls (any_key w) args
+abbrev pub why_scenario_words : List (List ℕ) → List (List ℕ) → Option TextWhy
+why_scenario_words ls [] = None
+why_scenario_words ls (w ∷ args) = why_scenario_keyed ls (any_key w) args
 
-abbrev pub why_line : List (List ℕ) → List ℕ → Option TextWhy
-why_line ls line =
+abbrev pub why_scenario_line : List (List ℕ) → List ℕ → Option TextWhy
+why_scenario_line ls line =
     if not (is_utf8 line) then Some why.NotUtf8
-    else (if is_skipped (words line) then None else why_words ls (words line))
+    else (if is_skipped (words line) then None else why_scenario_words ls (words line))
 
 -- what is wrong with the end of the text, which closes all
 abbrev pub why_end_of : List (List ℕ) → Option TextWhy
 why_end_of ls = why_closes ls true 2
 
-abbrev pub why_entry : Option (List ℕ) → List (List ℕ) → Option TextWhy
-why_entry (Some line) before = why_line before line
-why_entry None before = why_end_of before
+abbrev pub why_scenario_entry : Option (List ℕ) → List (List ℕ) → Option TextWhy
+why_scenario_entry (Some line) before = why_scenario_line before line
+why_scenario_entry None before = why_end_of before
 
 -- what is wrong with the line of this number, the end being the line after the last
 abbrev pub scenario_why_at : List (List ℕ) → ℕ → Option TextWhy
-scenario_why_at ls n = why_entry (slice_get ls (n - 1)) (take (n - 1) ls)
+scenario_why_at ls n = why_scenario_entry (slice_get ls (n - 1)) (take (n - 1) ls)

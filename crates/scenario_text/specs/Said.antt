@@ -8,7 +8,7 @@ use Rattle.dcp_types.specs.declared.protocols.Protocol.TheVariants.{Udp}
 use Rattle.fixed_models.specs.declared.kinds.Kind.TheVariants.{Const}
 use Rattle.text_lines.specs.Texts.{words, is_skipped}
 use Rattle.text_lines.specs.Causes.{came}
-use Rattle.desc_text.specs.Said.{name_in, uuid_in, address_in, model_in, busy_in, heartbeat_in, resolution_in, input_in, output_in, items_in}
+use Rattle.desc_text.specs.Said.{name_in, uuid_in, address_said, model_in, busy_in, heartbeat_in, resolution_in, input_in, output_in, items_in}
 use Rattle.desc_text.specs.declared.keys.Key.{Key}
 use Rattle.desc_text.specs.declared.keys.Key.TheVariants as keys
 use Rattle.desc_text.specs.declared.items.Item.{Item}
@@ -23,38 +23,38 @@ use Rattle.scenario.specs.declared.scenarios.Every.{Every}
 use Rattle.scenario.specs.declared.scenarios.Rerun.{Rerun}
 use Rattle.scenario.specs.declared.scenarios.Scenario.{Scenario}
 use Rattle.scenario_text.specs.Keys.{any_key, section_of}
-use Rattle.scenario_text.specs.Heads.{head_item, number_in, master_in, protocol_in, first_said, steps_said, runs_said, limits_said}
+use Rattle.scenario_text.specs.Heads.{head_item, number_in, master_of_head, protocol_in, first_said, steps_said, runs_said, limits_said}
 use Rattle.scenario_text.specs.Links.{link_of}
 use Rattle.scenario_text.specs.declared.keys.HeadKey.TheVariants as heads
 use Rattle.scenario_text.specs.declared.keys.AnyKey.{AnyKey}
 use Rattle.scenario_text.specs.declared.keys.AnyKey.TheVariants as any
 use Rattle.scenario_text.specs.declared.heads.HeadItem.{HeadItem}
-use Rattle.scenario_text.specs.declared.link_words.Link.{Link}
-use Rattle.scenario_text.specs.declared.link_words.Link.TheVariants as link
+use Rattle.scenario_text.specs.declared.link_words.LinkLine.{LinkLine}
+use Rattle.scenario_text.specs.declared.link_words.LinkLine.TheVariants as link
 use Rattle.scenario_text.specs.declared.collected.Links.{Links}
 
 -- what a line says of one key
-abbrev pub wire_in : Link → Option Wire
+abbrev pub wire_in : LinkLine → Option Wire
 wire_in (link.Wire w) = Some w
 wire_in _ = None
 
-abbrev pub set_in : Link → Option Setting
+abbrev pub set_in : LinkLine → Option Setting
 set_in (link.Set x) = Some x
 set_in _ = None
 
-abbrev pub rerun_in : Link → Option Rerun
+abbrev pub rerun_in : LinkLine → Option Rerun
 rerun_in (link.RerunSet r) = Some r
 rerun_in _ = None
 
-abbrev pub every_in : Link → Option Every
+abbrev pub every_in : LinkLine → Option Every
 every_in (link.Every e) = Some e
 every_in _ = None
 
-abbrev pub line_in : Link → Option NetLine
+abbrev pub line_in : LinkLine → Option NetLine
 line_in (link.Net l) = Some l
 line_in _ = None
 
-abbrev pub chaos_in : Link → Option Chaos
+abbrev pub chaos_in : LinkLine → Option Chaos
 chaos_in (link.Chaos c) = Some c
 chaos_in _ = None
 
@@ -133,7 +133,7 @@ abbrev pub slave_said : List Item → SlaveDesc
 slave_said all = record {
   name = first_or [] (filter_map name_in all);
   uuid = first_or 0 (filter_map uuid_in all);
-  address = first_or (record { ip = 0; port = 0 }) (filter_map address_in all);
+  address = first_or (record { ip = 0; port = 0 }) (filter_map address_said all);
   kind = (first_or (Const, []) (filter_map model_in all)).0;
   parameters = (first_or (Const, []) (filter_map model_in all)).1;
   busy = first_or 0 (filter_map busy_in all);
@@ -144,18 +144,18 @@ slave_said all = record {
   outputs = filter_map output_in all;
 }
 
-abbrev pub slaves_of : List (List (List ℕ)) → List SlaveDesc
-slaves_of gs = map (λ g. slave_said (items_in g)) gs
+abbrev pub slaves_of_blocks : List (List (List ℕ)) → List SlaveDesc
+slaves_of_blocks gs = map (λ g. slave_said (items_in g)) gs
 
 abbrev pub slaves_said : List (List ℕ) → List SlaveDesc
-slaves_said ls = slaves_of (blocks ls)
+slaves_said ls = slaves_of_blocks (blocks ls)
 
 -- what the links say, after the slaves
-abbrev pub link_by : List SlaveDesc → ℕ → Option AnyKey → List (List ℕ) → Option Link
+abbrev pub link_by : List SlaveDesc → ℕ → Option AnyKey → List (List ℕ) → Option LinkLine
 link_by slaves runs (Some (any.Link k)) args = result_ok (link_of slaves runs k args)
 link_by slaves runs _ args = None
 
-abbrev pub links_of : List Link → Links
+abbrev pub links_of : List LinkLine → Links
 links_of all = record {
   wires = filter_map wire_in all;
   settings = filter_map set_in all;
@@ -174,7 +174,7 @@ block_for ls _ = if section_now ls == 1 then items_in (last_of (blocks ls)) else
 
 abbrev pub slaves_for : List (List ℕ) → Key → List SlaveDesc
 slaves_for ls keys.Slave = slaves_said ls
-slaves_for ls _ = slaves_of (front_of (blocks ls))
+slaves_for ls _ = slaves_of_blocks (front_of (blocks ls))
 
 -- the parameters of a slave after all settings before
 abbrev pub parameters_now : List SlaveDesc → Links → ℕ → List ℤ
@@ -195,7 +195,7 @@ scenario_of head slaves links = record {
   micro = unwrap_or (first_said (number_in heads.Micro) head) 1;
   runs = runs_said head;
   protocol = unwrap_or (first_said protocol_in head) Udp;
-  master = unwrap_or (first_said master_in head) (record { ip = 0; port = 0 });
+  master = unwrap_or (first_said master_of_head head) (record { ip = 0; port = 0 });
   limits = limits_said head;
   slaves = slaves;
   wires = links.wires;

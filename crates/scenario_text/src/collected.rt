@@ -11,8 +11,8 @@ ghost use Rattle.scenario.specs.Settings.{takes_at};
 ghost use Rattle.scenario_text.specs.LastSettings.{SameSettings, IsLastRun};
 ghost use Rattle.scenario.specs.declared.scenarios.Rerun.{Rerun};
 
-use crate::latest::Latest;
-use crate::link_words::Link;
+use crate::latest::LatestSettings;
+use crate::link_words::LinkLine;
 use dcp_types::OutOfMemory;
 use fixed_models::takes;
 use scenario::{
@@ -40,9 +40,9 @@ pub struct Links {
 pub struct Collected {
     links: Links,
     /// What the settings before the first run come to.
-    first: Latest,
+    first: LatestSettings,
     /// What those before later runs come to.
-    later: Latest,
+    later: LatestSettings,
     /// The last of these runs; 0 where there is none.
     last_run: u32,
 }
@@ -112,26 +112,26 @@ fn takes_at(slaves: &[SlaveDesc], slave: u8, parameters: &[i64]) -> bool
     }
 }
 
-fn set_said(link: Link) -> Option<Setting>
+fn set_said(link: LinkLine) -> Option<Setting>
     ensures { result ≡ set_in link }
 {
     match link {
-        Link::Set(setting) => Some(setting),
+        LinkLine::Set(setting) => Some(setting),
         _ => None,
     }
 }
 
-fn rerun_said(link: Link) -> Option<Rerun>
+fn rerun_said(link: LinkLine) -> Option<Rerun>
     ensures { result ≡ rerun_in link }
 {
     match link {
-        Link::RerunSet(rerun) => Some(rerun),
+        LinkLine::RerunSet(rerun) => Some(rerun),
         _ => None,
     }
 }
 
 /// Adds a setting, if there is one.
-fn put_if(latest: &mut Latest, setting: Option<Setting>) -> Result<(), OutOfMemory>
+fn put_if(latest: &mut LatestSettings, setting: Option<Setting>) -> Result<(), OutOfMemory>
     ensures { OnOk result (SameSettings latest.new (longer latest.old setting)) }
 {
     if let Some(setting) = setting {
@@ -192,22 +192,22 @@ impl Links {
     }
 
     /// Adds what a line says. After want of memory the value is of no use.
-    pub fn put(&mut self, link: Link) -> Result<(), OutOfMemory>
+    pub fn put(&mut self, link: LinkLine) -> Result<(), OutOfMemory>
         ensures { OnOk result (self.new ≡ put_link self.old link) }
     {
         match link {
-            Link::Wire(wire) => self.wires.push(wire)?,
-            Link::Set(setting) => self.settings.push(setting)?,
-            Link::RerunSet(rerun) => self.reruns.push(rerun)?,
-            Link::Every(every) => self.every.push(every)?,
-            Link::Net(line) => self.net.lines.push(line)?,
-            Link::Chaos(chaos) => self.put_chaos(chaos),
+            LinkLine::Wire(wire) => self.wires.push(wire)?,
+            LinkLine::Set(setting) => self.settings.push(setting)?,
+            LinkLine::RerunSet(rerun) => self.reruns.push(rerun)?,
+            LinkLine::Every(every) => self.every.push(every)?,
+            LinkLine::Net(line) => self.net.lines.push(line)?,
+            LinkLine::Chaos(chaos) => self.put_chaos(chaos),
         }
         Ok(())
     }
 
     fn put_chaos(&mut self, chaos: Chaos)
-        ensures { self.new ≡ put_link self.old (Link.Chaos chaos) }
+        ensures { self.new ≡ put_link self.old (LinkLine.Chaos chaos) }
     {
         self.net.chaos = Some(chaos);
     }
@@ -222,8 +222,8 @@ impl Collected {
     {
         Collected {
             links: Links::new(alloc),
-            first: Latest::new(alloc),
-            later: Latest::new(alloc),
+            first: LatestSettings::new(alloc),
+            later: LatestSettings::new(alloc),
             last_run: 0,
         }
     }
@@ -294,23 +294,23 @@ impl Collected {
         &self,
         alloc: Global,
         slaves: &[SlaveDesc],
-        link: Link,
+        link: LinkLine,
     ) -> Result<Option<TextWhy>, OutOfMemory>
         ensures { IfOk result (λ o. o ≡ why_link slaves.now self.now link) }
     {
         match link {
-            Link::Wire(wire) => Ok(check_wire(slaves, self.links.wires.as_slice(), wire)),
-            Link::Set(setting) => self.check_setting(alloc, slaves, setting),
-            Link::RerunSet(rerun) => self.check_rerun(alloc, slaves, rerun),
-            Link::Every(every) => Ok(check_every(&self.links, every)),
-            Link::Net(_) => Ok(check_net(&self.links)),
-            Link::Chaos(_) => Ok(None),
+            LinkLine::Wire(wire) => Ok(check_wire(slaves, self.links.wires.as_slice(), wire)),
+            LinkLine::Set(setting) => self.check_setting(alloc, slaves, setting),
+            LinkLine::RerunSet(rerun) => self.check_rerun(alloc, slaves, rerun),
+            LinkLine::Every(every) => Ok(check_every(&self.links, every)),
+            LinkLine::Net(_) => Ok(check_net(&self.links)),
+            LinkLine::Chaos(_) => Ok(None),
         }
     }
 
     /// The links with what one more line says. It takes `self`, since what is kept beside the links
     /// no longer fits them where memory runs out in between.
-    pub fn with(self, link: Link) -> Result<Collected, OutOfMemory>
+    pub fn with(self, link: LinkLine) -> Result<Collected, OutOfMemory>
         ensures { IfOk result (λ c. c ≡ put_link self link) }
     {
         let Collected {

@@ -1,10 +1,8 @@
 //! What the lines of a head say.
 
 ghost use Rattle.std.specs.Prelude.{◌≡◌, ◌==◌, ◌≤◌, map};
-ghost use Rattle.std.specs.List.{list_any};
 ghost use Rattle.text_lines.specs.Outcomes.{Gives};
-ghost use Rattle.scenario_text.specs.Keys.{head_code};
-ghost use Rattle.scenario_text.specs.Heads.{least, greatest, number_item, protocol_of, head_item, item_key, is_said, number_in, master_in, protocol_in, first_said};
+ghost use Rattle.scenario_text.specs.Heads.{least_head, greatest_head, number_item, protocol_of, head_item, item_key, is_said, number_in, master_of_head, protocol_in, first_said};
 
 use crate::keys::HeadKey;
 use dcp_types::{Address, Items, Protocol};
@@ -23,7 +21,7 @@ pub enum HeadItem {
 pub type HeadItems = Items<HeadItem>;
 
 fn least(key: HeadKey) -> u32
-    ensures { result ≡ least key }
+    ensures { result ≡ least_head key }
 {
     match key {
         HeadKey::Steps => 0,
@@ -33,8 +31,8 @@ fn least(key: HeadKey) -> u32
 }
 
 fn greatest(key: HeadKey) -> u32
-    ensures value { result ≡ greatest key }
-    ensures small { greatest key ≤ 100000 }
+    ensures value { result ≡ greatest_head key }
+    ensures small { greatest_head key ≤ 100000 }
 {
     match key {
         HeadKey::Steps => 100_000,
@@ -107,7 +105,7 @@ impl HeadItem {
     }
 
     fn master(self) -> Option<Address>
-        ensures { result ≡ master_in self }
+        ensures { result ≡ master_of_head self }
     {
         match self {
             HeadItem::Master(master) => Some(master),
@@ -156,7 +154,7 @@ pub fn number_said(key: HeadKey, said: &[HeadItem]) -> Option<u32>
 
 /// The address that the line `master` says.
 pub fn master_said(said: &[HeadItem]) -> Option<Address>
-    ensures { result ≡ first_said master_in said.now }
+    ensures { result ≡ first_said master_of_head said.now }
 {
     for item in said {
         if let Some(master) = item.master() {

@@ -10,11 +10,11 @@ use std::marker::Model;
 
 /// The settings that still count, at most one of each parameter.
 #[derive(Debug, Drop)]
-pub struct Latest {
+pub struct LatestSettings {
     items: Vec<Setting>,
 }
 
-impl Model for Latest {
+impl Model for LatestSettings {
     ghost use Rattle.std.specs.Prelude.{List, ◌≡◌, false, AllPairs};
     ghost use Rattle.scenario.specs.declared.scenarios.Setting.{Setting};
 
@@ -33,12 +33,12 @@ fn same_parameter(a: Setting, b: Setting) -> bool
     a.slave == b.slave && a.index == b.index
 }
 
-impl Latest {
+impl LatestSettings {
     /// No settings. It takes no memory.
-    pub fn new(alloc: Global) -> Latest
+    pub fn new(alloc: Global) -> LatestSettings
         ensures { result ≡ [] }
     {
-        Latest {
+        LatestSettings {
             items: Vec::new(alloc),
         }
     }

@@ -2,7 +2,7 @@
 
 ghost use Rattle.std.specs.Prelude.{◌≡◌, ◌<◌, ◌≤◌, map, length, IfSome};
 ghost use Rattle.std.specs.Str.{bytes_eq};
-ghost use Rattle.scenario_text.specs.Links.{place_of, slave_of, index_of, end_of, hex_value, type_of, wire_of, setting_of, rerun_of, every_of, message_of, drop_of, copy_of, hold_of, chaos_of, link_of};
+ghost use Rattle.scenario_text.specs.Links.{place_of, number_of_slave, index_of, end_of, hex_value, type_of, wire_of, setting_of, rerun_of, every_of, message_named, drop_of, copy_of, hold_of, chaos_of, link_of};
 ghost use Rattle.scenario.specs.Lookups.{outputs_at, inputs_at, parameters_at};
 
 use crate::keys::LinkKey;
@@ -13,7 +13,7 @@ use text_lines::{TextWhy, four_words, int64, number, number_from, three_words};
 
 /// What a line of the links says.
 #[derive(Clone, Copy, Debug, PartialEq, Eq)]
-pub enum Link {
+pub enum LinkLine {
     Wire(Wire),
     Set(Setting),
     RerunSet(Rerun),
@@ -39,7 +39,7 @@ fn place_of(slaves: &[SlaveDesc], word: &[u8]) -> Option<usize>
 /// The number of the slave that has this name, from 1.
 fn slave_of(slaves: &[SlaveDesc], word: &[u8]) -> Result<u8, TextWhy>
     requires { length slaves.now ≤ 16 }
-    ensures { result ≡ slave_of slaves.now word.now }
+    ensures { result ≡ number_of_slave slaves.now word.now }
 {
     if !is_name(word) {
         return Err(TextWhy::BadName);
@@ -177,7 +177,7 @@ fn message_of(
     nth: &[u8],
 ) -> Result<(u8, u8, u32), TextWhy>
     requires { count ≤ 16 }
-    ensures { result ≡ message_of count end.now type_id.now nth.now }
+    ensures { result ≡ message_named count end.now type_id.now nth.now }
 {
     let end = end_of(count, end)?;
     let type_id = type_of(type_id)?;
@@ -246,42 +246,42 @@ pub fn link_of(
     runs: u32,
     key: LinkKey,
     args: &[&[u8]],
-) -> Result<Link, TextWhy>
+) -> Result<LinkLine, TextWhy>
     requires { length slaves.now ≤ 16 }
     ensures { result ≡ link_of slaves.now runs key (map (λ w. w.now) args.now) }
 {
     match key {
         LinkKey::Wire => {
             let wire = wire_of(slaves, args)?;
-            Ok(Link::Wire(wire))
+            Ok(LinkLine::Wire(wire))
         }
         LinkKey::Set => {
             let setting = setting_of(slaves, args)?;
-            Ok(Link::Set(setting))
+            Ok(LinkLine::Set(setting))
         }
         LinkKey::RerunSet => {
             let rerun = rerun_of(slaves, runs, args)?;
-            Ok(Link::RerunSet(rerun))
+            Ok(LinkLine::RerunSet(rerun))
         }
         LinkKey::Every => {
             let every = every_of(slaves, args)?;
-            Ok(Link::Every(every))
+            Ok(LinkLine::Every(every))
         }
         LinkKey::Drop => {
             let line = drop_of(slaves.len(), args)?;
-            Ok(Link::Net(line))
+            Ok(LinkLine::Net(line))
         }
         LinkKey::Copy => {
             let line = copy_of(slaves.len(), args)?;
-            Ok(Link::Net(line))
+            Ok(LinkLine::Net(line))
         }
         LinkKey::Hold => {
             let line = hold_of(slaves.len(), args)?;
-            Ok(Link::Net(line))
+            Ok(LinkLine::Net(line))
         }
         LinkKey::Chaos => {
             let chaos = chaos_of(args)?;
-            Ok(Link::Chaos(chaos))
+            Ok(LinkLine::Chaos(chaos))
         }
     }
 }

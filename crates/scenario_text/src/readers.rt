@@ -121,11 +121,11 @@ fn is_chaos(key: LinkKey) -> bool
 
 impl Reader {
     ghost use Rattle.scenario_text.specs.Clashes.{why_among};
-    ghost use Rattle.scenario_text.specs.Machine.{start, close_head, close_block, close_slaves, closes, take_head, take_block, take_link, act, take_keyed, take_words, take_line, finished};
+    ghost use Rattle.scenario_text.specs.Machine.{reader_at_start, close_head, close_block, close_slaves, closes, take_head, take_scenario_block, take_link, act_on_key, take_scenario_keyed, take_scenario_words, take_scenario_line, scenario_finished};
 
     /// What no lines say. It takes no memory.
     pub fn new(alloc: Global) -> Reader
-        ensures { result ≡ start }
+        ensures { result ≡ reader_at_start }
     {
         Reader {
             section: 0,
@@ -218,7 +218,7 @@ impl Reader {
     }
 
     fn take_block(&mut self, alloc: Global, key: Key, args: &[&[u8]]) -> Result<(), LineRefused>
-        ensures { Steps result self.new (take_block self.old key (map (λ w. w.now) args.now)) }
+        ensures { Steps result self.new (take_scenario_block self.old key (map (λ w. w.now) args.now)) }
     {
         if let Some(why) = check_key(self.block.has(key), self.block.name.is_some(), key) {
             return Err(LineRefused::Why(why));
@@ -251,7 +251,7 @@ impl Reader {
     }
 
     fn act(&mut self, alloc: Global, key: AnyKey, args: &[&[u8]]) -> Result<(), LineRefused>
-        ensures { Steps result self.new (act self.old key (map (λ w. w.now) args.now)) }
+        ensures { Steps result self.new (act_on_key self.old key (map (λ w. w.now) args.now)) }
     {
         match key {
             AnyKey::Head(key) => self.take_head(alloc, key, args),
@@ -261,7 +261,7 @@ impl Reader {
     }
 
     fn take_keyed(&mut self, alloc: Global, key: AnyKey, args: &[&[u8]]) -> Result<(), LineRefused>
-        ensures { Steps result self.new (take_keyed self.old (Some key) (map (λ w. w.now) args.now)) }
+        ensures { Steps result self.new (take_scenario_keyed self.old (Some key) (map (λ w. w.now) args.now)) }
     {
         if key.section() < self.section {
             return Err(LineRefused::Why(TextWhy::Order));
@@ -271,7 +271,7 @@ impl Reader {
     }
 
     fn take_words(&mut self, alloc: Global, words: &[&[u8]]) -> Result<(), LineRefused>
-        ensures { Steps result self.new (take_words self.old (map (λ w. w.now) words.now)) }
+        ensures { Steps result self.new (take_scenario_words self.old (map (λ w. w.now) words.now)) }
     {
         match words {
             [key, args @ ..] => match any_key(key) {
@@ -284,7 +284,7 @@ impl Reader {
 
     /// Takes a line. After a refusal the value is of no use.
     pub fn take_line(&mut self, alloc: Global, line: &[u8]) -> Result<(), LineRefused>
-        ensures { Steps result self.new (take_line self.old line.now) }
+        ensures { Steps result self.new (take_scenario_line self.old line.now) }
     {
         if !is_utf8(line) {
             return Err(LineRefused::Why(TextWhy::NotUtf8));
@@ -298,7 +298,7 @@ impl Reader {
 
     /// The scenario, at the end of the text.
     pub fn finish(mut self, alloc: Global) -> Result<Scenario, LineRefused>
-        ensures { Gives (λ s. s) result (finished self) }
+        ensures { Gives (λ s. s) result (scenario_finished self) }
     {
         self.closes(alloc, true, 2)?;
         let Reader {

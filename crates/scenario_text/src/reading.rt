@@ -4,7 +4,7 @@ ghost use Rattle.std.specs.Prelude.{Ok, IfErr, IfOk};
 ghost use Rattle.std.specs.Str.Lines.{lines};
 ghost use Rattle.text_lines.specs.Outcomes.{GivesText};
 ghost use Rattle.text_lines.specs.Runs.{run_of};
-ghost use Rattle.scenario_text.specs.Machine.{start, take_line, finished};
+ghost use Rattle.scenario_text.specs.Machine.{reader_at_start, take_scenario_line, scenario_finished};
 ghost use Rattle.text_lines.specs.Readings.{IsFirstBad, ReadsOrRefused, NeverReadsAndRefused, OneValue, OneFault};
 ghost use Rattle.scenario_text.specs.Judging.{scenario_why_at};
 ghost use Rattle.scenario_text.specs.Reads.{ReadsAsScenario};
@@ -17,7 +17,7 @@ use std::alloc::Global;
 use text_lines::{LineRefused, TextFault, TextRefused, lines};
 
 fn read(alloc: Global, text: &[u8]) -> Result<Scenario, TextRefused>
-    ensures { GivesText result (run_of take_line finished 1 start (lines text.now)) }
+    ensures { GivesText result (run_of take_scenario_line scenario_finished 1 reader_at_start (lines text.now)) }
 {
     let Ok(lines) = lines(alloc, text) else {
         return Err(TextRefused::OutOfMemory);

@@ -5,12 +5,12 @@ use Rattle.std.proofs.lemmas.Bool.Decides.{nat_tests}
 use Rattle.dcp_ends.specs.declared.entries.LogEntry.{LogEntry}
 use Rattle.master_spec.specs.declared.setups.Slave.{Slave}
 use Rattle.master_spec.specs.declared.setups.Setup.{Setup}
-use Rattle.master_spec.specs.Exchanged.{IsIn, Brings, Exchange, Exchanged, in_order, in_run, nth_of}
+use Rattle.master_spec.specs.Exchanged.{IsIn, Brings, StepExchange, Exchanged, in_order, in_run, nth_of}
 use Rattle.master_spec.specs.Requests.{Asking, is_step, is_stop, is_outputs, is_acked}
 use Rattle.shown_witnesses.proofs.Lists.{each_passes}
 
 -- the exchange of a slave is that of an equal one, at the same places
-abbrev pub moved : {setup : Setup} {log : List LogEntry} {r k : ℕ} (s t : Slave) → s ≡ t → Exchange setup log s r k → Exchange setup log t r k
+abbrev pub moved : {setup : Setup} {log : List LogEntry} {r k : ℕ} (s t : Slave) → s ≡ t → StepExchange setup log s r k → StepExchange setup log t r k
 moved {setup} {log} {r} {k} s t same x = record {
   step = x.step;
   stepped = x.stepped;
@@ -57,7 +57,7 @@ later setup log s t outputs running came same all a n e k b =
 abbrev pub IsAlone : Setup → Slave → Type 0
 IsAlone setup s = (t : Slave) → IsIn setup t → s ≡ t
 
-abbrev pub alone : (setup : Setup) (log : List LogEntry) (s : Slave) (r k : ℕ) → IsAlone setup s → (x : Exchange setup log s r k)
+abbrev pub alone : (setup : Setup) (log : List LogEntry) (s : Slave) (r k : ℕ) → IsAlone setup s → (x : StepExchange setup log s r k)
     → list_all (is_behind x.outputs.first x.told_running x.came) (in_order setup log s) ≡ true → Exchanged setup log r k
 alone setup log s r k one x all = record {
   each = λ t i. moved s t (one t i) x;

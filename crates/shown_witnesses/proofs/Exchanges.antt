@@ -4,22 +4,22 @@ use Rattle.std.specs.List.{list_all}
 use Rattle.dcp_types.specs.Values.{digits}
 use Rattle.pdu_layout.specs.Reading.{message_in, spelling}
 use Rattle.pdu_layout.specs.Fields.FieldValue.{Number}
-use Rattle.master_spec.specs.News.{news_of, bytes_of}
+use Rattle.master_spec.specs.News.{news_of, request_bytes}
 use Rattle.master_spec.specs.Conversation.{reaction}
 use Rattle.master_spec.specs.Course.{step}
-use Rattle.master_spec.specs.Exchanged.{Exchange, Exchanged, AllExchanged, in_order}
+use Rattle.master_spec.specs.Exchanged.{StepExchange, Exchanged, AllExchanged, in_order}
 use Rattle.master_spec.specs.Requests.{Asking}
 use Rattle.master_spec.specs.declared.requests.Answer.TheVariants.{Ack, StateAck}
 use Rattle.master_spec.specs.declared.reports.Report.TheVariants as reports
-use Rattle.shown_witnesses.specs.Ends.{single, slave, brought}
-use Rattle.shown_witnesses.specs.Logs.{IsRun}
+use Rattle.shown_witnesses.specs.Ends.{single, small_slave, data_entry}
+use Rattle.shown_witnesses.specs.Logs.{IsMasterRun}
 use Rattle.shown_witnesses.specs.Whole.{whole}
 use Rattle.shown_witnesses.proofs.Askings.{decided, question, change}
 use Rattle.shown_witnesses.proofs.Readings.{only_one}
 use Rattle.shown_witnesses.proofs.Alone.{IsAlone, is_behind, alone}
 
-pub run_whole : IsRun (single 1) whole (reports.Finished 1)
-unfolding message_in spelling digits news_of bytes_of reaction step
+pub run_whole : IsMasterRun (single 1) whole (reports.Finished 1)
+unfolding message_in spelling digits news_of request_bytes reaction step
 run_whole = record { by_rules = refl; reported = refl; in_time = omega arith }
 
 abbrev stepped : Asking
@@ -34,7 +34,7 @@ asked = change 8 15 13 46 47 Ack
 abbrev running : Asking
 running = question 16 50 51 (StateAck 11)
 
-exchange : Exchange (single 1) (reverse whole) (slave 1) 1 1
+exchange : StepExchange (single 1) (reverse whole) (small_slave 1) 1 1
 unfolding message_in news_of
 exchange = record {
   step = stepped;
@@ -55,7 +55,7 @@ exchange = record {
   outputs_done = refl;
   running_is = (4, refl, refl);
   running_done = refl;
-  brought = (brought 1 1 8, refl, refl);
+  brought = (data_entry 1 1 8, refl, refl);
   first = omega arith;
   second = omega arith;
   third = omega arith;
@@ -63,16 +63,16 @@ exchange = record {
 }
 
 -- after the outputs no step or stop comes before the end of the exchange
-behind : list_all (is_behind 46 51 48) (in_order (single 1) (reverse whole) (slave 1)) ≡ true
+behind : list_all (is_behind 46 51 48) (in_order (single 1) (reverse whole) (small_slave 1)) ≡ true
 unfolding message_in news_of
 behind = refl
 
-only : IsAlone (single 1) (slave 1)
-only t i = only_one (slave 1) t i.0 i.1
+only : IsAlone (single 1) (small_slave 1)
+only t i = only_one (small_slave 1) t i.0 i.1
 
 exchanged : Exchanged (single 1) (reverse whole) 1 1
 unfolding exchange
-exchanged = alone (single 1) (reverse whole) (slave 1) 1 1 only exchange behind
+exchanged = alone (single 1) (reverse whole) (small_slave 1) 1 1 only exchange behind
 
 pub all_exchanged : AllExchanged (single 1) (reverse whole)
 all_exchanged = record {

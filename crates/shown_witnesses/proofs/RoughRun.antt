@@ -4,32 +4,32 @@ use Rattle.std.specs.List.{list_all}
 use Rattle.dcp_types.specs.Values.{digits}
 use Rattle.pdu_layout.specs.Reading.{message_in, spelling}
 use Rattle.pdu_layout.specs.Fields.FieldValue.{Number}
-use Rattle.master_spec.specs.News.{news_of, bytes_of}
+use Rattle.master_spec.specs.News.{news_of, request_bytes}
 use Rattle.master_spec.specs.Conversation.{reaction}
 use Rattle.master_spec.specs.Course.{step}
 use Rattle.master_spec.specs.Shown.{Last}
-use Rattle.master_spec.specs.Exchanged.{Brings, Exchange, Exchanged, AllExchanged, AreInTurn, in_order}
+use Rattle.master_spec.specs.Exchanged.{Brings, StepExchange, Exchanged, AllExchanged, AreInTurn, in_order}
 use Rattle.master_spec.specs.Requests.{Asking, brings_outputs}
 use Rattle.master_spec.specs.declared.tasks.Task.TheVariants as tasks
 use Rattle.master_spec.specs.declared.causes.Cause.TheVariants.{DataMissing}
 use Rattle.master_spec.specs.declared.requests.Answer.TheVariants.{Ack, StateAck}
 use Rattle.master_spec.specs.declared.reports.Report.TheVariants as reports
-use Rattle.shown_witnesses.specs.Ends.{master, single, slave, brought}
-use Rattle.shown_witnesses.specs.Logs.{IsRun, Tells}
+use Rattle.shown_witnesses.specs.Ends.{master, single, small_slave, data_entry}
+use Rattle.shown_witnesses.specs.Logs.{IsMasterRun, TellsCause}
 use Rattle.shown_witnesses.specs.Rough.{rough_whole, rough_missing}
 use Rattle.shown_witnesses.proofs.Askings.{decided, question, change}
 use Rattle.shown_witnesses.proofs.Readings.{only_one, tells_of}
 use Rattle.shown_witnesses.proofs.Places.{places, IsAmong, brought_at}
 use Rattle.shown_witnesses.proofs.Alone.{IsAlone, is_behind, alone}
 
-pub run_whole : IsRun (single 2) rough_whole (reports.Finished 2)
-unfolding message_in spelling digits news_of bytes_of reaction step
+pub run_whole : IsMasterRun (single 2) rough_whole (reports.Finished 2)
+unfolding message_in spelling digits news_of request_bytes reaction step
 run_whole = record { by_rules = refl; reported = refl; in_time = omega arith }
 
-only : IsAlone (single 2) (slave 1)
-only t i = only_one (slave 1) t i.0 i.1
+only : IsAlone (single 2) (small_slave 1)
+only t i = only_one (small_slave 1) t i.0 i.1
 
-exchange_1 : Exchange (single 2) (reverse rough_whole) (slave 1) 1 1
+exchange_1 : StepExchange (single 2) (reverse rough_whole) (small_slave 1) 1 1
 unfolding message_in news_of
 exchange_1 = record {
   step = decided 7 14 (Number 11 ∷ Number 1 ∷ []) 46 47 Ack;
@@ -50,22 +50,22 @@ exchange_1 = record {
   outputs_done = refl;
   running_is = (5, refl, refl);
   running_done = refl;
-  brought = (brought 1 1 8, refl, refl);
+  brought = (data_entry 1 1 8, refl, refl);
   first = omega arith;
   second = omega arith;
   third = omega arith;
   fourth = omega arith;
 }
 
-behind_1 : list_all (is_behind 52 57 53) (in_order (single 2) (reverse rough_whole) (slave 1)) ≡ true
+behind_1 : list_all (is_behind 52 57 53) (in_order (single 2) (reverse rough_whole) (small_slave 1)) ≡ true
 unfolding message_in news_of
 behind_1 = refl
 
 exchanged_1 : Exchanged (single 2) (reverse rough_whole) 1 1
 unfolding exchange_1
-exchanged_1 = alone (single 2) (reverse rough_whole) (slave 1) 1 1 only exchange_1 behind_1
+exchanged_1 = alone (single 2) (reverse rough_whole) (small_slave 1) 1 1 only exchange_1 behind_1
 
-exchange_2 : Exchange (single 2) (reverse rough_whole) (slave 1) 1 2
+exchange_2 : StepExchange (single 2) (reverse rough_whole) (small_slave 1) 1 2
 unfolding message_in news_of
 exchange_2 = record {
   step = decided 7 18 (Number 11 ∷ Number 1 ∷ []) 59 60 Ack;
@@ -86,20 +86,20 @@ exchange_2 = record {
   outputs_done = refl;
   running_is = (9, refl, refl);
   running_done = refl;
-  brought = (brought 1 2 9, refl, refl);
+  brought = (data_entry 1 2 9, refl, refl);
   first = omega arith;
   second = omega arith;
   third = omega arith;
   fourth = omega arith;
 }
 
-behind_2 : list_all (is_behind 65 69 70) (in_order (single 2) (reverse rough_whole) (slave 1)) ≡ true
+behind_2 : list_all (is_behind 65 69 70) (in_order (single 2) (reverse rough_whole) (small_slave 1)) ≡ true
 unfolding message_in news_of
 behind_2 = refl
 
 exchanged_2 : Exchanged (single 2) (reverse rough_whole) 1 2
 unfolding exchange_2
-exchanged_2 = alone (single 2) (reverse rough_whole) (slave 1) 1 2 only exchange_2 behind_2
+exchanged_2 = alone (single 2) (reverse rough_whole) (small_slave 1) 1 2 only exchange_2 behind_2
 
 exchanged_in : (r k : ℕ) → 1 ≤ r → r ≤ 1 → 1 ≤ k → k ≤ 2 → Exchanged (single 2) (reverse rough_whole) r k
 exchanged_in (suc zero) (suc zero) a b c d = exchanged_1
@@ -123,8 +123,8 @@ all_rough = record { steps = exchanged_in; in_turn = in_turn; over = λ r a b c 
 
 -- ---- the outputs of the second step are missing
 
-run_missing : IsRun (single 2) rough_missing (reports.Failed 1 11 (DataMissing 2))
-unfolding message_in spelling digits news_of bytes_of reaction step
+run_missing : IsMasterRun (single 2) rough_missing (reports.Failed 1 11 (DataMissing 2))
+unfolding message_in spelling digits news_of request_bytes reaction step
 run_missing = record { by_rules = refl; reported = refl; in_time = omega arith }
 
 abbrev home : Asking
@@ -133,18 +133,18 @@ home = question 21 68 69 (StateAck 11)
 abbrev sending : List Asking
 sending = change 8 20 13 65 66 Ack ∷ question 19 62 63 (StateAck 13) ∷ []
 
-last_missing : Last (single 2) (reverse rough_missing) (slave 1) 11 (tasks.Outputs 2 2) home sending
+last_missing : Last (single 2) (reverse rough_missing) (small_slave 1) 11 (tasks.Outputs 2 2) home sending
 unfolding message_in news_of
 last_missing = record { phase = refl; begun = omega arith; job = ([], refl); last = refl }
 
-none_came : places (brings_outputs master (slave 1) 2 1) 0 rough_missing ≡ []
+none_came : places (brings_outputs master (small_slave 1) 2 1) 0 rough_missing ≡ []
 unfolding message_in news_of
 none_came = refl
 
-none_here : (i : ℕ) → Brings (single 2) (reverse rough_missing) (slave 1) 2 i → ⊥
-none_here i h = subst (λ ps. IsAmong ps i) none_came (brought_at (single 2) (reverse rough_missing) (slave 1) 2 i h)
+none_here : (i : ℕ) → Brings (single 2) (reverse rough_missing) (small_slave 1) 2 i → ⊥
+none_here i h = subst (λ ps. IsAmong ps i) none_came (brought_at (single 2) (reverse rough_missing) (small_slave 1) 2 i h)
 
-pub tells_missing : Tells (single 2) rough_missing (slave 1) 11 (DataMissing 2)
+pub tells_missing : TellsCause (single 2) rough_missing (small_slave 1) 11 (DataMissing 2)
 tells_missing = tells_of run_missing (record {
   task = tasks.Outputs 2 2;
   request = home;

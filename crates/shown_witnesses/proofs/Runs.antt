@@ -5,16 +5,16 @@ use Rattle.dcp_types.specs.Values.{digits}
 use Rattle.dcp_ends.specs.declared.entries.LogEntry.{LogEntry}
 use Rattle.pdu_layout.specs.Reading.{message_in, spelling}
 use Rattle.pdu_layout.specs.Fields.FieldValue.{Number}
-use Rattle.master_spec.specs.News.{news_of, bytes_of}
+use Rattle.master_spec.specs.News.{news_of, request_bytes}
 use Rattle.master_spec.specs.Conversation.{reaction}
 use Rattle.master_spec.specs.Course.{step}
-use Rattle.master_spec.specs.Exchanged.{IsIn, IsDecided, Brings, Exchange, Exchanged, AllExchanged, AreInTurn, IsBetween, in_order, in_run, nth_of}
+use Rattle.master_spec.specs.Exchanged.{IsIn, IsDecided, Brings, StepExchange, Exchanged, AllExchanged, AreInTurn, IsBetween, in_order, in_run, nth_of}
 use Rattle.master_spec.specs.Requests.{brings_outputs, Asking, is_prepare, is_step, is_stop, is_reset, is_acked}
 use Rattle.master_spec.specs.declared.requests.Answer.TheVariants.{Ack, Nack, StateAck}
 use Rattle.master_spec.specs.declared.reports.Report.TheVariants as reports
 use Rattle.master_spec.specs.declared.setups.Slave.{Slave}
-use Rattle.shown_witnesses.specs.Ends.{master, set_between, twice, brought}
-use Rattle.shown_witnesses.specs.Logs.{IsRun, Tells}
+use Rattle.shown_witnesses.specs.Ends.{master, set_between, twice, data_entry}
+use Rattle.shown_witnesses.specs.Logs.{IsMasterRun, TellsCause}
 use Rattle.shown_witnesses.specs.Runs.{old_outputs, NotAllExchanged, NotBetween, two_runs, not_reset, reset_refused, prepared_too_early, reset_at_first, overlapping}
 use Rattle.shown_witnesses.proofs.Askings.{decided, question, change}
 use Rattle.shown_witnesses.proofs.Readings.{none_below, only_one, one_answer, one_place}
@@ -25,8 +25,8 @@ use Rattle.master_spec.specs.declared.tasks.Task.TheVariants as tasks
 use Rattle.master_spec.specs.declared.causes.Cause.TheVariants.{DataMissing}
 use Rattle.shown_witnesses.proofs.Alone.{IsAlone, is_behind, alone}
 
-pub run_twice : IsRun twice two_runs (reports.Finished 1)
-unfolding message_in spelling digits news_of bytes_of reaction step
+pub run_twice : IsMasterRun twice two_runs (reports.Finished 1)
+unfolding message_in spelling digits news_of request_bytes reaction step
 run_twice = record { by_rules = refl; reported = refl; in_time = omega arith }
 
 only : IsAlone twice set_between
@@ -46,7 +46,7 @@ asked_1 = change 8 15 13 46 47 Ack
 abbrev running_1 : Asking
 running_1 = question 16 50 51 (StateAck 11)
 
-exchange_1 : Exchange twice (reverse two_runs) set_between 1 1
+exchange_1 : StepExchange twice (reverse two_runs) set_between 1 1
 unfolding message_in news_of
 exchange_1 = record {
   step = stepped_1;
@@ -67,7 +67,7 @@ exchange_1 = record {
   outputs_done = refl;
   running_is = (4, refl, refl);
   running_done = refl;
-  brought = (brought 1 1 8, refl, refl);
+  brought = (data_entry 1 1 8, refl, refl);
   first = omega arith;
   second = omega arith;
   third = omega arith;
@@ -96,7 +96,7 @@ asked_2 = change 8 34 13 104 105 Ack
 abbrev running_2 : Asking
 running_2 = question 35 108 109 (StateAck 11)
 
-exchange_2 : Exchange twice (reverse two_runs) set_between 2 1
+exchange_2 : StepExchange twice (reverse two_runs) set_between 2 1
 unfolding message_in news_of
 exchange_2 = record {
   step = stepped_2;
@@ -117,7 +117,7 @@ exchange_2 = record {
   outputs_done = refl;
   running_is = (4, refl, refl);
   running_done = refl;
-  brought = (brought 1 3 8, refl, refl);
+  brought = (data_entry 1 3 8, refl, refl);
   first = omega arith;
   second = omega arith;
   third = omega arith;
@@ -257,7 +257,7 @@ came_at : (i : ℕ) → IsAmong (14 ∷ []) i → 14 ≡ i
 came_at i (inl e) = e
 came_at i (inr h) = absurd h
 
-not_in_turn : (e : Exchange twice (reverse overlapping) set_between 1 1) (f : Exchange twice (reverse overlapping) set_between 2 1) → e.came < f.step.first → ⊥
+not_in_turn : (e : StepExchange twice (reverse overlapping) set_between 1 1) (f : StepExchange twice (reverse overlapping) set_between 2 1) → e.came < f.step.first → ⊥
 not_in_turn e f order =
     let here = brought_at twice (reverse overlapping) set_between 1 e.came e.brought in
     let came : 14 ≡ e.came = came_at e.came (subst (λ ps. IsAmong ps e.came) came_once here) in
@@ -276,8 +276,8 @@ overlapping_not x =
 
 -- ---- outputs of the first run in the second
 
-run_old : IsRun twice old_outputs (reports.Failed 1 16 (DataMissing 0))
-unfolding message_in spelling digits news_of bytes_of reaction step
+run_old : IsMasterRun twice old_outputs (reports.Failed 1 16 (DataMissing 0))
+unfolding message_in spelling digits news_of request_bytes reaction step
 run_old = record { by_rules = refl; reported = refl; in_time = omega arith }
 
 abbrev home : Asking
@@ -300,7 +300,7 @@ none_came = refl
 none_here : (i : ℕ) → Brings twice (reverse old_outputs) set_between 2 i → ⊥
 none_here i h = subst (λ ps. IsAmong ps i) none_came (brought_at twice (reverse old_outputs) set_between 2 i h)
 
-pub tells_old : Tells twice old_outputs set_between 16 (DataMissing 0)
+pub tells_old : TellsCause twice old_outputs set_between 16 (DataMissing 0)
 tells_old = record {
   run = run_old;
   first = record {

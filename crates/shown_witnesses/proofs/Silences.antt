@@ -3,7 +3,7 @@ use Rattle.std.proofs.Common.{◌≡◌, ℕ, Option, Some, None, List, [], ◌�
 use Rattle.dcp_types.specs.Values.{digits}
 use Rattle.pdu_layout.specs.Reading.{message_in, spelling}
 use Rattle.pdu_layout.specs.Fields.FieldValue.{Number}
-use Rattle.master_spec.specs.News.{news_of, bytes_of}
+use Rattle.master_spec.specs.News.{news_of, request_bytes}
 use Rattle.master_spec.specs.Conversation.{reaction}
 use Rattle.master_spec.specs.Course.{step}
 use Rattle.master_spec.specs.Shown.{Shown, ShownBy, Last}
@@ -14,8 +14,8 @@ use Rattle.master_spec.specs.declared.requests.Answer.TheVariants.{Ack, Nack}
 use Rattle.master_spec.specs.declared.tasks.Task.{Task}
 use Rattle.master_spec.specs.declared.tasks.Task.TheVariants as tasks
 use Rattle.master_spec.specs.declared.reports.Report.TheVariants as reports
-use Rattle.shown_witnesses.specs.Ends.{single, slave}
-use Rattle.shown_witnesses.specs.Logs.{IsRun, Tells, ShowsOnly, ShowsNothing}
+use Rattle.shown_witnesses.specs.Ends.{single, small_slave}
+use Rattle.shown_witnesses.specs.Logs.{IsMasterRun, TellsCause, ShowsOnly, ShowsNothing}
 use Rattle.shown_witnesses.specs.Silence.{silent, one_turn_less, sent_once, late_repeat, answered_at_last, refused_too_late}
 use Rattle.shown_witnesses.proofs.Readings.{shown_by, undecided, still_open, plain, tells_of}
 
@@ -27,15 +27,15 @@ register repeats decision =
 abbrev task : Task
 task = tasks.Register 1
 
-pub is_run : IsRun (single 0) silent (reports.Failed 1 1 (NoAnswer 0))
-unfolding message_in spelling digits news_of bytes_of reaction step
+pub is_run : IsMasterRun (single 0) silent (reports.Failed 1 1 (NoAnswer 0))
+unfolding message_in spelling digits news_of request_bytes reaction step
 is_run = record { by_rules = refl; reported = refl; in_time = omega arith }
 
-last : Last (single 0) (reverse silent) (slave 1) 1 task (register (3 ∷ []) None) []
+last : Last (single 0) (reverse silent) (small_slave 1) 1 task (register (3 ∷ []) None) []
 unfolding message_in news_of
 last = record { phase = refl; begun = omega arith; job = ([], refl); last = refl }
 
-shown : Shown (single 0) (reverse silent) (slave 1) 1 (NoAnswer 0)
+shown : Shown (single 0) (reverse silent) (small_slave 1) 1 (NoAnswer 0)
 shown = record {
   task = task;
   request = register (3 ∷ []) None;
@@ -44,7 +44,7 @@ shown = record {
   shown = (refl, record { often = refl; spaced = refl; turns = omega arith; late = tt });
 }
 
-only_by : (cause : Cause) → ShownBy (single 0) (reverse silent) (slave 1) task (register (3 ∷ []) None) [] cause → cause ≡ NoAnswer 0
+only_by : (cause : Cause) → ShownBy (single 0) (reverse silent) (small_slave 1) task (register (3 ∷ []) None) [] cause → cause ≡ NoAnswer 0
 only_by (NoAnswer q) h = let e : 0 ≡ q = h.0 in cc
 only_by (Refused q c) h = absurd (undecided (register (3 ∷ []) None) refl h.1.told)
 only_by (InputsMissing q k) h = let e = h.1.asks_step in cc
@@ -53,33 +53,33 @@ only_by (Stuck q t) h = let e = h.1.asks_state in cc
 only_by (Faulted q c) h = let e = h.1.asks_error in cc
 only_by (Unexpected q y t) h = absurd (undecided (register (3 ∷ []) None) refl h.1.told)
 
-pub only : ShowsOnly (single 0) silent (slave 1) 1 (NoAnswer 0)
+pub only : ShowsOnly (single 0) silent (small_slave 1) 1 (NoAnswer 0)
 only p other s = let h = shown_by last s in (h.0, only_by other h.1)
 
-pub tells : Tells (single 0) silent (slave 1) 1 (NoAnswer 0)
+pub tells : TellsCause (single 0) silent (small_slave 1) 1 (NoAnswer 0)
 tells = tells_of is_run shown
 
 -- ---- with one thing less
 
-before_turn : Last (single 0) (reverse one_turn_less) (slave 1) 1 task (register (3 ∷ []) None) []
+before_turn : Last (single 0) (reverse one_turn_less) (small_slave 1) 1 task (register (3 ∷ []) None) []
 unfolding message_in news_of
 before_turn = record { phase = refl; begun = omega arith; job = ([], refl); last = refl }
 
-pub none_early : ShowsNothing (single 0) one_turn_less (slave 1)
+pub none_early : ShowsNothing (single 0) one_turn_less (small_slave 1)
 none_early = still_open before_turn refl refl (λ h. let e = h.turns in omega arith)
 
-once : Last (single 0) (reverse sent_once) (slave 1) 1 task (register [] None) []
+once : Last (single 0) (reverse sent_once) (small_slave 1) 1 task (register [] None) []
 unfolding message_in news_of
 once = record { phase = refl; begun = omega arith; job = ([], refl); last = refl }
 
-pub none_once : ShowsNothing (single 0) sent_once (slave 1)
+pub none_once : ShowsNothing (single 0) sent_once (small_slave 1)
 none_once = still_open once refl refl (λ h. let e = h.often in omega arith)
 
-later : Last (single 0) (reverse late_repeat) (slave 1) 1 task (register (4 ∷ []) None) []
+later : Last (single 0) (reverse late_repeat) (small_slave 1) 1 task (register (4 ∷ []) None) []
 unfolding message_in news_of
 later = record { phase = refl; begun = omega arith; job = ([], refl); last = refl }
 
-pub none_slow : ShowsNothing (single 0) late_repeat (slave 1)
+pub none_slow : ShowsNothing (single 0) late_repeat (small_slave 1)
 none_slow = still_open later refl refl (λ h. let e = h.spaced in omega arith)
 
 -- ---- with an answer
@@ -87,25 +87,25 @@ none_slow = still_open later refl refl (λ h. let e = h.spaced in omega arith)
 abbrev at_last : Asking
 at_last = register (3 ∷ []) (Some (record { place = 4; answer = Ack }))
 
-in_time : Last (single 0) (reverse answered_at_last) (slave 1) 1 task at_last []
+in_time : Last (single 0) (reverse answered_at_last) (small_slave 1) 1 task at_last []
 unfolding message_in news_of
 in_time = record { phase = refl; begun = omega arith; job = ([], refl); last = refl }
 
-pub none_answered : ShowsNothing (single 0) answered_at_last (slave 1)
+pub none_answered : ShowsNothing (single 0) answered_at_last (small_slave 1)
 none_answered p cause s = (plain (λ _. ⊥) in_time 4 Ack refl (omega arith) refl refl refl (λ c e. cc) (λ c e _. cc) (λ e. cc) p cause s).1
 
 abbrev too_late : Asking
 too_late = register (3 ∷ []) (Some (record { place = 5; answer = Nack 10 }))
 
-run_late : IsRun (single 0) refused_too_late (reports.Failed 1 1 (NoAnswer 0))
-unfolding message_in spelling digits news_of bytes_of reaction step
+run_late : IsMasterRun (single 0) refused_too_late (reports.Failed 1 1 (NoAnswer 0))
+unfolding message_in spelling digits news_of request_bytes reaction step
 run_late = record { by_rules = refl; reported = refl; in_time = omega arith }
 
-last_late : Last (single 0) (reverse refused_too_late) (slave 1) 1 task too_late []
+last_late : Last (single 0) (reverse refused_too_late) (small_slave 1) 1 task too_late []
 unfolding message_in news_of
 last_late = record { phase = refl; begun = omega arith; job = ([], refl); last = refl }
 
-shown_late : Shown (single 0) (reverse refused_too_late) (slave 1) 1 (NoAnswer 0)
+shown_late : Shown (single 0) (reverse refused_too_late) (small_slave 1) 1 (NoAnswer 0)
 shown_late = record {
   task = task;
   request = too_late;
@@ -114,8 +114,8 @@ shown_late = record {
   shown = (refl, record { often = refl; spaced = refl; turns = omega arith; late = omega arith });
 }
 
-pub tells_late : Tells (single 0) refused_too_late (slave 1) 1 (NoAnswer 0)
+pub tells_late : TellsCause (single 0) refused_too_late (small_slave 1) 1 (NoAnswer 0)
 tells_late = tells_of run_late shown_late
 
-pub shown_too : Shown (single 0) (reverse refused_too_late) (slave 1) 1 (Refused 0 10)
+pub shown_too : Shown (single 0) (reverse refused_too_late) (small_slave 1) 1 (Refused 0 10)
 shown_too = record { task = task; request = too_late; earlier = []; last = last_late; shown = (refl, record { place = 5; told = refl; other = refl }) }

@@ -5,16 +5,16 @@ use Rattle.std.proofs.lemmas.Bool.Decides.{nat_tests}
 use Rattle.dcp_types.specs.Values.{digits}
 use Rattle.pdu_layout.specs.Reading.{message_in, spelling}
 use Rattle.pdu_layout.specs.Fields.FieldValue.{Number}
-use Rattle.master_spec.specs.News.{news_of, bytes_of}
+use Rattle.master_spec.specs.News.{news_of, request_bytes}
 use Rattle.master_spec.specs.Conversation.{reaction}
 use Rattle.master_spec.specs.Course.{step}
-use Rattle.master_spec.specs.Exchanged.{Exchange, Exchanged, AllExchanged, in_order, in_run, nth_of}
+use Rattle.master_spec.specs.Exchanged.{StepExchange, Exchanged, AllExchanged, in_order, in_run, nth_of}
 use Rattle.master_spec.specs.Requests.{Asking, brings_outputs, is_step, is_stop, is_outputs}
 use Rattle.master_spec.specs.declared.requests.Answer.TheVariants.{Ack, StateAck}
 use Rattle.master_spec.specs.declared.reports.Report.TheVariants as reports
 use Rattle.master_spec.specs.declared.setups.Slave.{Slave}
-use Rattle.shown_witnesses.specs.Ends.{master, slave, pair, brought}
-use Rattle.shown_witnesses.specs.Logs.{IsRun}
+use Rattle.shown_witnesses.specs.Ends.{master, small_slave, pair, data_entry}
+use Rattle.shown_witnesses.specs.Logs.{IsMasterRun}
 use Rattle.shown_witnesses.specs.Together.{NotTogether, together, one_ahead, one_behind}
 use Rattle.shown_witnesses.proofs.Askings.{opened, decided, question, change}
 use Rattle.shown_witnesses.proofs.Alone.{moved}
@@ -22,8 +22,8 @@ use Rattle.shown_witnesses.proofs.Lists.{each_passes, none_passes}
 use Rattle.shown_witnesses.proofs.Places.{places, IsAmong, brought_at}
 use Rattle.shown_witnesses.proofs.Unexchanged.{tells, it_tells}
 
-pub run_together : IsRun (pair 3 1 1) together (reports.Finished 1)
-unfolding message_in spelling digits news_of bytes_of reaction step
+pub run_together : IsMasterRun (pair 3 1 1) together (reports.Finished 1)
+unfolding message_in spelling digits news_of request_bytes reaction step
 run_together = record { by_rules = refl; reported = refl; in_time = omega arith }
 
 -- a step or a stop after the outputs comes after all has come
@@ -48,7 +48,7 @@ abbrev running_1 : Asking
 running_1 = question 16 84 86 (StateAck 11)
 
 -- the exchange of the first
-there_1 : Exchange (pair 3 1 1) (reverse together) (slave 1) 1 1
+there_1 : StepExchange (pair 3 1 1) (reverse together) (small_slave 1) 1 1
 unfolding message_in news_of
 there_1 = record {
   step = stepped_1;
@@ -69,14 +69,14 @@ there_1 = record {
   outputs_done = refl;
   running_is = (4, refl, refl);
   running_done = refl;
-  brought = (brought 1 1 7, refl, refl);
+  brought = (data_entry 1 1 7, refl, refl);
   first = omega arith;
   second = omega arith;
   third = omega arith;
   fourth = omega arith;
 }
 
-all_behind_1 : list_all (is_behind 77) (in_order (pair 3 1 1) (reverse together) (slave 1)) ≡ true
+all_behind_1 : list_all (is_behind 77) (in_order (pair 3 1 1) (reverse together) (small_slave 1)) ≡ true
 unfolding message_in news_of
 all_behind_1 = refl
 
@@ -95,7 +95,7 @@ abbrev running_2 : Asking
 running_2 = question 16 85 87 (StateAck 11)
 
 -- the exchange of the second
-there_2 : Exchange (pair 3 1 1) (reverse together) (slave 2) 1 1
+there_2 : StepExchange (pair 3 1 1) (reverse together) (small_slave 2) 1 1
 unfolding message_in news_of
 there_2 = record {
   step = stepped_2;
@@ -116,34 +116,34 @@ there_2 = record {
   outputs_done = refl;
   running_is = (4, refl, refl);
   running_done = refl;
-  brought = (brought 2 1 7, refl, refl);
+  brought = (data_entry 2 1 7, refl, refl);
   first = omega arith;
   second = omega arith;
   third = omega arith;
   fourth = omega arith;
 }
 
-all_behind_2 : list_all (is_behind 78) (in_order (pair 3 1 1) (reverse together) (slave 2)) ≡ true
+all_behind_2 : list_all (is_behind 78) (in_order (pair 3 1 1) (reverse together) (small_slave 2)) ≡ true
 unfolding message_in news_of
 all_behind_2 = refl
 
 -- ---- both
 
-is_1 : (s : Slave) → Some (slave 1) ≡ Some s → slave 1 ≡ s
+is_1 : (s : Slave) → Some (small_slave 1) ≡ Some s → small_slave 1 ≡ s
 is_1 s e = cc
 
-is_2 : (s : Slave) → Some (slave 2) ≡ Some s → slave 2 ≡ s
+is_2 : (s : Slave) → Some (small_slave 2) ≡ Some s → small_slave 2 ≡ s
 is_2 s e = cc
 
 none_there : (s : Slave) → None ≡ Some s → ⊥
 none_there s e = cc
 
-abbrev exchange : (s : Slave) (i : ℕ) → slice_get (slave 1 ∷ slave 2 ∷ []) i ≡ Some s → Exchange (pair 3 1 1) (reverse together) s 1 1
-exchange s zero e = moved (slave 1) s (is_1 s e) there_1
-exchange s (suc zero) e = moved (slave 2) s (is_2 s e) there_2
+abbrev exchange : (s : Slave) (i : ℕ) → slice_get (small_slave 1 ∷ small_slave 2 ∷ []) i ≡ Some s → StepExchange (pair 3 1 1) (reverse together) s 1 1
+exchange s zero e = moved (small_slave 1) s (is_1 s e) there_1
+exchange s (suc zero) e = moved (small_slave 2) s (is_2 s e) there_2
 exchange s (suc (suc i)) e = absurd (none_there s e)
 
-computed_before : (s t : Slave) (i : ℕ) (e : slice_get (slave 1 ∷ slave 2 ∷ []) i ≡ Some s) (j : ℕ) (f : slice_get (slave 1 ∷ slave 2 ∷ []) j ≡ Some t)
+computed_before : (s t : Slave) (i : ℕ) (e : slice_get (small_slave 1 ∷ small_slave 2 ∷ []) i ≡ Some s) (j : ℕ) (f : slice_get (small_slave 1 ∷ small_slave 2 ∷ []) j ≡ Some t)
     → (exchange s i e).told_computed < (exchange t j f).outputs.first
 unfolding there_1 there_2
 computed_before s t zero e zero f = omega arith
@@ -154,7 +154,7 @@ computed_before s t (suc (suc i)) e j f = absurd (none_there s e)
 computed_before s t zero e (suc (suc j)) f = absurd (none_there t f)
 computed_before s t (suc zero) e (suc (suc j)) f = absurd (none_there t f)
 
-later : (t : Slave) (j : ℕ) (f : slice_get (slave 1 ∷ slave 2 ∷ []) j ≡ Some t) (a : Asking) (n : ℕ)
+later : (t : Slave) (j : ℕ) (f : slice_get (small_slave 1 ∷ small_slave 2 ∷ []) j ≡ Some t) (a : Asking) (n : ℕ)
     → slice_get (in_order (pair 3 1 1) (reverse together) t) n ≡ Some a → IsTrue (is_step a || is_stop a) → (exchange t j f).outputs.first < a.first → 87 < a.first
 unfolding there_1 there_2
 later t zero f a n e k b =
@@ -165,7 +165,7 @@ later t (suc zero) f a n e k b =
     behind 78 a (each_passes (is_behind 78) (in_order (pair 3 1 1) (reverse together) t) n a here e) k b
 later t (suc (suc j)) f a n e k b = absurd (none_there t f)
 
-ended : (s : Slave) (i : ℕ) (e : slice_get (slave 1 ∷ slave 2 ∷ []) i ≡ Some s) (m : ℕ) → 87 < m → ((exchange s i e).told_running < m) × ((exchange s i e).came < m)
+ended : (s : Slave) (i : ℕ) (e : slice_get (small_slave 1 ∷ small_slave 2 ∷ []) i ≡ Some s) (m : ℕ) → 87 < m → ((exchange s i e).told_running < m) × ((exchange s i e).came < m)
 unfolding there_1 there_2
 ended s zero e m b = (omega arith, omega arith)
 ended s (suc zero) e m b = (omega arith, omega arith)
@@ -193,9 +193,9 @@ all_together = record {
 
 -- the requests to the second after its start
 abbrev to_second : List Asking
-to_second = in_run (pair 3 1 1) (reverse one_ahead) (slave 2) 1
+to_second = in_run (pair 3 1 1) (reverse one_ahead) (small_slave 2) 1
 
-asked_ahead : nth_of is_outputs 1 (in_run (pair 3 1 1) (reverse one_ahead) (slave 1) 1) ≡ Some (change 8 15 13 75 78 Ack)
+asked_ahead : nth_of is_outputs 1 (in_run (pair 3 1 1) (reverse one_ahead) (small_slave 1) 1) ≡ Some (change 8 15 13 75 78 Ack)
 unfolding message_in news_of
 asked_ahead = refl
 
@@ -205,23 +205,23 @@ none_computed = refl
 
 pub ahead_not : NotTogether one_ahead
 ahead_not x =
-    let e = x.each (slave 2) (1, refl) in
-    let o = x.each (slave 1) (0, refl) in
+    let e = x.each (small_slave 2) (1, refl) in
+    let o = x.each (small_slave 1) (0, refl) in
     let found : Some o.outputs ≡ Some (change 8 15 13 75 78 Ack) = sym o.outputs_is ∙ asked_ahead in
     let same : o.outputs ≡ change 8 15 13 75 78 Ack = cc in
-    let soon : e.told_computed < 75 = subst (λ a. e.told_computed < a.first) same (x.computed (slave 2) (slave 1) (1, refl) (0, refl)) in
+    let soon : e.told_computed < 75 = subst (λ a. e.told_computed < a.first) same (x.computed (small_slave 2) (small_slave 1) (1, refl) (0, refl)) in
     none_passes (tells 13 0 75) to_second e.computed_is.0 e.computed none_computed e.computed_is.1
     (it_tells 13 0 75 e.told_computed e.computed e.computed_is.2 e.computed_done soon (omega arith))
 
-asked_behind : nth_of is_outputs 1 (in_run (pair 3 1 1) (reverse one_behind) (slave 1) 1) ≡ Some (change 8 15 13 77 79 Ack)
+asked_behind : nth_of is_outputs 1 (in_run (pair 3 1 1) (reverse one_behind) (small_slave 1) 1) ≡ Some (change 8 15 13 77 79 Ack)
 unfolding message_in news_of
 asked_behind = refl
 
-stop_behind : slice_get (in_order (pair 3 1 1) (reverse one_behind) (slave 1)) 17 ≡ Some (opened 9 17 (Number 11 ∷ []) 88)
+stop_behind : slice_get (in_order (pair 3 1 1) (reverse one_behind) (small_slave 1)) 17 ≡ Some (opened 9 17 (Number 11 ∷ []) 88)
 unfolding message_in news_of
 stop_behind = refl
 
-values_behind : places (brings_outputs master (slave 2) 1 1) 0 (reverse (reverse one_behind)) ≡ 89 ∷ []
+values_behind : places (brings_outputs master (small_slave 2) 1 1) 0 (reverse (reverse one_behind)) ≡ 89 ∷ []
 unfolding message_in news_of
 values_behind = refl
 
@@ -231,12 +231,12 @@ the_one i (inr h) = absurd h
 
 pub behind_not : NotTogether one_behind
 behind_not x =
-    let e = x.each (slave 2) (1, refl) in
-    let o = x.each (slave 1) (0, refl) in
+    let e = x.each (small_slave 2) (1, refl) in
+    let o = x.each (small_slave 1) (0, refl) in
     let found : Some o.outputs ≡ Some (change 8 15 13 77 79 Ack) = sym o.outputs_is ∙ asked_behind in
     let same : change 8 15 13 77 79 Ack ≡ o.outputs = cc in
     let sooner : o.outputs.first < 88 = subst (λ a. a.first < 88) same (omega arith) in
-    let all = x.sent (slave 2) (slave 1) (1, refl) (0, refl) (opened 9 17 (Number 11 ∷ []) 88) 17 stop_behind refl sooner in
-    let came : e.came ≡ 89 = the_one e.came (subst (λ ps. IsAmong ps e.came) values_behind (brought_at (pair 3 1 1) (reverse one_behind) (slave 2) 1 e.came e.brought)) in
+    let all = x.sent (small_slave 2) (small_slave 1) (1, refl) (0, refl) (opened 9 17 (Number 11 ∷ []) 88) 17 stop_behind refl sooner in
+    let came : e.came ≡ 89 = the_one e.came (subst (λ ps. IsAmong ps e.came) values_behind (brought_at (pair 3 1 1) (reverse one_behind) (small_slave 2) 1 e.came e.brought)) in
     let soon = all.1 in
     omega arith

@@ -6,11 +6,11 @@ use Rattle.dcp_ends.specs.declared.entries.LogEntry.{LogEntry}
 use Rattle.pdu_layout.specs.Reading.{message_in}
 use Rattle.pdu_layout.specs.Fields.FieldValue.{Number}
 use Rattle.master_spec.specs.News.{news_of}
-use Rattle.master_spec.specs.Exchanged.{IsDecided, Exchange, Exchanged, in_order, in_run, nth_of}
+use Rattle.master_spec.specs.Exchanged.{IsDecided, StepExchange, Exchanged, in_order, in_run, nth_of}
 use Rattle.master_spec.specs.Requests.{Asking, Decision, is_step, is_outputs, is_acked, is_state_question, is_single, brings_outputs}
 use Rattle.master_spec.specs.declared.requests.Answer.{Answer}
 use Rattle.master_spec.specs.declared.requests.Answer.TheVariants.{Ack, Nack, StateAck}
-use Rattle.shown_witnesses.specs.Ends.{single, slave, master}
+use Rattle.shown_witnesses.specs.Ends.{single, small_slave, master}
 use Rattle.shown_witnesses.specs.Whole.{NotExchanged, only_noticed, asked_too_early, early_values, late_values, not_running, outputs_refused, two_at_once}
 use Rattle.shown_witnesses.proofs.Askings.{decided, change}
 use Rattle.shown_witnesses.proofs.Readings.{one_answer, one_place}
@@ -19,10 +19,10 @@ use Rattle.shown_witnesses.proofs.Places.{places, IsAmong, brought_at}
 
 -- the requests to the slave after its start
 abbrev after_start : List LogEntry → List Asking
-after_start log = in_run (single 1) (reverse log) (slave 1) 1
+after_start log = in_run (single 1) (reverse log) (small_slave 1) 1
 
-abbrev the_exchange : (log : List LogEntry) → Exchanged (single 1) (reverse log) 1 1 → Exchange (single 1) (reverse log) (slave 1) 1 1
-the_exchange log x = x.each (slave 1) (0, refl)
+abbrev the_exchange : (log : List LogEntry) → Exchanged (single 1) (reverse log) 1 1 → StepExchange (single 1) (reverse log) (small_slave 1) 1 1
+the_exchange log x = x.each (small_slave 1) (0, refl)
 
 -- a question for the state, first sent behind a place, that named this state before another
 abbrev pub answer_names : ℕ → Answer → Bool
@@ -79,15 +79,15 @@ early_not = none_computed asked_too_early (change 8 14 13 43 44 Ack) asked_early
 -- ---- values
 
 -- the values of the step stand at one place
-came_at : (log : List LogEntry) (p : ℕ) → places (brings_outputs master (slave 1) 1 1) 0 (reverse (reverse log)) ≡ p ∷ []
-    → (e : Exchange (single 1) (reverse log) (slave 1) 1 1) → e.came ≡ p
-came_at log p places_are e = the_one (subst (λ ps. IsAmong ps e.came) places_are (brought_at (single 1) (reverse log) (slave 1) 1 e.came e.brought))
+came_at : (log : List LogEntry) (p : ℕ) → places (brings_outputs master (small_slave 1) 1 1) 0 (reverse (reverse log)) ≡ p ∷ []
+    → (e : StepExchange (single 1) (reverse log) (small_slave 1) 1 1) → e.came ≡ p
+came_at log p places_are e = the_one (subst (λ ps. IsAmong ps e.came) places_are (brought_at (single 1) (reverse log) (small_slave 1) 1 e.came e.brought))
   where
     the_one : IsAmong (p ∷ []) e.came → e.came ≡ p
     the_one (inl h) = sym h
     the_one (inr h) = absurd h
 
-values_early : places (brings_outputs master (slave 1) 1 1) 0 early_values ≡ 42 ∷ []
+values_early : places (brings_outputs master (small_slave 1) 1 1) 0 early_values ≡ 42 ∷ []
 unfolding message_in news_of
 values_early = refl
 
@@ -102,7 +102,7 @@ early_values_not x =
     none_passes (tells 13 0 42) (after_start early_values) e.computed_is.0 e.computed none_before_values e.computed_is.1
     (it_tells 13 0 42 e.told_computed e.computed e.computed_is.2 e.computed_done soon (omega arith))
 
-values_late : places (brings_outputs master (slave 1) 1 1) 0 late_values ≡ 53 ∷ []
+values_late : places (brings_outputs master (small_slave 1) 1 1) 0 late_values ≡ 53 ∷ []
 unfolding message_in news_of
 values_late = refl
 
@@ -113,7 +113,7 @@ asked_late = refl
 abbrev stop : Asking
 stop = change 9 17 11 52 54 Ack
 
-stop_late : slice_get (in_order (single 1) (reverse late_values) (slave 1)) 17 ≡ Some stop
+stop_late : slice_get (in_order (single 1) (reverse late_values) (small_slave 1)) 17 ≡ Some stop
 unfolding message_in news_of
 stop_late = refl
 
@@ -123,7 +123,7 @@ late_values_not x =
     let found : Some e.outputs ≡ Some (change 8 15 13 46 47 Ack) = sym e.outputs_is ∙ asked_late in
     let same : change 8 15 13 46 47 Ack ≡ e.outputs = cc in
     let behind : e.outputs.first < 52 = subst (λ a. a.first < 52) same (omega arith) in
-    let ended = x.sent (slave 1) (slave 1) (0, refl) (0, refl) stop 17 stop_late refl behind in
+    let ended = x.sent (small_slave 1) (small_slave 1) (0, refl) (0, refl) stop 17 stop_late refl behind in
     let came : e.came ≡ 53 = came_at late_values 53 values_late e in
     let soon = ended.1 in
     omega arith
@@ -139,7 +139,7 @@ none_running : list_any (tells 11 47 100) (after_start not_running) ≡ false
 unfolding message_in news_of
 none_running = refl
 
-stop_not_running : slice_get (in_order (single 1) (reverse not_running) (slave 1)) 17 ≡ Some (change 9 17 11 53 54 Ack)
+stop_not_running : slice_get (in_order (single 1) (reverse not_running) (small_slave 1)) 17 ≡ Some (change 9 17 11 53 54 Ack)
 unfolding message_in news_of
 stop_not_running = refl
 
@@ -150,7 +150,7 @@ not_running_not x =
     let same : change 8 15 13 46 47 Ack ≡ e.outputs = cc in
     let sent : e.sent ≡ 47 = one_place e.outputs e.outputs_done (subst (λ a. IsDecided a 47 Ack) same refl) in
     let behind : e.outputs.first < 53 = subst (λ a. a.first < 53) same (omega arith) in
-    let ended = x.sent (slave 1) (slave 1) (0, refl) (0, refl) (change 9 17 11 53 54 Ack) 17 stop_not_running refl behind in
+    let ended = x.sent (small_slave 1) (small_slave 1) (0, refl) (0, refl) (change 9 17 11 53 54 Ack) 17 stop_not_running refl behind in
     let soon = ended.0 in
     let third = e.third in
     none_passes (tells 11 47 100) (after_start not_running) e.running_is.0 e.running none_running e.running_is.1

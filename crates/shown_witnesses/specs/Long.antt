@@ -6,7 +6,7 @@ use Rattle.pdu_layout.specs.declared.messages.Cfg.{Cfg}
 use Rattle.pdu_layout.specs.declared.messages.Cfg.TheVariants as cfg
 use Rattle.master_spec.specs.declared.setups.Slave.{Slave}
 use Rattle.master_spec.specs.declared.setups.Setup.{Setup}
-use Rattle.shown_witnesses.specs.Ends.{master, slave}
+use Rattle.shown_witnesses.specs.Ends.{master, small_slave}
 
 -- the limits of a scenario that names none
 abbrev pub usual_limits : Limits
@@ -17,7 +17,7 @@ parameter value = cfg.Parameter 0 types.I64 (pos value)
 
 -- one request before the first run, two before the second, one before the third
 abbrev pub early : Slave
-early = record (slave 1) {
+early = record (small_slave 1) {
   script = record {
     uuid = 1;
     setup = cfg.Clear ∷ [];
@@ -27,7 +27,7 @@ early = record (slave 1) {
 
 -- three requests before the first run, none before the second, four before the third
 abbrev pub late : Slave
-late = record (slave 2) {
+late = record (small_slave 2) {
   script = record {
     uuid = 2;
     setup = cfg.Clear ∷ parameter 1 ∷ parameter 2 ∷ [];

@@ -1,8 +1,8 @@
 //! A slave whose outputs do not come.
 
 ghost use Rattle.master_spec.specs.declared.causes.Cause.TheVariants.{DataMissing};
-ghost use Rattle.shown_witnesses.specs.Ends.{set_between, single, slave, twice};
-ghost use Rattle.shown_witnesses.specs.Logs.{Tells, ShowsOnly, ShowsNothing};
+ghost use Rattle.shown_witnesses.specs.Ends.{set_between, single, small_slave, twice};
+ghost use Rattle.shown_witnesses.specs.Logs.{TellsCause, ShowsOnly, ShowsNothing};
 ghost use Rattle.shown_witnesses.specs.Phases.{late_outputs, missing_outputs, other_outputs, outputs_awaited, outputs_at_last};
 ghost use Rattle.shown_witnesses.specs.Rough.{rough_missing};
 ghost use Rattle.shown_witnesses.specs.Runs.{old_outputs};
@@ -10,24 +10,24 @@ ghost use Rattle.shown_witnesses.specs.Runs.{old_outputs};
 /// First outputs that do not come within a turn after the state that they belong to are shown to be missing.
 /// Those of the next row, of another size, from before the phase, or from after that turn do not count.
 pub fn missing_outputs_are_shown()
-    ensures first { Tells (single 0) missing_outputs (slave 1) 6 (DataMissing 0) }
-    ensures only { ShowsOnly (single 0) missing_outputs (slave 1) 6 (DataMissing 0) }
-    ensures other { Tells (single 0) other_outputs (slave 1) 6 (DataMissing 0) }
-    ensures late { Tells (single 0) late_outputs (slave 1) 6 (DataMissing 0) }
+    ensures first { TellsCause (single 0) missing_outputs (small_slave 1) 6 (DataMissing 0) }
+    ensures only { ShowsOnly (single 0) missing_outputs (small_slave 1) 6 (DataMissing 0) }
+    ensures other { TellsCause (single 0) other_outputs (small_slave 1) 6 (DataMissing 0) }
+    ensures late { TellsCause (single 0) late_outputs (small_slave 1) 6 (DataMissing 0) }
 {}
 
 /// Nothing is shown before that turn, nor where they come before it.
 pub fn missing_outputs_had_their_time()
-    ensures awaited { ShowsNothing (single 0) outputs_awaited (slave 1) }
-    ensures came { ShowsNothing (single 0) outputs_at_last (slave 1) }
+    ensures awaited { ShowsNothing (single 0) outputs_awaited (small_slave 1) }
+    ensures came { ShowsNothing (single 0) outputs_at_last (small_slave 1) }
 {}
 
 /// In the second run the outputs of the first do not count.
 pub fn outputs_are_of_their_run()
-    ensures { Tells twice old_outputs set_between 16 (DataMissing 0) }
+    ensures { TellsCause twice old_outputs set_between 16 (DataMissing 0) }
 {}
 
 /// The outputs of the second step are shown to be missing after a step that was refused once.
 pub fn outputs_are_of_their_step()
-    ensures { Tells (single 2) rough_missing (slave 1) 11 (DataMissing 2) }
+    ensures { TellsCause (single 2) rough_missing (small_slave 1) 11 (DataMissing 2) }
 {}

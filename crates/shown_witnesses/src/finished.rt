@@ -3,7 +3,7 @@
 ghost use Rattle.master_spec.specs.Exchanged.{AllExchanged};
 ghost use Rattle.master_spec.specs.declared.reports.Report.TheVariants.{Finished};
 ghost use Rattle.shown_witnesses.specs.Ends.{pair, single, twice};
-ghost use Rattle.shown_witnesses.specs.Logs.{IsRun};
+ghost use Rattle.shown_witnesses.specs.Logs.{IsMasterRun};
 ghost use Rattle.shown_witnesses.specs.Rough.{rough_whole};
 ghost use Rattle.shown_witnesses.specs.Runs.{NotAllExchanged, NotBetween, two_runs, not_reset, reset_refused, prepared_too_early, reset_at_first, overlapping};
 ghost use Rattle.shown_witnesses.specs.Together.{NotTogether, together, one_ahead, one_behind};
@@ -12,7 +12,7 @@ ghost use Rattle.std.specs.Prelude.{reverse};
 
 /// The log of a run of one step that finishes shows that its step is exchanged.
 pub fn finished_runs_are_exchanged()
-    ensures run { IsRun (single 1) whole (Finished 1) }
+    ensures run { IsMasterRun (single 1) whole (Finished 1) }
     ensures exchanged { AllExchanged (single 1) (reverse whole) }
 {}
 
@@ -35,7 +35,7 @@ pub fn exchanges_need_their_values()
 /// The log of two runs that finish shows that the step of each is exchanged, one after the other, and that the
 /// slave is reset between them.
 pub fn finished_runs_are_separate()
-    ensures run { IsRun twice two_runs (Finished 1) }
+    ensures run { IsMasterRun twice two_runs (Finished 1) }
     ensures exchanged { AllExchanged twice (reverse two_runs) }
 {}
 
@@ -55,7 +55,7 @@ pub fn runs_wait_for_each_other()
 
 /// The log of two slaves that finish shows that they exchange the step together.
 pub fn finished_slaves_are_together()
-    ensures run { IsRun (pair 3 1 1) together (Finished 1) }
+    ensures run { IsMasterRun (pair 3 1 1) together (Finished 1) }
     ensures exchanged { AllExchanged (pair 3 1 1) (reverse together) }
 {}
 
@@ -69,6 +69,6 @@ pub fn slaves_wait_for_each_other()
 /// So does the log of two steps over a bad network, with a repeated request, an answer that comes twice, a
 /// step that is refused once, and values that come after the state.
 pub fn rough_runs_are_exchanged()
-    ensures run { IsRun (single 2) rough_whole (Finished 2) }
+    ensures run { IsMasterRun (single 2) rough_whole (Finished 2) }
     ensures exchanged { AllExchanged (single 2) (reverse rough_whole) }
 {}

@@ -11,8 +11,8 @@ use Rattle.pdu_layout.specs.declared.fields.FieldKind.TheVariants.{U8, U16, Stat
 use Rattle.pdu_layout.specs.Fields.FieldValue.{Number, Bytes}
 use Rattle.pdu_layout.specs.Message.{Message, Spells, HasSpelling}
 use Rattle.pdu_layout.specs.Reading.{spelling}
-use Rattle.slave_spec.specs.declared.words.Request.{Request}
-use Rattle.slave_spec.specs.Transport.{Answer, Ack, Nack, StateAck, ErrorAck, LogAck, Exchange, again, answer_message, send, expected}
+use Rattle.slave_spec.specs.declared.words.SlaveRequest.{SlaveRequest}
+use Rattle.slave_spec.specs.Transport.{SlaveAnswer, Ack, Nack, StateAck, ErrorAck, LogAck, Exchange, again, answer_message, send, expected}
 use Rattle.slave_core.specs.Standing.{newest_answer}
 use Rattle.slave_core.specs.Core.{bytes_again}
 
@@ -66,7 +66,7 @@ pub noted_spelled : (b c d : ℕ) (x : List ℕ) → b < 256 → c < 256 → d <
 unfolding digits
 noted_spelled b c d x hb hc hd hx few = (_, record { kinds = U8 ∷ U8 ∷ U8 ∷ Rest ∷ []; listed = refl; fits = (hb, (hc, (hd, (hx, tt)))); bytes = refl; at_most = omega (arith, length-append x []) })
 
-answer_again : (to : Address) (r : Request) (next : ℕ) (a : Answer) → bytes_again to (spelling (answer_message r next a)) ≡ send to (answer_message r next a) ∷ []
+answer_again : (to : Address) (r : SlaveRequest) (next : ℕ) (a : SlaveAnswer) → bytes_again to (spelling (answer_message r next a)) ≡ send to (answer_message r next a) ∷ []
 unfolding spelling
 answer_again to r next Ack = refl
 answer_again to r next (Nack code) = refl

@@ -2,18 +2,18 @@
 use Rattle.std.specs.Prelude.{ℕ, List, [], ◌∷◌}
 use Rattle.dcp_types.specs.declared.addresses.Address.{Address}
 use Rattle.dcp_ends.specs.Events.{Event, Send}
-use Rattle.slave_spec.specs.Transport.{Slave}
+use Rattle.slave_spec.specs.Transport.{SlaveState}
 use Rattle.slave_spec.specs.Plants.{Plant}
-use Rattle.slave_spec.specs.declared.words.Setup.{Setup}
+use Rattle.slave_spec.specs.declared.words.SlaveSetup.{SlaveSetup}
 use Rattle.slave_spec.specs.Slaves.{slave_after}
-use Rattle.slave_core.specs.Standing.{StandsAt}
+use Rattle.slave_core.specs.Standing.{SessionStandsAt}
 use Rattle.slave_core.specs.declared.cores.SlaveCore.{SlaveCore}
 
-abbrev pub Stands : {M : Type 0} → (M → Plant → Type 0) → SlaveCore M → Slave Plant → Type 0
-Stands stands c x = StandsAt c.session c.expected c.kept c.quiet (stands c.inner) x
+abbrev pub CoreStands : {M : Type 0} → (M → Plant → Type 0) → SlaveCore M → SlaveState Plant → Type 0
+CoreStands stands c x = SessionStandsAt c.session c.expected c.kept c.quiet (stands c.inner) x
 
-abbrev pub StandsFor : {M : Type 0} → (M → Setup) → (M → Plant → Type 0) → SlaveCore M → List Event → Type 0
-StandsFor setup stands c events = Stands stands c (slave_after (setup c.inner) events)
+abbrev pub CoreStandsFor : {M : Type 0} → (M → SlaveSetup) → (M → Plant → Type 0) → SlaveCore M → List Event → Type 0
+CoreStandsFor setup stands c events = CoreStands stands c (slave_after (setup c.inner) events)
 
 -- the bytes kept, as a message
 abbrev pub bytes_again : Address → List ℕ → List Send

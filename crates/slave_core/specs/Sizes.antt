@@ -2,9 +2,9 @@
 use Rattle.std.specs.Prelude.{ℕ, ◌≤◌, List, length, All}
 use Rattle.dcp_ends.specs.Events.{Send}
 
-pub record IsSized (bytes : List ℕ) : Type 0 where
+pub record IsSendSized (bytes : List ℕ) : Type 0 where
   pub low : 1 ≤ length bytes
   pub high : length bytes ≤ 1024
 
 abbrev pub AreSized : List Send → Type 0
-AreSized sends = All (λ s. IsSized s.bytes) sends
+AreSized sends = All (λ s. IsSendSized s.bytes) sends

@@ -3,10 +3,10 @@ use Rattle.std.specs.Prelude.{◌≡◌, ℕ, List, [], ◌∷◌, Bool, true, f
 use Rattle.dcp_types.specs.declared.addresses.Address.{Address}
 use Rattle.dcp_ends.specs.Events.{Event, Send}
 use Rattle.pdu_layout.specs.Reading.{spelling}
-use Rattle.slave_spec.specs.declared.words.Request.{Request}
+use Rattle.slave_spec.specs.declared.words.SlaveRequest.{SlaveRequest}
 use Rattle.slave_spec.specs.declared.words.Session.{Session}
 use Rattle.slave_spec.specs.declared.words.Session.TheVariants.{Before, During, After}
-use Rattle.slave_spec.specs.Transport.{Exchange, Slave, Answered, expected, answer_message, send, notice_sends}
+use Rattle.slave_spec.specs.Transport.{Exchange, SlaveState, Answered, expected, answer_message, send, notice_sends}
 use Rattle.slave_spec.specs.Plants.{Plant}
 use Rattle.slave_spec.specs.Slaves.{slave_after}
 
@@ -16,7 +16,7 @@ newest_answer [] = []
 newest_answer (e ∷ served) = spelling (answer_message e.request (expected (e ∷ served)) e.answer)
 
 -- what the transport keeps of a slave
-pub record StandsAt (at : Session) (next : ℕ) (bytes : List ℕ) (turns : ℕ) (Stands : Plant → Type 0) (x : Slave Plant) : Type 0 where
+pub record SessionStandsAt (at : Session) (next : ℕ) (bytes : List ℕ) (turns : ℕ) (Stands : Plant → Type 0) (x : SlaveState Plant) : Type 0 where
   pub session : at ≡ x.session
   pub number : next ≡ expected x.served
   pub kept : bytes ≡ newest_answer x.served
@@ -31,5 +31,5 @@ session_with (During master id) from receiver false = During master id
 session_with (After master id) from receiver ends = After master id
 
 -- what is sent for a taken request, with the next number
-abbrev pub answering : Address → Request → (next : ℕ) → Answered Plant → List Send
+abbrev pub answering : Address → SlaveRequest → (next : ℕ) → Answered Plant → List Send
 answering from r next a = send from (answer_message r next a.answer) ∷ notice_sends from r.receiver a.notices

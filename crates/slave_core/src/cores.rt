@@ -1,13 +1,13 @@
 //! One slave.
 
-ghost use Rattle.std.specs.Prelude.{◌≡◌, ◌++◌, ◌∷◌, [], List, length, IfOk};
+ghost use Rattle.std.specs.Prelude.{◌≡◌, ◌++◌, ◌∷◌, [], List, IfOk};
 ghost use Rattle.dcp_ends.specs.Events.{Event};
 ghost use Rattle.slave_spec.specs.Heard.{Asks, Brings};
-ghost use Rattle.slave_spec.specs.Transport.{Slave, Exchange, fate_in, send, answer_message, Nack, after_request, request_sends, after_heard, heard_sends, after_turn, turn_sends, expected};
-ghost use Rattle.slave_spec.specs.Plants.{Plant, start};
+ghost use Rattle.slave_spec.specs.Transport.{SlaveState, Exchange, fate_in, send, answer_message, Nack, after_request, request_sends, after_heard, heard_sends, after_turn, turn_sends, expected};
+ghost use Rattle.slave_spec.specs.Plants.{Plant, start_plant};
 ghost use Rattle.slave_spec.specs.Slaves.{machine, state_after, steps_after, fault_after, quiet_after};
-ghost use Rattle.slave_spec.specs.Sound.{IsSound};
-ghost use Rattle.slave_core.specs.Core.{Stands, StandsFor, bytes_again};
+ghost use Rattle.slave_spec.specs.Sound.{IsSoundPlant};
+ghost use Rattle.slave_core.specs.Core.{CoreStands, CoreStandsFor, bytes_again};
 
 use crate::fates::{is_register, placed, placed_late, same_address, session_with};
 use crate::hearing::{Hearing, hear};
@@ -18,7 +18,7 @@ use crate::outbox::Outbox;
 use dcp_ends::End;
 use dcp_types::{Address, ErrorCode, FaultCode, OutOfMemory, State};
 use seq_window::{next, place};
-use slave_spec::{Asked, Fate, Request, Session};
+use slave_spec::{Asked, Fate, Session, SlaveRequest};
 use std::alloc::Global;
 
 /// A slave whose error is resolved is over after so many turns without a request.
@@ -56,8 +56,8 @@ impl<M: Inner> SlaveCore<M> {
     /// A slave to which nothing has come, over a machine at its start. It takes all the memory that it
     /// needs.
     pub fn new(alloc: Global, inner: M) -> Result<SlaveCore<M>, OutOfMemory>
-        requires { M.stands inner (start (M.setup inner)) }
-        ensures stands { IfOk result (λ s. StandsFor M.setup M.stands s []) }
+        requires { M.stands inner (start_plant (M.setup inner)) }
+        ensures stands { IfOk result (λ s. CoreStandsFor M.setup M.stands s []) }
         ensures inner { IfOk result (λ s. s.inner ≡ inner) }
         ensures quiet { IfOk result (λ s. s.out ≡ []) }
     {
@@ -73,7 +73,7 @@ impl<M: Inner> SlaveCore<M> {
     }
 
     /// What happens to a request.
-    fn fate(&self, from: Address, request: &Request) -> Fate
+    fn fate(&self, from: Address, request: &SlaveRequest) -> Fate
         ensures { (served : List Exchange) → self.now.expected ≡ expected served → result ≡ fate_in (machine (M.setup self.now.inner)) self.now.session served from request.now }
     {
         match self.session {
@@ -104,7 +104,7 @@ impl<M: Inner> SlaveCore<M> {
     }
 
     /// Refuses a request without taking it.
-    fn refuse(&mut self, from: Address, request: &Request, code: ErrorCode)
+    fn refuse(&mut self, from: Address, request: &SlaveRequest, code: ErrorCode)
         requires { self.old.out ≡ [] }
         ensures out { self.new.out ≡ send from (answer_message request.now self.old.expected (Nack code)) ∷ [] }
         ensures same { self.new ≡ record self.old { out = self.new.out } }
@@ -132,10 +132,10 @@ impl<M: Inner> SlaveCore<M> {
     }
 
     /// Takes a request: answers it, keeps the answer, and expects the next one.
-    fn take(&mut self, from: Address, request: &Request)
+    fn take(&mut self, from: Address, request: &SlaveRequest)
         requires { self.old.out ≡ [] }
-        ensures stands { (x : Slave Plant) → Stands M.stands self.old x → Stands M.stands self.new (after_request (machine (M.setup self.old.inner)) x from request.now Fate.Taken) }
-        ensures sends { (x : Slave Plant) → Stands M.stands self.old x → self.new.out ≡ request_sends (machine (M.setup self.old.inner)) x from request.now Fate.Taken }
+        ensures stands { (x : SlaveState Plant) → CoreStands M.stands self.old x → CoreStands M.stands self.new (after_request (machine (M.setup self.old.inner)) x from request.now Fate.Taken) }
+        ensures sends { (x : SlaveState Plant) → CoreStands M.stands self.old x → self.new.out ≡ request_sends (machine (M.setup self.old.inner)) x from request.now Fate.Taken }
         ensures setup { M.setup self.new.inner ≡ M.setup self.old.inner }
     {
         let next = next(self.expected);
@@ -149,10 +149,10 @@ impl<M: Inner> SlaveCore<M> {
     }
 
     /// A request has come.
-    fn on_request(&mut self, from: Address, request: &Request)
+    fn on_request(&mut self, from: Address, request: &SlaveRequest)
         requires { self.old.out ≡ [] }
-        ensures stands { (x : Slave Plant) → Stands M.stands self.old x → Stands M.stands self.new (after_heard (machine (M.setup self.old.inner)) x from (Asks request.now)) }
-        ensures sends { (x : Slave Plant) → Stands M.stands self.old x → self.new.out ≡ heard_sends (machine (M.setup self.old.inner)) x from (Asks request.now) }
+        ensures stands { (x : SlaveState Plant) → CoreStands M.stands self.old x → CoreStands M.stands self.new (after_heard (machine (M.setup self.old.inner)) x from (Asks request.now)) }
+        ensures sends { (x : SlaveState Plant) → CoreStands M.stands self.old x → self.new.out ≡ heard_sends (machine (M.setup self.old.inner)) x from (Asks request.now) }
         ensures setup { M.setup self.new.inner ≡ M.setup self.old.inner }
     {
         match self.fate(from, request) {
@@ -166,7 +166,7 @@ impl<M: Inner> SlaveCore<M> {
     /// A data message has come; it is heeded while the session lasts.
     fn on_data(&mut self, from: Address, number: u16, id: u16, payload: &[u8])
         requires { self.old.out ≡ [] }
-        ensures stands { (x : Slave Plant) → Stands M.stands self.old x → Stands M.stands self.new (after_heard (machine (M.setup self.old.inner)) x from (Brings number id payload.now)) }
+        ensures stands { (x : SlaveState Plant) → CoreStands M.stands self.old x → CoreStands M.stands self.new (after_heard (machine (M.setup self.old.inner)) x from (Brings number id payload.now)) }
         ensures out { self.new.out ≡ [] }
         ensures setup { M.setup self.new.inner ≡ M.setup self.old.inner }
     {
@@ -178,8 +178,8 @@ impl<M: Inner> SlaveCore<M> {
     /// Has a turn, if it is registered.
     fn pass(&mut self)
         requires { self.old.out ≡ [] }
-        ensures stands { (x : Slave Plant) → Stands M.stands self.old x → Stands M.stands self.new (after_turn (machine (M.setup self.old.inner)) x) }
-        ensures sends { (x : Slave Plant) → Stands M.stands self.old x → IsSound x.inner → self.new.out ≡ turn_sends (machine (M.setup self.old.inner)) x.session x }
+        ensures stands { (x : SlaveState Plant) → CoreStands M.stands self.old x → CoreStands M.stands self.new (after_turn (machine (M.setup self.old.inner)) x) }
+        ensures sends { (x : SlaveState Plant) → CoreStands M.stands self.old x → IsSoundPlant x.inner → self.new.out ≡ turn_sends (machine (M.setup self.old.inner)) x.session x }
         ensures setup { M.setup self.new.inner ≡ M.setup self.old.inner }
     {
         match self.session {
@@ -194,45 +194,45 @@ impl<M: Inner> SlaveCore<M> {
 
     /// The state of the slave: ALIVE before it is registered and after its session.
     pub fn state(&self) -> State
-        ensures { (events : List Event) → StandsFor M.setup M.stands self.now events → result ≡ state_after (M.setup self.now.inner) events }
+        ensures { (events : List Event) → CoreStandsFor M.setup M.stands self.now events → result ≡ state_after (M.setup self.now.inner) events }
     {
         self.inner.state()
     }
 
     /// The steps taken since the last reset.
     pub fn steps_taken(&self) -> u32
-        ensures { (events : List Event) → StandsFor M.setup M.stands self.now events → result ≡ steps_after (M.setup self.now.inner) events }
+        ensures { (events : List Event) → CoreStandsFor M.setup M.stands self.now events → result ≡ steps_after (M.setup self.now.inner) events }
     {
         self.inner.steps_taken()
     }
 
     /// The newest fault; none where there was none.
     pub fn fault(&self) -> Option<FaultCode>
-        ensures { (events : List Event) → StandsFor M.setup M.stands self.now events → result ≡ fault_after (M.setup self.now.inner) events }
+        ensures { (events : List Event) → CoreStandsFor M.setup M.stands self.now events → result ≡ fault_after (M.setup self.now.inner) events }
     {
         self.inner.fault()
     }
 
     /// The turns since the last request that was taken. The count stands still at its last number.
     pub fn quiet_turns(&self) -> u32
-        ensures { (events : List Event) → StandsFor M.setup M.stands self.now events → result ≡ quiet_after (M.setup self.now.inner) events }
+        ensures { (events : List Event) → CoreStandsFor M.setup M.stands self.now events → result ≡ quiet_after (M.setup self.now.inner) events }
     {
         self.quiet
     }
 }
 
 impl<M: Inner> End for SlaveCore<M> {
-    ghost use Rattle.slave_spec.specs.declared.words.Setup.{Setup};
-    ghost use Rattle.slave_spec.specs.Slaves.{rules_from};
-    ghost use Rattle.slave_core.specs.Core.{StandsFor};
+    ghost use Rattle.slave_spec.specs.declared.words.SlaveSetup.{SlaveSetup};
+    ghost use Rattle.slave_spec.specs.Slaves.{slave_rules_from};
+    ghost use Rattle.slave_core.specs.Core.{CoreStandsFor};
 
-    ghost Made = { Setup };
+    ghost Made = { SlaveSetup };
 
     ghost made = { λ s. M.setup s.inner };
 
-    ghost stands = { StandsFor M.setup M.stands };
+    ghost stands = { CoreStandsFor M.setup M.stands };
 
-    ghost rules = { λ s. rules_from (M.setup s.inner) };
+    ghost rules = { λ s. slave_rules_from (M.setup s.inner) };
 
     ghost outs = { λ s. s.out };
 

@@ -6,11 +6,11 @@ ghost use Rattle.slave_core.specs.Hearing.{as_heard, heard_of};
 
 use pdu_codec::read;
 use pdu_layout::Pdu;
-use slave_spec::{Asked, Request};
+use slave_spec::{Asked, SlaveRequest};
 
 /// A request, a data message, or nothing that a slave heeds.
 pub(crate) enum Hearing<'a> {
-    Asks(Request),
+    Asks(SlaveRequest),
     Brings {
         number: u16,
         id: u16,
@@ -29,7 +29,7 @@ fn hearing_of(message: Pdu<'_>) -> Hearing<'_>
             receiver,
             state,
             body,
-        } => Hearing::Asks(Request {
+        } => Hearing::Asks(SlaveRequest {
             number: seq,
             receiver,
             asked: Asked::Change {
@@ -41,7 +41,7 @@ fn hearing_of(message: Pdu<'_>) -> Hearing<'_>
             seq,
             receiver,
             body,
-        } => Hearing::Asks(Request {
+        } => Hearing::Asks(SlaveRequest {
             number: seq,
             receiver,
             asked: Asked::Setting(body),
@@ -50,7 +50,7 @@ fn hearing_of(message: Pdu<'_>) -> Hearing<'_>
             seq,
             receiver,
             body,
-        } => Hearing::Asks(Request {
+        } => Hearing::Asks(SlaveRequest {
             number: seq,
             receiver,
             asked: Asked::Question(body),

@@ -1,10 +1,10 @@
 //! The messages that are to be sent.
 
-ghost use Rattle.std.specs.Prelude.{◌≡◌, ◌<◌, ◌≤◌, ◌+◌, ◌++◌, ◌∷◌, [], length, take, slice_get, option_map, IfOk, IfSome, ◌^◌};
+ghost use Rattle.std.specs.Prelude.{◌≡◌, ◌<◌, ◌≤◌, ◌+◌, ◌++◌, ◌∷◌, [], length, slice_get, option_map, IfOk, IfSome, ◌^◌};
 ghost use Rattle.dcp_ends.specs.Events.{Send};
 ghost use Rattle.pdu_layout.specs.Message.{message_of, HasSpelling};
 ghost use Rattle.slave_spec.specs.Transport.{send};
-ghost use Rattle.slave_core.specs.Sizes.{IsSized};
+ghost use Rattle.slave_core.specs.Sizes.{IsSendSized};
 
 use crate::slots::Slot;
 use dcp_types::{Address, OutOfMemory};
@@ -58,7 +58,7 @@ impl Outbox {
     /// Puts the bytes of a message behind the others.
     pub fn put_bytes(&mut self, to: Address, message: &[u8])
         requires room { length self.old < 21 }
-        requires sized { IsSized message.now }
+        requires sized { IsSendSized message.now }
         ensures { self.new ≡ self.old ++ record { to = to; bytes = message.now } ∷ [] }
     {
         let mut bytes = [0; 1024];
@@ -70,7 +70,7 @@ impl Outbox {
     /// The message with this number, from 0.
     pub fn get(&self, i: usize) -> Option<(Address, &[u8])>
         ensures value { option_map (λ out. record { to = out.0; bytes = out.1.now }) result ≡ slice_get self.now i }
-        ensures sized { IfSome result (λ out. IsSized out.1.now) }
+        ensures sized { IfSome result (λ out. IsSendSized out.1.now) }
         ensures few { length self.now < 2 ^ 64 }
     {
         match self.slots.get(i) {

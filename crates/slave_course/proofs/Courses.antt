@@ -8,24 +8,24 @@ use Rattle.dcp_ends.specs.declared.entries.LogEntry.{LogEntry}
 use Rattle.pdu_layout.specs.declared.messages.Stc.TheVariants as stc
 use Rattle.scenario.specs.declared.scenarios.Scenario.{Scenario}
 use Rattle.log_spec.specs.Messages.{Note}
-use Rattle.log_spec.specs.Log.{Parties, Decision}
-use Rattle.lockstep_laws.specs.Asked.{Asked}
+use Rattle.log_spec.specs.Log.{Parties, DecidedRequest}
+use Rattle.lockstep_laws.specs.Asked.{AskedAsPlanned}
 use Rattle.lockstep_laws.specs.Steps as steps
-use Rattle.lockstep_laws.specs.Steps.{RowEvent, Restart, place_after, row_event_at, event_asked, Reply, Told, told_by, told_of, Progress, events_counted, view, Bench, TakesOn}
+use Rattle.lockstep_laws.specs.Steps.{RowEvent, Restart, place_after, row_event_at, event_asked, Reply, Told, told_by, told_of, BenchProgress, events_counted, view, Bench, TakesOn}
 use Rattle.lockstep_laws.proofs.Local.{IsInTurn, takes_counts, turn_counts}
 use Rattle.lockstep_laws.proofs.Places.{Fits, restart_is, free_counted, take_placed, turn_placed, is_last}
 use Rattle.slave_wiring.specs.Payloads.{brought}
-use Rattle.slave_spec.specs.declared.words.Setup.{Setup}
-use Rattle.slave_spec.specs.declared.words.Request as req
+use Rattle.slave_spec.specs.declared.words.SlaveSetup.{SlaveSetup}
+use Rattle.slave_spec.specs.declared.words.SlaveRequest as req
 use Rattle.slave_spec.specs.declared.words.Asked as ask
 use Rattle.slave_spec.specs.declared.words.Asked.TheVariants.{Change, Setting, Question}
 use Rattle.slave_spec.specs.declared.words.Session.{Session}
 use Rattle.slave_spec.specs.declared.words.Session.TheVariants.{Before, During, After}
 use Rattle.slave_spec.specs.Heard as spec
 use Rattle.slave_spec.specs.Transport as transport
-use Rattle.slave_spec.specs.Plants.{Plant, start}
-use Rattle.slave_spec.specs.Sound.{IsSound}
-use Rattle.slave_spec.specs.Requests.{refusal, answer, answered, answers}
+use Rattle.slave_spec.specs.Plants.{Plant, start_plant}
+use Rattle.slave_spec.specs.Sound.{IsSoundPlant}
+use Rattle.slave_spec.specs.Requests.{refusal, answer, answered_plant, answers}
 use Rattle.slave_spec.specs.Turns as turns
 use Rattle.slave_spec.specs.Turns.{act, is_listening, brings}
 use Rattle.slave_spec.specs.Slaves.{machine}
@@ -42,19 +42,19 @@ use Rattle.slave_course.specs.Wired.{is_during, WiringIsPlanned, PlaceIsCounted}
 use Rattle.slave_course.proofs.Staged.{in_turn}
 use Rattle.slave_course.proofs.Stages.{IsStaged, past_wired, exchanged_staged, turns_staged, brings_staged}
 
-module _ (sc : Scenario) (n : ℕ) (s : Setup) where
-  pub record IsOnCourse (p : Plant) (es : List Decision) : Type 0 where
+module _ (sc : Scenario) (n : ℕ) (s : SlaveSetup) where
+  pub record IsOnCourse (p : Plant) (es : List DecidedRequest) : Type 0 where
     pub events : ℕ
     pub fits : Fits sc.steps es (bench_of events p)
     pub sound : Sound p
     pub staged : IsStaged sc n s p (settings_taken es) (resets_taken es)
 
-  abbrev pub CourseIn : Session → Plant → List Decision → Type 0
+  abbrev pub CourseIn : Session → Plant → List DecidedRequest → Type 0
   CourseIn Before p es = es ≡ []
   CourseIn (During master id) p es = IsOnCourse p es
   CourseIn (After master id) p es = Unit {0}
 
-  begun : IsOnCourse (start s) []
+  begun : IsOnCourse (start_plant s) []
   begun = record {
     events = 0;
     fits = record { counts = inl (refl, refl, refl); placed = record { is = omega arith; most = omega arith } };
@@ -63,8 +63,8 @@ module _ (sc : Scenario) (n : ℕ) (s : Setup) where
   }
 
   -- ---- a request that is taken
-  module _ (p : Plant) (es : List Decision) (r : req.Request) (k : Note) (next' : ℕ) (ev : event_asked k ≡ event_wanted r.asked) where
-    abbrev Given : transport.Answer
+  module _ (p : Plant) (es : List DecidedRequest) (r : req.SlaveRequest) (k : Note) (next' : ℕ) (ev : event_asked k ≡ event_wanted r.asked) where
+    abbrev Given : transport.SlaveAnswer
     Given = (answers s r.asked p).answer
 
     tells : told_of (exchanged s p r k next') ≡ told_by (event_wanted r.asked) (reply_told Given)
@@ -77,8 +77,8 @@ module _ (sc : Scenario) (n : ℕ) (s : Setup) where
     turn m = in_turn sc n s.desc es (view es) (event_asked k) (steps.reply_of (answer_note r next' Given)) m
 
   -- a reset is accepted after all steps
-  all_by : (p : Plant) (es : List Decision) (many : ℕ) (named : State) (c : Bench) (o : Option ErrorCode) → o ≡ None → IsInTurn sc.steps (told_by (Some Restart) (reply_told (answered s p (Change named stc.Reset) o).answer)) (view es)
-      → TakesOn (told_by (Some Restart) (reply_told (answered s p (Change named stc.Reset) o).answer)) (bench_of many p) c → Fits sc.steps es (bench_of many p) → p.steps ≡ sc.steps
+  all_by : (p : Plant) (es : List DecidedRequest) (many : ℕ) (named : State) (c : Bench) (o : Option ErrorCode) → o ≡ None → IsInTurn sc.steps (told_by (Some Restart) (reply_told (answered_plant s p (Change named stc.Reset) o).answer)) (view es)
+      → TakesOn (told_by (Some Restart) (reply_told (answered_plant s p (Change named stc.Reset) o).answer)) (bench_of many p) c → Fits sc.steps es (bench_of many p) → p.steps ≡ sc.steps
   unfolding answer
   all_by p es many named c (Some code) e i t f = absurd cc
   all_by p es many named c None e i t f =
@@ -86,15 +86,15 @@ module _ (sc : Scenario) (n : ℕ) (s : Setup) where
       let here : Restart ≡ row_event_at sc.steps b.events = i ∙ ap (row_event_at sc.steps) (sym (free_counted sc.steps (view es) b t.free t.sound f.counts)) in
       is_last sc.steps b.resets b.steps (place_after b.events) f.placed.is f.placed.most (restart_is sc.steps b.events here).1
 
-  all_steps : (p : Plant) (es : List Decision) (many : ℕ) (asked : ask.Asked) (c : Bench) (named : State) → asked ≡ Change named stc.Reset → refusal s p asked ≡ None
-      → IsInTurn sc.steps (told_by (event_wanted asked) (reply_told (answered s p asked (refusal s p asked)).answer)) (view es)
-      → TakesOn (told_by (event_wanted asked) (reply_told (answered s p asked (refusal s p asked)).answer)) (bench_of many p) c → Fits sc.steps es (bench_of many p) → p.steps ≡ sc.steps
+  all_steps : (p : Plant) (es : List DecidedRequest) (many : ℕ) (asked : ask.Asked) (c : Bench) (named : State) → asked ≡ Change named stc.Reset → refusal s p asked ≡ None
+      → IsInTurn sc.steps (told_by (event_wanted asked) (reply_told (answered_plant s p asked (refusal s p asked)).answer)) (view es)
+      → TakesOn (told_by (event_wanted asked) (reply_told (answered_plant s p asked (refusal s p asked)).answer)) (bench_of many p) c → Fits sc.steps es (bench_of many p) → p.steps ≡ sc.steps
   all_steps p es many asked c named e =
-      let P : ask.Asked → Type 0 = λ a. refusal s p a ≡ None → IsInTurn sc.steps (told_by (event_wanted a) (reply_told (answered s p a (refusal s p a)).answer)) (view es)
-      → TakesOn (told_by (event_wanted a) (reply_told (answered s p a (refusal s p a)).answer)) (bench_of many p) c → Fits sc.steps es (bench_of many p) → p.steps ≡ sc.steps in
+      let P : ask.Asked → Type 0 = λ a. refusal s p a ≡ None → IsInTurn sc.steps (told_by (event_wanted a) (reply_told (answered_plant s p a (refusal s p a)).answer)) (view es)
+      → TakesOn (told_by (event_wanted a) (reply_told (answered_plant s p a (refusal s p a)).answer)) (bench_of many p) c → Fits sc.steps es (bench_of many p) → p.steps ≡ sc.steps in
       subst P (sym e) (λ h i t f. all_by p es many named c (refusal s p (Change named stc.Reset)) h i t f)
 
-  step : (p : Plant) (es : List Decision) (r : req.Request) (k : Note) (next' : ℕ) → spec.heard_as (Some k.message) ≡ spec.Asks r → event_asked k ≡ event_wanted r.asked → may sc n s.desc es k ≡ true → transport.is_last r.asked (answers s r.asked p).answer ≡ false
+  step : (p : Plant) (es : List DecidedRequest) (r : req.SlaveRequest) (k : Note) (next' : ℕ) → spec.heard_as (Some k.message) ≡ spec.Asks r → event_asked k ≡ event_wanted r.asked → may sc n s.desc es k ≡ true → transport.is_last r.asked (answers s r.asked p).answer ≡ false
       → IsOnCourse p es → IsOnCourse (answers s r.asked p).after (exchanged s p r k next' ∷ es)
   step p es r k next' h ev m last c =
       let a = and_parts (may_begin sc n s.desc es (view es) (event_asked k)) (may_set sc n s.desc es (asked_in k)) m in
@@ -121,7 +121,7 @@ module _ (sc : Scenario) (n : ℕ) (s : Setup) where
           clash z = cc
       still (inr g) f = g
 
-  register_first : (asked : ask.Asked) (a : transport.Answer) → transport.is_register asked ≡ true → transport.is_last asked a ≡ false
+  register_first : (asked : ask.Asked) (a : transport.SlaveAnswer) → transport.is_register asked ≡ true → transport.is_last asked a ≡ false
   register_first (Change named (stc.Register x b c d)) a e = refl
   register_first (Change named stc.Deregister) a e = absurd cc
   register_first (Change named stc.Prepare) a e = refl
@@ -135,13 +135,13 @@ module _ (sc : Scenario) (n : ℕ) (s : Setup) where
   register_first (Setting body) a e = refl
   register_first (Question q) a e = refl
 
-  first_step : (from : Address) (r : req.Request) (k : Note) (next' : ℕ) (es : List Decision) → spec.heard_as (Some k.message) ≡ spec.Asks r → event_asked k ≡ event_wanted r.asked → transport.is_register r.asked ≡ true → may sc n s.desc es k ≡ true → es ≡ []
-      → IsOnCourse (answers s r.asked (start s)).after (exchanged s (start s) r k next' ∷ es)
+  first_step : (from : Address) (r : req.SlaveRequest) (k : Note) (next' : ℕ) (es : List DecidedRequest) → spec.heard_as (Some k.message) ≡ spec.Asks r → event_asked k ≡ event_wanted r.asked → transport.is_register r.asked ≡ true → may sc n s.desc es k ≡ true → es ≡ []
+      → IsOnCourse (answers s r.asked (start_plant s)).after (exchanged s (start_plant s) r k next' ∷ es)
   first_step from r k next' es h ev reg m e =
-      let P : List Decision → Type 0 = λ ds. may sc n s.desc ds k ≡ true → IsOnCourse (answers s r.asked (start s)).after (exchanged s (start s) r k next' ∷ ds) in
-      subst P (sym e) (λ g. step (start s) [] r k next' h ev g (register_first r.asked (answers s r.asked (start s)).answer reg) begun) m
+      let P : List DecidedRequest → Type 0 = λ ds. may sc n s.desc ds k ≡ true → IsOnCourse (answers s r.asked (start_plant s)).after (exchanged s (start_plant s) r k next' ∷ ds) in
+      subst P (sym e) (λ g. step (start_plant s) [] r k next' h ev g (register_first r.asked (answers s r.asked (start_plant s)).answer reg) begun) m
 
-  taken_step : (master from : Address) (id : ℕ) (r : req.Request) (k : Note) (next' : ℕ) (p : Plant) (es : List Decision) → spec.heard_as (Some k.message) ≡ spec.Asks r → event_asked k ≡ event_wanted r.asked → may sc n s.desc es k ≡ true → IsOnCourse p es
+  taken_step : (master from : Address) (id : ℕ) (r : req.SlaveRequest) (k : Note) (next' : ℕ) (p : Plant) (es : List DecidedRequest) → spec.heard_as (Some k.message) ≡ spec.Asks r → event_asked k ≡ event_wanted r.asked → may sc n s.desc es k ≡ true → IsOnCourse p es
       → CourseIn (transport.session_after (During master id) from r (answers s r.asked p).answer) (answers s r.asked p).after (exchanged s p r k next' ∷ es)
   taken_step master from id r k next' p es h ev m c = by (transport.is_last r.asked (answers s r.asked p).answer) refl
     where
@@ -149,7 +149,7 @@ module _ (sc : Scenario) (n : ℕ) (s : Setup) where
       by true e = tt
       by false e = step p es r k next' h ev m e c
 
-  turn_step : (quiet : ℕ) (p : Plant) (es : List Decision) → IsSound p → IsOnCourse p es → IsOnCourse (turns.turns s quiet p).after es
+  turn_step : (quiet : ℕ) (p : Plant) (es : List DecidedRequest) → IsSoundPlant p → IsOnCourse p es → IsOnCourse (turns.turns s quiet p).after es
   turn_step quiet p es ok c =
       let many = events_turned p.state (act s quiet p) c.events in
       let b = bench_of c.events p in
@@ -162,7 +162,7 @@ module _ (sc : Scenario) (n : ℕ) (s : Setup) where
         staged = turns_staged sc n s quiet p (settings_taken es) (resets_taken es) c.staged;
       }
 
-  brings_step : (from : Address) (number id : ℕ) (payload : List ℕ) (p : Plant) (es : List Decision) → IsOnCourse p es → IsOnCourse (brings s from number id payload p) es
+  brings_step : (from : Address) (number id : ℕ) (payload : List ℕ) (p : Plant) (es : List DecidedRequest) → IsOnCourse p es → IsOnCourse (brings s from number id payload p) es
   brings_step from number id payload p es c = record {
     events = c.events;
     fits = let P : Bench → Type 0 = Fits sc.steps es in subst P (sym bench) c.fits;
@@ -184,7 +184,7 @@ module _ (sc : Scenario) (n : ℕ) (s : Setup) where
       rest : ((brings s from number id payload p).state ≡ p.state) × ((brings s from number id payload p).fault ≡ p.fault)
       rest = others (is_listening p.state)
 
-  course_lasts : Lasts s (λ es. Asked (may sc n s.desc) es) CourseIn
+  course_lasts : Lasts s (λ es. AskedAsPlanned (may sc n s.desc) es) CourseIn
   course_lasts = record {
     less = λ d es a. a.1;
     start = refl;
@@ -194,13 +194,13 @@ module _ (sc : Scenario) (n : ℕ) (s : Setup) where
     turns = λ master id quiet p es r r' ok a c. turn_step quiet p es ok c;
   }
 
-  during : (session : Session) (p : Plant) (es : List Decision) → is_during session ≡ true → CourseIn session p es → IsOnCourse p es
+  during : (session : Session) (p : Plant) (es : List DecidedRequest) → is_during session ≡ true → CourseIn session p es → IsOnCourse p es
   during Before p es e c = absurd cc
   during (During master id) p es e c = c
   during (After master id) p es e c = absurd cc
 
-  pub on_course : (w : Parties) → ReadsMessages w → (log : List LogEntry) → let x = at (machine s) w n log in Asked (may sc n s.desc) x.desk.served → is_during x.slave.session ≡ true → IsOnCourse x.slave.inner x.desk.served
-  on_course w rd log a e = let x = at (machine s) w n log in during x.slave.session x.slave.inner x.desk.served e (along s (λ es. Asked (may sc n s.desc) es) CourseIn course_lasts w n (sends_back s w n rd).agree log a)
+  pub on_course : (w : Parties) → ReadsMessages w → (log : List LogEntry) → let x = at (machine s) w n log in AskedAsPlanned (may sc n s.desc) x.desk.served → is_during x.slave.session ≡ true → IsOnCourse x.slave.inner x.desk.served
+  on_course w rd log a e = let x = at (machine s) w n log in during x.slave.session x.slave.inner x.desk.served e (along s (λ es. AskedAsPlanned (may sc n s.desc) es) CourseIn course_lasts w n (sends_back s w n rd).agree log a)
 
 pub is_planned : WiringIsPlanned
 is_planned sc n s w ok rd log a e z = let c = on_course sc n s w rd log a e in past_wired sc n s (at (machine s) w n log).slave.inner (settings_taken (at (machine s) w n log).desk.served) (resets_taken (at (machine s) w n log).desk.served) c.staged z

@@ -11,7 +11,7 @@ use Rattle.scenario.specs.declared.scenarios.Setting.{Setting}
 use Rattle.plan_spec.specs.Setup.{setup_list, adjust_list, set_parameter}
 use Rattle.plan_laws.specs.Runs.{lists_until}
 use Rattle.slave_wiring.specs.Changes.{Change}
-use Rattle.slave_course.specs.Wired.{changes_with, changes_after, planned_changes, restarted}
+use Rattle.slave_course.specs.Wired.{changes_with, changes_after, planned_changes, changes_restarted}
 
 -- what was set before the run that comes after so many resets, and what is set before it
 abbrev pub lists_before : Scenario → (s : ℕ) → SlaveDesc → ℕ → List Cfg
@@ -24,7 +24,7 @@ list_at sc s d (suc k) = adjust_list sc (suc k) s
 
 abbrev pub changes_before : (steps : ℕ) → List Change → ℕ → List Change
 changes_before steps changes zero = []
-changes_before steps changes (suc k) = restarted steps changes (suc k)
+changes_before steps changes (suc k) = changes_restarted steps changes (suc k)
 
 range_more : (a k : ℕ) → range_with_len a (suc k) ≡ range_with_len a k ++ (a + k) ∷ []
 range_more a zero = let e : a ≡ a + 0 = omega arith in ap (λ n. n ∷ []) e
@@ -48,6 +48,6 @@ parameters_keep base [] = refl
 parameters_keep base (x ∷ xs) = parameters_keep base xs
 
 -- what is set before a later run changes no wiring
-pub settled : (sc : Scenario) (s : ℕ) (d : SlaveDesc) (steps r : ℕ) → changes_after (changes_before steps (planned_changes sc s d) r) (list_at sc s d r) ≡ restarted steps (planned_changes sc s d) r
+pub settled : (sc : Scenario) (s : ℕ) (d : SlaveDesc) (steps r : ℕ) → changes_after (changes_before steps (planned_changes sc s d) r) (list_at sc s d r) ≡ changes_restarted steps (planned_changes sc s d) r
 settled sc s d steps zero = refl
-settled sc s d steps (suc k) = parameters_keep (restarted steps (planned_changes sc s d) (suc k)) (filter (λ x. x.slave == s) _)
+settled sc s d steps (suc k) = parameters_keep (changes_restarted steps (planned_changes sc s d) (suc k)) (filter (λ x. x.slave == s) _)

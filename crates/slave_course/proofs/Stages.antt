@@ -13,19 +13,19 @@ use Rattle.pdu_layout.specs.declared.messages.Inf.TheVariants as inf
 use Rattle.scenario.specs.declared.scenarios.Scenario.{Scenario}
 use Rattle.plan_laws.specs.Runs.{lists_until}
 use Rattle.log_spec.specs.Messages.{Note}
-use Rattle.log_spec.specs.Log.{Decision}
-use Rattle.slave_states.specs.Transitions.{row, next_on}
+use Rattle.log_spec.specs.Log.{DecidedRequest}
+use Rattle.slave_states.specs.Transitions.{transition_row, next_on}
 use Rattle.slave_wiring.specs.Changes as wiring
 use Rattle.slave_wiring.specs.Changes.{Change as WiringChange}
-use Rattle.slave_wiring.specs.Payloads.{brought, Wires}
-use Rattle.slave_spec.specs.declared.words.Setup.{Setup}
-use Rattle.slave_spec.specs.declared.words.Request as req
+use Rattle.slave_wiring.specs.Payloads.{brought, WiringState}
+use Rattle.slave_spec.specs.declared.words.SlaveSetup.{SlaveSetup}
+use Rattle.slave_spec.specs.declared.words.SlaveRequest as req
 use Rattle.slave_spec.specs.declared.words.Asked as ask
 use Rattle.slave_spec.specs.declared.words.Asked.TheVariants.{Change, Setting, Question}
 use Rattle.slave_spec.specs.Heard as spec
 use Rattle.slave_spec.specs.Transport as transport
 use Rattle.slave_spec.specs.Plants.{Plant}
-use Rattle.slave_spec.specs.Requests.{refusal, changed_to, set_to, accepted, answer, answered, answers}
+use Rattle.slave_spec.specs.Requests.{refusal, changed_to, set_to, accepted, answer, answered_plant, answers}
 use Rattle.slave_spec.specs.Turns as turns
 use Rattle.slave_spec.specs.Turns.{Act, Stay, Wait, Fault, Step, Pass, act, turned, is_listening, brings}
 use Rattle.slave_meets.specs.Desks.{answer_note}
@@ -36,14 +36,14 @@ use Rattle.course_spec.specs.Taken.{asked_heard, asked_in, is_acknowledged, sett
 use Rattle.course_spec.specs.Courses.{tuned, may_set}
 use Rattle.slave_tuned.proofs.Alike.{settings_are}
 use Rattle.slave_tuned.proofs.Parameters.{acknowledges, acknowledged}
-use Rattle.slave_course.specs.Wired.{changes_with, changes_after, planned_changes, restarted, is_past}
+use Rattle.slave_course.specs.Wired.{changes_with, changes_after, planned_changes, changes_restarted, is_past}
 use Rattle.slave_course.proofs.Lists.{lists_before, list_at, changes_before, joined, after_more, settled}
 use Rattle.slave_course.proofs.Staged.{past_reset, past_register, past_deregister, past_configure, past_initialize, past_run, past_step, past_outputs, past_stop, past_turn}
 
 never : {A : Type 0} → false ≡ true → A
 never e = absurd cc
 
-module _ (sc : Scenario) (n : ℕ) (s : Setup) where
+module _ (sc : Scenario) (n : ℕ) (s : SlaveSetup) where
   abbrev C : List WiringChange
   C = planned_changes sc n s.desc
 
@@ -56,7 +56,7 @@ module _ (sc : Scenario) (n : ℕ) (s : Setup) where
     pub past : is_past p.state ≡ true → new ≡ list_at sc n s.desc (length p.earlier)
 
   -- past its configuration it has the wiring of the plan
-  pub past_wired : (p : Plant) (settings : List Cfg) (resets : ℕ) → IsStaged p settings resets → is_past p.state ≡ true → p.wires.changes ≡ restarted sc.steps C (length p.earlier)
+  pub past_wired : (p : Plant) (settings : List Cfg) (resets : ℕ) → IsStaged p settings resets → is_past p.state ≡ true → p.wires.changes ≡ changes_restarted sc.steps C (length p.earlier)
   past_wired p settings resets h e = h.changes ∙ ap (changes_after (changes_before sc.steps C (length p.earlier))) (h.past e) ∙ settled sc n s.desc sc.steps (length p.earlier)
 
   past_taken : (p : Plant) (settings : List Cfg) (resets : ℕ) → IsStaged p settings resets → is_past p.state ≡ true → reverse settings ≡ lists_until sc n s.desc (length p.earlier)
@@ -126,12 +126,12 @@ module _ (sc : Scenario) (n : ℕ) (s : Setup) where
         new = [];
         many = ap (λ c. c + 1) h.many ∙ omega arith;
         taken = past_taken p settings resets h e ∙ sym (append-nil (lists_until sc n s.desc (length p.earlier)));
-        changes = ap (λ c. wiring.Restart p.steps ∷ c) (past_wired p settings resets h e) ∙ ap (λ c. wiring.Restart c ∷ restarted sc.steps C (length p.earlier)) all;
+        changes = ap (λ c. wiring.Restart p.steps ∷ c) (past_wired p settings resets h e) ∙ ap (λ c. wiring.Restart c ∷ changes_restarted sc.steps C (length p.earlier)) all;
         past = λ z. never (sym f ∙ z);
       }
 
   -- ---- to be prepared
-  prepare_new : (p : Plant) (es : List Decision) → IsStaged p (settings_taken es) (resets_taken es) → tuned sc n s.desc (resets_taken es + 1) es ≡ true → (h : IsStaged p (settings_taken es) (resets_taken es)) → h.new ≡ list_at sc n s.desc (length p.earlier)
+  prepare_new : (p : Plant) (es : List DecidedRequest) → IsStaged p (settings_taken es) (resets_taken es) → tuned sc n s.desc (resets_taken es + 1) es ≡ true → (h : IsStaged p (settings_taken es) (resets_taken es)) → h.new ≡ list_at sc n s.desc (length p.earlier)
   prepare_new p es g t h =
       let r = length p.earlier in
       let run : resets_taken es + 1 - 1 ≡ r = omega (arith, h.many) in
@@ -140,7 +140,7 @@ module _ (sc : Scenario) (n : ℕ) (s : Setup) where
       let whole : lists_before sc n s.desc r ++ h.new ≡ lists_before sc n s.desc r ++ list_at sc n s.desc r = sym h.taken ∙ ap reverse same ∙ reverse-reverse (lists_until sc n s.desc r) ∙ sym (joined sc n s.desc r) in
       append_cancel_left (lists_before sc n s.desc r) h.new (list_at sc n s.desc r) whole
 
-  prepare_staged : (p q : Plant) (es : List Decision) → tuned sc n s.desc (resets_taken es + 1) es ≡ true → q.earlier ≡ p.earlier → q.wires.changes ≡ p.wires.changes → IsStaged p (settings_taken es) (resets_taken es) → IsStaged q (settings_taken es) (resets_taken es)
+  prepare_staged : (p q : Plant) (es : List DecidedRequest) → tuned sc n s.desc (resets_taken es + 1) es ≡ true → q.earlier ≡ p.earlier → q.wires.changes ≡ p.wires.changes → IsStaged p (settings_taken es) (resets_taken es) → IsStaged q (settings_taken es) (resets_taken es)
   prepare_staged p q es t e f h =
       let k : length q.earlier ≡ length p.earlier = ap length e in
       record {
@@ -152,7 +152,7 @@ module _ (sc : Scenario) (n : ℕ) (s : Setup) where
       }
 
   -- ---- a change of state that is accepted
-  change_staged : (p : Plant) (named : State) (request : Stc) (t : State) (es : List Decision) → row request p.state p.outputs_sent ≡ Some t → (request ≡ stc.Reset → p.steps ≡ sc.steps) → may_set sc n s.desc es (Some (Change named request)) ≡ true
+  change_staged : (p : Plant) (named : State) (request : Stc) (t : State) (es : List DecidedRequest) → transition_row request p.state p.outputs_sent ≡ Some t → (request ≡ stc.Reset → p.steps ≡ sc.steps) → may_set sc n s.desc es (Some (Change named request)) ≡ true
       → IsStaged p (settings_taken es) (resets_taken es) → IsStaged (changed_to s p request t) (settings_taken es) (reset_taken (Some (Change named request)) true (resets_taken es))
   change_staged p named stc.Reset t es r all m h = let q = past_reset p.state t p.outputs_sent r in reset_staged p t (settings_taken es) (resets_taken es) q.0 q.1 (all refl) h
   change_staged p named stc.Prepare t es r all m h = prepare_staged p (changed_to s p stc.Prepare t) es m refl refl h
@@ -185,10 +185,10 @@ module _ (sc : Scenario) (n : ℕ) (s : Setup) where
   not_reset (Setting body) k = refl
   not_reset (Question q) k = refl
 
-  abbrev Staged : Plant → ask.Asked → transport.Answer → List Decision → Type 0
+  abbrev Staged : Plant → ask.Asked → transport.SlaveAnswer → List DecidedRequest → Type 0
   Staged q asked a es = IsStaged q (setting_taken (Some asked) (acknowledges a) (settings_taken es)) (reset_taken (Some asked) (acknowledges a) (resets_taken es))
 
-  accepted_staged : (p : Plant) (asked : ask.Asked) (es : List Decision) → refusal s p asked ≡ None → ((named : State) → asked ≡ Change named stc.Reset → p.steps ≡ sc.steps) → may_set sc n s.desc es (Some asked) ≡ true
+  accepted_staged : (p : Plant) (asked : ask.Asked) (es : List DecidedRequest) → refusal s p asked ≡ None → ((named : State) → asked ≡ Change named stc.Reset → p.steps ≡ sc.steps) → may_set sc n s.desc es (Some asked) ≡ true
       → IsStaged p (settings_taken es) (resets_taken es) → Staged (accepted s p asked) asked (answer p asked) es
   unfolding accepted answer refusal
   accepted_staged p (Change named request) es r all m h =
@@ -201,17 +201,17 @@ module _ (sc : Scenario) (n : ℕ) (s : Setup) where
   accepted_staged p (Question inf.Error) es r all m h = h
   accepted_staged p (Question (inf.Log category most)) es r all m h = same_staged p (accepted s p (Question (inf.Log category most))) (settings_taken es) (resets_taken es) refl refl (λ z. z) h
 
-  answered_staged : (p : Plant) (asked : ask.Asked) (es : List Decision) (o : Option ErrorCode) → refusal s p asked ≡ o → ((named : State) → asked ≡ Change named stc.Reset → o ≡ None → p.steps ≡ sc.steps) → may_set sc n s.desc es (Some asked) ≡ true
-      → IsStaged p (settings_taken es) (resets_taken es) → Staged (answered s p asked o).after asked (answered s p asked o).answer es
+  answered_staged : (p : Plant) (asked : ask.Asked) (es : List DecidedRequest) (o : Option ErrorCode) → refusal s p asked ≡ o → ((named : State) → asked ≡ Change named stc.Reset → o ≡ None → p.steps ≡ sc.steps) → may_set sc n s.desc es (Some asked) ≡ true
+      → IsStaged p (settings_taken es) (resets_taken es) → Staged (answered_plant s p asked o).after asked (answered_plant s p asked o).answer es
   answered_staged p asked es (Some code) r all m h =
-      let P : List Cfg → ℕ → Type 0 = λ settings resets. IsStaged (answered s p asked (Some code)).after settings resets in
+      let P : List Cfg → ℕ → Type 0 = λ settings resets. IsStaged (answered_plant s p asked (Some code)).after settings resets in
       subst (λ l. P l (reset_taken (Some asked) false (resets_taken es))) (sym (not_set asked (settings_taken es))) (subst (λ k. P (settings_taken es) k) (sym (not_reset asked (resets_taken es)))
-      (same_staged p (answered s p asked (Some code)).after (settings_taken es) (resets_taken es) refl refl (λ z. z) h))
+      (same_staged p (answered_plant s p asked (Some code)).after (settings_taken es) (resets_taken es) refl refl (λ z. z) h))
   answered_staged p asked es None r all m h =
       let a = accepted_staged p asked es r (λ named e. all named e refl) m h in
-      same_staged (accepted s p asked) (answered s p asked None).after (setting_taken (Some asked) (acknowledges (answer p asked)) (settings_taken es)) (reset_taken (Some asked) (acknowledges (answer p asked)) (resets_taken es)) refl refl (λ z. z) a
+      same_staged (accepted s p asked) (answered_plant s p asked None).after (setting_taken (Some asked) (acknowledges (answer p asked)) (settings_taken es)) (reset_taken (Some asked) (acknowledges (answer p asked)) (resets_taken es)) refl refl (λ z. z) a
 
-  pub exchanged_staged : (p : Plant) (es : List Decision) (r : req.Request) (k : Note) (next' : ℕ) → spec.heard_as (Some k.message) ≡ spec.Asks r → ((named : State) → r.asked ≡ Change named stc.Reset → refusal s p r.asked ≡ None → p.steps ≡ sc.steps) → may_set sc n s.desc es (asked_in k) ≡ true
+  pub exchanged_staged : (p : Plant) (es : List DecidedRequest) (r : req.SlaveRequest) (k : Note) (next' : ℕ) → spec.heard_as (Some k.message) ≡ spec.Asks r → ((named : State) → r.asked ≡ Change named stc.Reset → refusal s p r.asked ≡ None → p.steps ≡ sc.steps) → may_set sc n s.desc es (asked_in k) ≡ true
       → IsStaged p (settings_taken es) (resets_taken es) → IsStaged (answers s r.asked p).after (settings_taken (exchanged s p r k next' ∷ es)) (resets_taken (exchanged s p r k next' ∷ es))
   exchanged_staged p es r k next' h all m st =
       let a = (answers s r.asked p).answer in
@@ -236,7 +236,7 @@ module _ (sc : Scenario) (n : ℕ) (s : Setup) where
   pub turns_staged : (quiet : ℕ) (p : Plant) (settings : List Cfg) (resets : ℕ) → IsStaged p settings resets → IsStaged (turns.turns s quiet p).after settings resets
   turns_staged quiet p settings resets h = turned_staged p (act s quiet p) settings resets (act_step s quiet p) h
 
-  brought_same : (w y : Wires) (b : Bool) → y.changes ≡ w.changes → (if b then y else w).changes ≡ w.changes
+  brought_same : (w y : WiringState) (b : Bool) → y.changes ≡ w.changes → (if b then y else w).changes ≡ w.changes
   brought_same w y true e = e
   brought_same w y false e = refl
 

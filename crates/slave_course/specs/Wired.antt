@@ -8,12 +8,12 @@ use Rattle.pdu_layout.specs.declared.messages.Cfg.TheVariants as cfg
 use Rattle.slave_desc.specs.declared.descriptions.SlaveDesc.{SlaveDesc}
 use Rattle.scenario.specs.declared.scenarios.Scenario.{Scenario}
 use Rattle.plan_spec.specs.Setup.{setup_list}
-use Rattle.plan_laws.specs.Taking.{IsSlaveOf}
+use Rattle.plan_laws.specs.Taking.{IsScenarioSlave}
 use Rattle.log_spec.specs.Log.{Parties}
 use Rattle.lockstep_laws.specs.Steps.{place_after}
-use Rattle.lockstep_laws.specs.Asked.{Asked}
+use Rattle.lockstep_laws.specs.Asked.{AskedAsPlanned}
 use Rattle.slave_wiring.specs.Changes.{Change, Set, Restart}
-use Rattle.slave_spec.specs.declared.words.Setup.{Setup}
+use Rattle.slave_spec.specs.declared.words.SlaveSetup.{SlaveSetup}
 use Rattle.slave_spec.specs.declared.words.Session.{Session}
 use Rattle.slave_spec.specs.declared.words.Session.TheVariants.{Before, During, After}
 use Rattle.slave_spec.specs.Slaves.{machine}
@@ -41,9 +41,9 @@ abbrev pub planned_changes : Scenario → (s : ℕ) → SlaveDesc → List Chang
 planned_changes sc s d = changes_after [] (setup_list sc s d)
 
 -- and with a restart after so many steps for each run before
-abbrev pub restarted : (steps : ℕ) → List Change → (runs : ℕ) → List Change
-restarted steps changes zero = changes
-restarted steps changes (suc runs) = Restart steps ∷ restarted steps changes runs
+abbrev pub changes_restarted : (steps : ℕ) → List Change → (runs : ℕ) → List Change
+changes_restarted steps changes zero = changes
+changes_restarted steps changes (suc runs) = Restart steps ∷ changes_restarted steps changes runs
 
 -- from PREPARING to STOPPED
 abbrev pub is_past : State → Bool
@@ -70,16 +70,16 @@ is_during (During master id) = true
 is_during (After master id) = false
 
 -- for the slave of a sound scenario, after every log in which it was asked in order
-abbrev pub InScenario : (Scenario → (s : ℕ) → Setup → Parties → List LogEntry → Type 0) → Type 0
-InScenario Has = (sc : Scenario) (s : ℕ) (x : Setup) (w : Parties) → IsSlaveOf sc s x.desc → ReadsMessages w → (log : List LogEntry)
-    → Asked (may sc s x.desc) (served_at x w s log) → is_during (at (machine x) w s log).slave.session ≡ true → Has sc s x w log
+abbrev pub InScenario : (Scenario → (s : ℕ) → SlaveSetup → Parties → List LogEntry → Type 0) → Type 0
+InScenario Has = (sc : Scenario) (s : ℕ) (x : SlaveSetup) (w : Parties) → IsScenarioSlave sc s x.desc → ReadsMessages w → (log : List LogEntry)
+    → AskedAsPlanned (may sc s x.desc) (served_at x w s log) → is_during (at (machine x) w s log).slave.session ≡ true → Has sc s x w log
 
 abbrev pub WiringIsPlanned : Type 0
 WiringIsPlanned = InScenario (λ sc s x w log. is_past (plant_at x w s log).state ≡ true
-    → (plant_at x w s log).wires.changes ≡ restarted sc.steps (planned_changes sc s x.desc) (length (plant_at x w s log).earlier))
+    → (plant_at x w s log).wires.changes ≡ changes_restarted sc.steps (planned_changes sc s x.desc) (length (plant_at x w s log).earlier))
 
 -- the place of its row events is that many resets and steps
-pub record IsCounted (steps : ℕ) (x : Setup) (w : Parties) (s : ℕ) (log : List LogEntry) : Type 0 where
+pub record IsCounted (steps : ℕ) (x : SlaveSetup) (w : Parties) (s : ℕ) (log : List LogEntry) : Type 0 where
   pub events : ℕ
   pub place : place_after events ≡ (bench_at x w s log).resets * (steps + 1) + (bench_at x w s log).steps
   pub most : (bench_at x w s log).steps ≤ steps

@@ -5,36 +5,36 @@ use Rattle.dcp_types.specs.declared.states.State.{State}
 use Rattle.dcp_types.specs.declared.states.State.TheVariants.{Alive}
 use Rattle.dcp_types.specs.declared.error_codes.ErrorCode.{ErrorCode}
 use Rattle.pdu_layout.specs.declared.messages.Stc.TheVariants as stc
-use Rattle.slave_states.specs.Transitions.{row, next_on}
-use Rattle.slave_spec.specs.declared.words.Setup.{Setup}
-use Rattle.slave_spec.specs.declared.words.Request as req
+use Rattle.slave_states.specs.Transitions.{transition_row, next_on}
+use Rattle.slave_spec.specs.declared.words.SlaveSetup.{SlaveSetup}
+use Rattle.slave_spec.specs.declared.words.SlaveRequest as req
 use Rattle.slave_spec.specs.declared.words.Asked as ask
 use Rattle.slave_spec.specs.declared.words.Asked.TheVariants.{Change, Setting, Question}
 use Rattle.slave_spec.specs.declared.words.Session.{Session}
 use Rattle.slave_spec.specs.declared.words.Session.TheVariants.{Before, During, After}
 use Rattle.slave_spec.specs.Transport as transport
 use Rattle.slave_spec.specs.Plants.{Plant}
-use Rattle.slave_spec.specs.Requests.{refusal, accepted, answer, answered, answers}
-use Rattle.slave_spec.specs.Slaves.{machine}
+use Rattle.slave_spec.specs.Requests.{refusal, accepted, answer, answered_plant, answers}
+use Rattle.slave_spec.specs.Slaves.{machine, has_ended}
 use Rattle.slave_meets.specs.Desks.{at}
 use Rattle.slave_meets.proofs.Plants.{no_refusal, row_of_next, state_is}
 use Rattle.slave_sends.proofs.Sending.{sends_back}
 use Rattle.slave_holds.proofs.Along.{Lasts, along}
-use Rattle.slave_data.specs.Holding.{has_ended, EndedIsAlive}
+use Rattle.slave_data.specs.Holding.{EndedIsAlive}
 
 abbrev AliveIn : Session → Plant → Type 0
 AliveIn Before p = Unit {0}
 AliveIn (During master id) p = Unit {0}
 AliveIn (After master id) p = p.state ≡ Alive
 
-deregistered : (state t : State) (sent : Bool) → row stc.Deregister state sent ≡ Some t → t ≡ Alive
+deregistered : (state t : State) (sent : Bool) → transition_row stc.Deregister state sent ≡ Some t → t ≡ Alive
 deregistered state t sent h = grind arith
 
 never : {A : Type 0} → false ≡ true → A
 never e = absurd cc
 
-module _ (s : Setup) where
-  last_alive : (p : Plant) (asked : ask.Asked) (o : Option ErrorCode) → refusal s p asked ≡ o → transport.is_last asked (answered s p asked o).answer ≡ true → (answered s p asked o).after.state ≡ Alive
+module _ (s : SlaveSetup) where
+  last_alive : (p : Plant) (asked : ask.Asked) (o : Option ErrorCode) → refusal s p asked ≡ o → transport.is_last asked (answered_plant s p asked o).answer ≡ true → (answered_plant s p asked o).after.state ≡ Alive
   unfolding accepted refusal answer
   last_alive p (Change named stc.Deregister) None r l =
       let o = no_refusal p stc.Deregister (next_on p.state stc.Deregister named p.outputs_sent) r in
@@ -53,7 +53,7 @@ module _ (s : Setup) where
   last_alive p (Setting body) o r l = never l
   last_alive p (Question q) o r l = never l
 
-  taken_alive : (master from : Address) (id : ℕ) (r : req.Request) (p : Plant) → AliveIn (transport.session_after (During master id) from r (answers s r.asked p).answer) (answers s r.asked p).after
+  taken_alive : (master from : Address) (id : ℕ) (r : req.SlaveRequest) (p : Plant) → AliveIn (transport.session_after (During master id) from r (answers s r.asked p).answer) (answers s r.asked p).after
   taken_alive master from id r p = by (transport.is_last r.asked (answers s r.asked p).answer) refl
     where
       by : (b : Bool) → transport.is_last r.asked (answers s r.asked p).answer ≡ b → AliveIn (if b then After master id else During master id) (answers s r.asked p).after

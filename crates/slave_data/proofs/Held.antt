@@ -17,20 +17,20 @@ use Rattle.lockstep_laws.specs.Steps.{Step}
 use Rattle.model_laws.specs.Machines.{Fed, IsAskedInOrder}
 use Rattle.model_laws.specs.Scenarios.{slave_numbered}
 use Rattle.model_laws.proofs.Scenarios.{has_parties}
-use Rattle.slave_wiring.specs.Changes.{input, in_run, interval}
+use Rattle.slave_wiring.specs.Changes.{input, steps_in_run, entry_interval}
 use Rattle.slave_wiring.specs.Payloads as wired
-use Rattle.slave_wiring.specs.Payloads.{kept_under, is_of, is_here, ready}
-use Rattle.slave_spec.specs.declared.words.Setup.{Setup}
+use Rattle.slave_wiring.specs.Payloads.{kept_under, is_kept_of, is_here, ready}
+use Rattle.slave_spec.specs.declared.words.SlaveSetup.{SlaveSetup}
 use Rattle.slave_spec.specs.declared.words.Session.{Session}
 use Rattle.slave_spec.specs.declared.words.Session.TheVariants.{Before, During, After}
-use Rattle.slave_spec.specs.Transport.{Slave}
+use Rattle.slave_spec.specs.Transport.{SlaveState}
 use Rattle.slave_spec.specs.Plants.{Plant}
 use Rattle.slave_spec.specs.Begun.{IsRegularIn}
-use Rattle.slave_spec.specs.Slaves.{machine}
+use Rattle.slave_spec.specs.Slaves.{machine, has_ended}
 use Rattle.slave_spec.proofs.Regular.{regular_after}
 use Rattle.pdu_layout.specs.Reading.{message_in}
 use Rattle.slave_meets.specs.Plants.{under_way}
-use Rattle.slave_meets.specs.Desks.{at, events}
+use Rattle.slave_meets.specs.Desks.{at, events_of_slave}
 use Rattle.slave_meets.specs.Benches.{bench_at}
 use Rattle.slave_meets.proofs.Meets.{slave_is}
 use Rattle.slave_sends.specs.Laws.{ReadsMessages}
@@ -45,7 +45,7 @@ use Rattle.slave_course.proofs.Counting.{inputs_go_on}
 use Rattle.slave_links.specs.Links.{interval_of}
 use Rattle.slave_links.proofs.Planned.{input_intervals}
 use Rattle.slave_data.specs.Made.{setup_at, parties, slaves, kept_note, store_of, machines}
-use Rattle.slave_data.specs.Holding.{has_ended, HoldsItsModel, HoldsItsInputs}
+use Rattle.slave_data.specs.Holding.{HoldsItsModel, HoldsItsInputs}
 use Rattle.slave_data.proofs.Ended.{ended_alive}
 
 -- ---- the slave of a number
@@ -56,7 +56,7 @@ slave_got slaves s d pos e = by (s == 0) (grind (arith, nat_tests, pos)) e
     by true f g = absurd cc
     by false f g = g
 
-pub of_scenario : (sc : Scenario) (other : SlaveDesc) → IsScenario sc → (s : ℕ) → logs.IsSlaveOf (parties sc other) s → plans.IsSlaveOf sc s (slave_numbered sc other s)
+pub of_scenario : (sc : Scenario) (other : SlaveDesc) → IsScenario sc → (s : ℕ) → logs.IsSlaveOf (parties sc other) s → plans.IsScenarioSlave sc s (slave_numbered sc other s)
 of_scenario sc other ok s is = record { sound = ok; slave = slave_got sc.slaves s (slave_numbered sc other s) is.0 ((has_parties sc other ok message_in).desc s is) }
 
 pub reads : (sc : Scenario) (other : SlaveDesc) → ReadsMessages (parties sc other)
@@ -82,17 +82,17 @@ stepping t h = grind arith
 not_computing : (t : State) → t ≡ Alive → t ≡ Computing → ⊥
 not_computing t e f = absurd cc
 
-computing_during : (x : Setup) (session : Session) (p : Plant) → IsRegularIn x session p → (has_ended session ≡ true → p.state ≡ Alive) → p.state ≡ Computing → is_during session ≡ true
+computing_during : (x : SlaveSetup) (session : Session) (p : Plant) → IsRegularIn x session p → (has_ended session ≡ true → p.state ≡ Alive) → p.state ≡ Computing → is_during session ≡ true
 computing_during x Before p r f e = absurd (not_computing p.state (ap (λ q. q.state) r) e)
 computing_during x (During master id) p r f e = refl
 computing_during x (After master id) p r f e = absurd (not_computing p.state (f refl) e)
 
-here_kept : (ordinal : ℕ) (o : Option wired.Kept) → is_of ordinal o ≡ true → (k : wired.Kept) × (o ≡ Some k) × (k.ordinal ≡ ordinal)
+here_kept : (ordinal : ℕ) (o : Option wired.Kept) → is_kept_of ordinal o ≡ true → (k : wired.Kept) × (o ≡ Some k) × (k.ordinal ≡ ordinal)
 here_kept ordinal None h = absurd cc
 here_kept ordinal (Some k) h = (k, refl, eqb-true k.ordinal ordinal h)
 
 module _ (sc : Scenario) (other : SlaveDesc) (ok : IsScenario sc) (s : ℕ) (is : logs.IsSlaveOf (parties sc other) s) where
-  abbrev X : Setup
+  abbrev X : SlaveSetup
   X = setup_at sc other s
 
   abbrev Plant' : List LogEntry → Plant
@@ -101,8 +101,8 @@ module _ (sc : Scenario) (other : SlaveDesc) (ok : IsScenario sc) (s : ℕ) (is 
   pub during_step : (log : List LogEntry) → (Plant' log).state ≡ Computing → is_during (at (machine X) (parties sc other) s log).slave.session ≡ true
   during_step log e =
       let w = parties sc other in
-      let Q : Slave Plant → Type 0 = λ y. IsRegularIn X y.session y.inner in
-      let reg = subst Q (sym (slave_is (machine X) w s log)) (regular_after X (events w s log)) in
+      let Q : SlaveState Plant → Type 0 = λ y. IsRegularIn X y.session y.inner in
+      let reg = subst Q (sym (slave_is (machine X) w s log)) (regular_after X (events_of_slave w s log)) in
       computing_during X (at (machine X) w s log).slave.session (Plant' log) reg (λ h. ended_alive X s w (reads sc other) log h) e
 
   pub fed_here : (log : List LogEntry) → IsAskedInOrder (parties sc other) (slaves sc other) s log → (Plant' log).state ≡ Computing → Fed (slaves sc other) (machines sc other) s (bench_at X (parties sc other) s log) (store_of sc other (Plant' log))
@@ -112,10 +112,10 @@ module _ (sc : Scenario) (other : SlaveDesc) (ok : IsScenario sc) (s : ℕ) (is 
       let of = of_scenario sc other ok s is in
       let g = inputs_go_on sc s X w of (reads sc other) log o.asked (during_step log e) (ap is_past e) id in
       let q = input_intervals sc s X.desc of id f in
-      let spaced : interval input id p.wires.changes ≡ interval_of sc id = g.spaced ∙ q in
+      let spaced : entry_interval input id p.wires.changes ≡ interval_of sc id = g.spaced ∙ q in
       let all = are_there X w s log e in
       let here = among input id (is_here p.wires p.steps) p.wires.changes all (g.known ∙ f) in
-      let k = here_kept (in_run input id p.wires.changes p.steps) (kept_under id p.wires.kept) here in
+      let k = here_kept (steps_in_run input id p.wires.changes p.steps) (kept_under id p.wires.kept) here in
       (kept_note sc other p id k.0, ap (option_map (kept_note sc other p id)) k.1, ap (λ j. length p.earlier * (sc.steps / interval_of sc id + 1) + j) (k.2 ∙ ap (λ i. p.steps / i) spaced))
 
 pub holds_inputs : HoldsItsInputs

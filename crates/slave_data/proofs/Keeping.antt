@@ -29,16 +29,16 @@ use Rattle.log_spec.specs.Messages.{Note, Role, Request, Answer, Value, Else, Cl
 use Rattle.log_spec.specs.Log as logs
 use Rattle.log_spec.specs.Log.{Parties, same, role_heard}
 use Rattle.log_spec.specs.Moves.{Move, Asks, Comes, Tells, Hears, Brings, Turns, Rests, Other, got_move, move}
-use Rattle.lockstep_laws.specs.Asked.{Asked}
+use Rattle.lockstep_laws.specs.Asked.{AskedAsPlanned}
 use Rattle.model_laws.specs.Machines.{KeptNote, KeepsIt}
 use Rattle.slave_states.specs.Transitions.{next_on}
-use Rattle.slave_wiring.specs.Changes.{input, has_id, interval, in_run, ordinal, source}
+use Rattle.slave_wiring.specs.Changes.{input, has_id, entry_interval, steps_in_run, ordinal, source}
 use Rattle.slave_wiring.specs.Payloads as wired
-use Rattle.slave_wiring.specs.Payloads.{Wires, kept_under, is_address, input_types, is_here, is_wanted, brought, data_message}
-use Rattle.slave_spec.specs.declared.words.Setup.{Setup}
+use Rattle.slave_wiring.specs.Payloads.{WiringState, kept_under, is_address, input_types, is_here, is_wanted, brought, data_message}
+use Rattle.slave_spec.specs.declared.words.SlaveSetup.{SlaveSetup}
 use Rattle.slave_spec.specs.declared.words.Asked as ask
 use Rattle.slave_spec.specs.declared.words.Asked.TheVariants.{Change, Setting, Question}
-use Rattle.slave_spec.specs.declared.words.Request as req
+use Rattle.slave_spec.specs.declared.words.SlaveRequest as req
 use Rattle.slave_spec.specs.declared.words.Session.{Session}
 use Rattle.slave_spec.specs.declared.words.Session.TheVariants.{Before, During, After}
 use Rattle.slave_spec.specs.declared.words.Fate.{Fate}
@@ -46,9 +46,9 @@ use Rattle.slave_spec.specs.declared.words.Fate.TheVariants.{Dropped, Refused, R
 use Rattle.slave_spec.specs.Heard as spec
 use Rattle.slave_spec.specs.Heard.{number_at, bytes_at, heard_in}
 use Rattle.slave_spec.specs.Transport as transport
-use Rattle.slave_spec.specs.Transport.{Slave}
+use Rattle.slave_spec.specs.Transport.{SlaveState}
 use Rattle.slave_spec.specs.Plants.{Plant}
-use Rattle.slave_spec.specs.Requests.{refusal, state_or, changed_to, set_to, accepted, answered}
+use Rattle.slave_spec.specs.Requests.{refusal, state_or, changed_to, set_to, accepted, answered_plant}
 use Rattle.slave_spec.specs.Turns as turns
 use Rattle.slave_spec.specs.Turns.{Act, Stay, Wait, Fault, Step, Pass, act, turned, is_listening, brings}
 use Rattle.slave_spec.specs.Slaves.{machine}
@@ -154,7 +154,7 @@ listening_past : (t : State) → is_listening t ≡ true → is_past t ≡ true
 listening_past t h = grind (arith, nat_tests)
 
 module _ (sc : Scenario) (other : SlaveDesc) (s : ℕ) where
-  abbrev X : Setup
+  abbrev X : SlaveSetup
   X = setup_at sc other s
 
   abbrev W : Parties
@@ -201,11 +201,11 @@ module _ (sc : Scenario) (other : SlaveDesc) (s : ℕ) where
   accepted_less p (Question inf.Error) = λ id. inl refl
   accepted_less p (Question (inf.Log category most)) = λ id. inl refl
 
-  answered_less : (p : Plant) (asked : ask.Asked) (o : Option ErrorCode) → Less p (answered X p asked o).after
+  answered_less : (p : Plant) (asked : ask.Asked) (o : Option ErrorCode) → Less p (answered_plant X p asked o).after
   answered_less p asked (Some code) = λ id. inl refl
   answered_less p asked None = accepted_less p asked
 
-  request_less : (x : Slave Plant) (from : Address) (r : req.Request) (f : Fate) → Less x.inner (transport.after_request (machine X) x from r f).inner
+  request_less : (x : SlaveState Plant) (from : Address) (r : req.SlaveRequest) (f : Fate) → Less x.inner (transport.after_request (machine X) x from r f).inner
   request_less x from r Dropped = λ id. inl refl
   request_less x from r (Refused code) = λ id. inl refl
   request_less x from r Repeated = λ id. inl refl
@@ -218,7 +218,7 @@ module _ (sc : Scenario) (other : SlaveDesc) (s : ℕ) where
   turned_kept p (Step x) id = refl
   turned_kept p Pass id = refl
 
-  tick_kept : (x : Slave Plant) (id : ℕ) → kept (transport.after_turn (machine X) x).inner id ≡ kept x.inner id
+  tick_kept : (x : SlaveState Plant) (id : ℕ) → kept (transport.after_turn (machine X) x).inner id ≡ kept x.inner id
   tick_kept x id = by (transport.is_open x.session)
     where
       by : (b : Bool) → kept (if b then record x { quiet = transport.quieter x.quiet; inner = (turns.turns X (transport.quieter x.quiet) x.inner).after } else x).inner id ≡ kept x.inner id
@@ -237,9 +237,9 @@ module _ (sc : Scenario) (other : SlaveDesc) (s : ℕ) where
     with_kept p k = record p { wires = record p.wires { kept = k ∷ p.wires.kept } }
 
     abbrev kept_now : Plant → (id : ℕ) → List ℕ → wired.Kept
-    kept_now p id payload = record { id = id; ordinal = in_run input id p.wires.changes p.steps; payload = payload }
+    kept_now p id payload = record { id = id; ordinal = steps_in_run input id p.wires.changes p.steps; payload = payload }
 
-    wanted_kept : (log : List LogEntry) → Asked ((slaves sc other).may s) (at (machine X) W s log).desk.served → is_during (at (machine X) W s log).slave.session ≡ true → is_listening (machine_at log).state ≡ true
+    wanted_kept : (log : List LogEntry) → AskedAsPlanned ((slaves sc other).may s) (at (machine X) W s log).desk.served → is_during (at (machine X) W s log).slave.session ≡ true → is_listening (machine_at log).state ≡ true
         → (from : Address) (number id : ℕ) (payload : List ℕ) (n : Note) → IsData id n number id payload → is_wanted X.desc (machine_at log).wires from number id payload (machine_at log).steps ≡ true
         → KeepsIt (slaves sc other) (machines sc other) id n (bench_at X W s log) (store_of sc other (with_kept (machine_at log) (kept_now (machine_at log) id payload)))
     wanted_kept log o e l from number id payload n given h =
@@ -249,18 +249,18 @@ module _ (sc : Scenario) (other : SlaveDesc) (s : ℕ) where
         let g = inputs_go_on sc s X W of (reads sc other) log o e (listening_past p.state l) id in
         let planned = sym g.known ∙ w.0 in
         let q = input_intervals sc s X.desc of id planned in
-        let spaced : interval input id p.wires.changes ≡ interval_of sc id = g.spaced ∙ q in
+        let spaced : entry_interval input id p.wires.changes ≡ interval_of sc id = g.spaced ∙ q in
         let r = length p.earlier in
         let every = interval_of sc id in
         let here = r * (sc.steps / every + 1) + p.steps / every in
-        let run : in_run input id p.wires.changes p.steps ≡ p.steps / every = ap (λ i. p.steps / i) spaced in
-        let whole : r * (sc.steps / every + 1) + in_run input id p.wires.changes p.steps ≡ here = ap (λ j. r * (sc.steps / every + 1) + j) run in
+        let run : steps_in_run input id p.wires.changes p.steps ≡ p.steps / every = ap (λ i. p.steps / i) spaced in
+        let whole : r * (sc.steps / every + 1) + steps_in_run input id p.wires.changes p.steps ≡ here = ap (λ j. r * (sc.steps / every + 1) + j) run in
         let counted : ordinal input id p.wires.changes p.steps ≡ here = g.numbered planned ∙ ap (λ i. r * (sc.steps / i + 1) + p.steps / i) q in
         let number' : n.number ≡ here % 65536 = sym given.numbered ∙ eqb-true number (ordinal input id p.wires.changes p.steps % 65536) w.1 ∙ ap (λ j. j % 65536) counted in
         let note : record { number = here % 65536; message = data_message (here % 65536) id payload } ≡ n
         = ap (λ j. record { number = j; message = data_message j id payload }) (sym number') ∙ ap (λ z. record { number = n.number; message = z }) (sym given.message) in
-        let found : kept (record p { wires = record p.wires { kept = record { id = id; ordinal = in_run input id p.wires.changes p.steps; payload = payload } ∷ p.wires.kept } }) id ≡ Some (kept_note sc other p id (record { id = id; ordinal = in_run input id p.wires.changes p.steps; payload = payload }))
-        = ap (λ b. option_map (kept_note sc other p id) (if b then Some (record { id = id; ordinal = in_run input id p.wires.changes p.steps; payload = payload }) else kept_under id p.wires.kept)) (eq-eqb id id refl) in
+        let found : kept (record p { wires = record p.wires { kept = record { id = id; ordinal = steps_in_run input id p.wires.changes p.steps; payload = payload } ∷ p.wires.kept } }) id ≡ Some (kept_note sc other p id (record { id = id; ordinal = steps_in_run input id p.wires.changes p.steps; payload = payload }))
+        = ap (λ b. option_map (kept_note sc other p id) (if b then Some (record { id = id; ordinal = steps_in_run input id p.wires.changes p.steps; payload = payload }) else kept_under id p.wires.kept)) (eq-eqb id id refl) in
         record {
           kept = found ∙ ap (λ j. Some (record { ordinal = j; note = record { number = j % 65536; message = data_message (j % 65536) id payload } })) whole ∙ ap (λ z. Some (record { ordinal = here; note = z })) note;
           number = number';
@@ -269,7 +269,7 @@ module _ (sc : Scenario) (other : SlaveDesc) (s : ℕ) where
     other_kept : (p : Plant) (k : wired.Kept) (i : ℕ) → (k.id == i) ≡ false → kept (record p { wires = record p.wires { kept = k ∷ p.wires.kept } }) i ≡ kept p i
     other_kept p k i e = ap (λ b. option_map (kept_note sc other p i) (if b then Some k else kept_under i p.wires.kept)) e
 
-    brought_kept : (log : List LogEntry) → Asked ((slaves sc other).may s) (at (machine X) W s log).desk.served → is_during (at (machine X) W s log).slave.session ≡ true
+    brought_kept : (log : List LogEntry) → AskedAsPlanned ((slaves sc other).may s) (at (machine X) W s log).desk.served → is_during (at (machine X) W s log).slave.session ≡ true
         → (from : Address) (number id : ℕ) (payload : List ℕ) (n : Note) → IsData id n number id payload → Kept' log id n (brings X from number id payload (machine_at log))
     brought_kept log o e from number id payload n given i = by (is_listening p.state) refl
       where
@@ -277,7 +277,7 @@ module _ (sc : Scenario) (other : SlaveDesc) (s : ℕ) where
         p = (at (machine X) W s log).slave.inner
 
         k : wired.Kept
-        k = record { id = id; ordinal = in_run input id p.wires.changes p.steps; payload = payload }
+        k = record { id = id; ordinal = steps_in_run input id p.wires.changes p.steps; payload = payload }
 
         new : Plant
         new = record p { wires = record p.wires { kept = k ∷ p.wires.kept } }
@@ -302,10 +302,10 @@ module _ (sc : Scenario) (other : SlaveDesc) (s : ℕ) where
     open_during (During master id) h = refl
     open_during (After master id) h = absurd cc
 
-    data_kept : (log : List LogEntry) → Asked ((slaves sc other).may s) (at (machine X) W s log).desk.served → (from : Address) (number i : ℕ) (payload : List ℕ) (id : ℕ) (n : Note) → IsData id n number i payload → Kept' log id n (transport.after_heard (machine X) (at (machine X) W s log).slave from (spec.Brings number i payload)).inner
+    data_kept : (log : List LogEntry) → AskedAsPlanned ((slaves sc other).may s) (at (machine X) W s log).desk.served → (from : Address) (number i : ℕ) (payload : List ℕ) (id : ℕ) (n : Note) → IsData id n number i payload → Kept' log id n (transport.after_heard (machine X) (at (machine X) W s log).slave from (spec.Brings number i payload)).inner
     data_kept log o from number i payload id n given = by (transport.is_open x.session) refl
       where
-        x : Slave Plant
+        x : SlaveState Plant
         x = (at (machine X) W s log).slave
 
         by : (b : Bool) → transport.is_open x.session ≡ b → Kept' log id n (if b then record x { inner = brings X from number i payload x.inner } else x).inner
@@ -328,7 +328,7 @@ module _ (sc : Scenario) (other : SlaveDesc) (s : ℕ) where
     sent_keeps Rests log = λ id. refl
     sent_keeps Other log = refl
 
-    heard_keeps : (at' from : Address) (bytes : List ℕ) (k : Role) (h : spec.Heard) → role_heard W bytes ≡ k → spec.heard bytes ≡ h → Agree k h → (log : List LogEntry) → Asked ((slaves sc other).may s) (at (machine X) W s log).desk.served
+    heard_keeps : (at' from : Address) (bytes : List ℕ) (k : Role) (h : spec.Heard) → role_heard W bytes ≡ k → spec.heard bytes ≡ h → Agree k h → (log : List LogEntry) → AskedAsPlanned ((slaves sc other).may s) (at (machine X) W s log).desk.served
         → (b : Bool) → same at' (W.slave s) ≡ b → Keeps' (got_move W s at' from k) log (if b then transport.after_heard (machine X) (at (machine X) W s log).slave from h else (at (machine X) W s log).slave).inner
     heard_keeps at' from bytes (Request receiver n) (spec.Asks r) e f a log o true g = let P : Bool → Type 0 = λ b. Keeps' (if b then Comes from receiver n else Other) log (transport.after_heard (machine X) (at (machine X) W s log).slave from (spec.Asks r)).inner in subst P (sym g) (request_less (at (machine X) W s log).slave from r (transport.fate (machine X) (at (machine X) W s log).slave from r))
     heard_keeps at' from bytes (Request receiver n) h e f a log o false g = let P : Bool → Type 0 = λ b. Keeps' (if b then Comes from receiver n else Other) log (at (machine X) W s log).slave.inner in subst P (sym g) refl
@@ -357,7 +357,7 @@ module _ (sc : Scenario) (other : SlaveDesc) (s : ℕ) where
     chosen_inner true y x = refl
     chosen_inner false y x = refl
 
-    keeps_at : (e : LogEntry) (log : List LogEntry) → Asked ((slaves sc other).may s) (at (machine X) W s log).desk.served → Keeps' (move W s e) log (next (machine X) W s e (at (machine X) W s log)).slave.inner
+    keeps_at : (e : LogEntry) (log : List LogEntry) → AskedAsPlanned ((slaves sc other).may s) (at (machine X) W s log).desk.served → Keeps' (move W s e) log (next (machine X) W s e (at (machine X) W s log)).slave.inner
     keeps_at (Sent from to bytes) log o = sent_keeps (move W s (Sent from to bytes)) log
     keeps_at (Got at' from bytes) log o =
         let x = at (machine X) W s log in

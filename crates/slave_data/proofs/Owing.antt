@@ -19,26 +19,26 @@ use Rattle.log_spec.specs.Log as logs
 use Rattle.log_spec.specs.Log.{Parties, same, role_heard}
 use Rattle.log_spec.specs.Moves.{Move, Asks, Comes, Tells, Hears, Brings, Turns, Rests, Other, move}
 use Rattle.lockstep_laws.specs.Slaves.{Post, tail}
-use Rattle.lockstep_laws.specs.Asked.{Asked}
+use Rattle.lockstep_laws.specs.Asked.{AskedAsPlanned}
 use Rattle.model_laws.specs.Machines.{values_owed}
 use Rattle.slave_wiring.specs.Changes.{Change, Set, Restart, output, entries, has_id, ids, target, ordinal, is_due}
-use Rattle.slave_wiring.specs.Payloads.{kind_of, output_value, bytes_for, payload, data_message}
+use Rattle.slave_wiring.specs.Payloads.{port_type, output_value, bytes_for, payload, data_message}
 use Rattle.slave_wiring.specs.Refusals.{port_with}
 use Rattle.std.proofs.lemmas.List.{length-reverse}
-use Rattle.slave_spec.specs.declared.words.Setup.{Setup}
+use Rattle.slave_spec.specs.declared.words.SlaveSetup.{SlaveSetup}
 use Rattle.slave_spec.specs.declared.words.Session.{Session}
 use Rattle.slave_spec.specs.declared.words.Session.TheVariants.{Before, During, After}
 use Rattle.slave_spec.specs.declared.words.Fate.{Fate}
 use Rattle.slave_spec.specs.declared.words.Fate.TheVariants.{Dropped, Refused, Repeated, Taken}
-use Rattle.slave_spec.specs.declared.words.Request as req
+use Rattle.slave_spec.specs.declared.words.SlaveRequest as req
 use Rattle.slave_spec.specs.Heard as spec
 use Rattle.slave_spec.specs.Transport as transport
-use Rattle.slave_spec.specs.Transport.{Slave, Parcel, parcel_send}
+use Rattle.slave_spec.specs.Transport.{SlaveState, Parcel, parcel_send}
 use Rattle.slave_spec.specs.Plants.{Plant}
 use Rattle.slave_spec.specs.Requests.{answers}
-use Rattle.slave_spec.specs.Turns.{Act, Stay, Wait, Fault, Step, Pass, act, parcel, data_parcels, is_sending, values, turned, turns}
+use Rattle.slave_spec.specs.Turns.{Act, Stay, Wait, Fault, Step, Pass, act, parcel, data_parcels, is_sending_state, values, turned, turns}
 use Rattle.slave_spec.specs.Slaves.{machine}
-use Rattle.slave_meets.specs.Desks.{post, Both, got, ticked, sent_next, at, events, AreElse, IsKept, IsReadBack}
+use Rattle.slave_meets.specs.Desks.{post, Both, got, ticked, sent_next, at, events_of_slave, AreElse, AreAnswersKept, IsReadBack}
 use Rattle.slave_meets.proofs.Meets.{slave_is}
 use Rattle.slave_sends.specs.Laws.{ReadsMessages}
 use Rattle.slave_sends.specs.Ranges.{AreBytes, SettingFits, SettingsFit, PayloadsFit, SlaveFits}
@@ -76,18 +76,18 @@ pub notices_none : (w : Parties) (id : ℕ) (ps : List Send) → AreElse w ps �
 notices_none w id [] h = tt
 notices_none w id (p ∷ ps) h = (ap (value_of_id id) h.0, notices_none w id ps h.1)
 
-module _ (s : Setup) (w : Parties) (id : ℕ) where
-  kept_none : (to : Address) (served : List transport.Exchange) → IsKept w to served → NoneOf w id (map post (transport.again to served))
+module _ (s : SlaveSetup) (w : Parties) (id : ℕ) where
+  kept_none : (to : Address) (served : List transport.Exchange) → AreAnswersKept w to served → NoneOf w id (map post (transport.again to served))
   kept_none to [] h = tt
   kept_none to (e ∷ served) h = (ap (value_of_id id) h, tt)
 
-  request_none : (x : Slave Plant) → IsReadBack (machine s) w x → (from : Address) (bytes : List ℕ) (r : req.Request) → spec.heard bytes ≡ spec.Asks r → (f : Fate) → NoneOf w id (map post (transport.request_sends (machine s) x from r f))
+  request_none : (x : SlaveState Plant) → IsReadBack (machine s) w x → (from : Address) (bytes : List ℕ) (r : req.SlaveRequest) → spec.heard bytes ≡ spec.Asks r → (f : Fate) → NoneOf w id (map post (transport.request_sends (machine s) x from r f))
   request_none x rb from bytes r e Dropped = tt
   request_none x rb from bytes r e (Refused code) = (ap (value_of_id id) (rb.refusal bytes r e from code), tt)
   request_none x rb from bytes r e Repeated = kept_none from x.served (rb.again from)
   request_none x rb from bytes r e Taken = let h = rb.answer bytes r e from in (ap (value_of_id id) h.0, notices_none w id (transport.notice_sends from r.receiver (answers s r.asked x.inner).notices) h.1)
 
-  pub heard_none : (x : Slave Plant) → IsReadBack (machine s) w x → (from : Address) (bytes : List ℕ) (h : spec.Heard) → spec.heard bytes ≡ h → NoneOf w id (map post (transport.heard_sends (machine s) x from h))
+  pub heard_none : (x : SlaveState Plant) → IsReadBack (machine s) w x → (from : Address) (bytes : List ℕ) (h : spec.Heard) → spec.heard bytes ≡ h → NoneOf w id (map post (transport.heard_sends (machine s) x from h))
   heard_none x rb from bytes (spec.Asks r) e = request_none x rb from bytes r e (transport.fate (machine s) x from r)
   heard_none x rb from bytes (spec.Brings number i payload') e = tt
   heard_none x rb from bytes spec.Nothing e = tt
@@ -125,7 +125,7 @@ payload_are d id changes vs = parts_are (bytes_for d.outputs vs) (reverse (entri
 
 pub payload_length : (d : SlaveDesc) (id : ℕ) (changes : List Change) (vs : List ℤ) → PayloadsFit changes → length (payload d id changes vs) ≤ 64
 payload_length d id changes vs h =
-    let all = parts_length (bytes_for d.outputs vs) 8 (reverse (entries output id changes)) (λ vr. value_length (kind_of (port_with vr d.outputs)) (output_value vr d.outputs vs)) in
+    let all = parts_length (bytes_for d.outputs vs) 8 (reverse (entries output id changes)) (λ vr. value_length (port_type (port_with vr d.outputs)) (output_value vr d.outputs vs)) in
     omega (arith, all, length-reverse (entries output id changes), h id)
 
 pub all_chosen : (t f : ℕ → Bool) (xs : List ℕ) → list_all f xs ≡ true → list_all f (filter t xs) ≡ true
@@ -171,7 +171,7 @@ module _ (w : Parties) (rd : ReadsMessages w) (d : SlaveDesc) (changes : List Ch
   data_none : list_all (is_other id) (ids output changes) ≡ true → NoneOf w id (map post (map parcel_send (data_parcels d changes steps vs)))
   data_none h = parcels_none (filter (λ i. is_due output i changes steps) (ids output changes)) (all_chosen (λ i. is_due output i changes steps) (is_other id) (ids output changes) h)
 
-pub sending_past : (t : State) → is_sending t ≡ true → is_past t ≡ true
+pub sending_past : (t : State) → is_sending_state t ≡ true → is_past t ≡ true
 sending_past t h = grind arith
 
 pub not_same : (i id n m : ℕ) → i < 65536 → n ≡ m → (i ≡ id → n ≡ m → ⊥) → ((nat_lt i 65536) && (if i == id then false else true)) ≡ true
@@ -190,16 +190,16 @@ module _ (sc : Scenario) (other : SlaveDesc) (ok : IsScenario sc) (s : ℕ) (is 
   abbrev W : Parties
   W = parties sc other
 
-  abbrev X : Setup
+  abbrev X : SlaveSetup
   X = setup_at sc other s
 
   -- where data is sent
-  sent_none : (log : List LogEntry) → Asked (may sc s X.desc) (at (machine X) W s log).desk.served → is_during (at (machine X) W s log).slave.session ≡ true → (let p = (at (machine X) W s log).slave.inner in is_sending p.state ≡ true → NoneOf W id (map post (map parcel_send (data_parcels X.desc p.wires.changes p.steps (values p.model)))))
+  sent_none : (log : List LogEntry) → AskedAsPlanned (may sc s X.desc) (at (machine X) W s log).desk.served → is_during (at (machine X) W s log).slave.session ≡ true → (let p = (at (machine X) W s log).slave.inner in is_sending_state p.state ≡ true → NoneOf W id (map post (map parcel_send (data_parcels X.desc p.wires.changes p.steps (values p.model)))))
   sent_none log a e h =
       let p = (at (machine X) W s log).slave.inner in
       let of = of_scenario sc other ok s is in
-      let P : Slave Plant → Type 0 = SlaveFits in
-      let fits = subst P (sym (slave_is (machine X) W s log)) (in_range X (events W s log)) in
+      let P : SlaveState Plant → Type 0 = SlaveFits in
+      let fits = subst P (sym (slave_is (machine X) W s log)) (in_range X (events_of_slave W s log)) in
       let known : (i : ℕ) → has_id output i p.wires.changes ≡ true → is_other id i ≡ true
       = λ i k.
       let g = outputs_go_on sc s X W of (reads sc other) log a e (sending_past p.state h) i in
@@ -207,12 +207,12 @@ module _ (sc : Scenario) (other : SlaveDesc) (ok : IsScenario sc) (s : ℕ) (is 
       not_same i id (sender_of sc i) s (small_ids p.wires.changes i fits.inner.settings k) mine (λ q r. no' (ap (sender_of sc) (sym q) ∙ r)) in
       data_none W (reads sc other) X.desc p.wires.changes p.steps (values p.model) fits.inner.payloads id (all_ids output (is_other id) p.wires.changes known)
 
-  parcels_owed : (log : List LogEntry) → Asked (may sc s X.desc) (at (machine X) W s log).desk.served → is_during (at (machine X) W s log).slave.session ≡ true → (a : Act) → NoneOf W id (map post (map parcel_send (turned X (at (machine X) W s log).slave.inner a).parcels))
+  parcels_owed : (log : List LogEntry) → AskedAsPlanned (may sc s X.desc) (at (machine X) W s log).desk.served → is_during (at (machine X) W s log).slave.session ≡ true → (a : Act) → NoneOf W id (map post (map parcel_send (turned X (at (machine X) W s log).slave.inner a).parcels))
   parcels_owed log o e Stay = tt
   parcels_owed log o e (Wait left) = tt
   parcels_owed log o e (Fault code) = tt
   parcels_owed log o e (Step x) = tt
-  parcels_owed log o e Pass = by (is_sending p.state) (sent_none log o e)
+  parcels_owed log o e Pass = by (is_sending_state p.state) (sent_none log o e)
     where
       p : Plant
       p = (at (machine X) W s log).slave.inner
@@ -221,7 +221,7 @@ module _ (sc : Scenario) (other : SlaveDesc) (ok : IsScenario sc) (s : ℕ) (is 
       by true f = f refl
       by false f = tt
 
-  turn_none : (log : List LogEntry) → Asked (may sc s X.desc) (at (machine X) W s log).desk.served → (let x = (at (machine X) W s log).slave in (session : Session) → x.session ≡ session → NoneOf W id (map post (transport.turn_sends (machine X) session x)))
+  turn_none : (log : List LogEntry) → AskedAsPlanned (may sc s X.desc) (at (machine X) W s log).desk.served → (let x = (at (machine X) W s log).slave in (session : Session) → x.session ≡ session → NoneOf W id (map post (transport.turn_sends (machine X) session x)))
   turn_none log o Before e = tt
   turn_none log o (During master i) e =
       let x = (at (machine X) W s log).slave in
@@ -254,22 +254,22 @@ module _ (sc : Scenario) (other : SlaveDesc) (ok : IsScenario sc) (s : ℕ) (is 
   sent_served Rests x = refl
   sent_served Other x = refl
 
-  pub none_at : (log : List LogEntry) → Asked (may sc s X.desc) (at (machine X) W s log).desk.served → NoneOf W id (at (machine X) W s log).desk.owed
+  pub none_at : (log : List LogEntry) → AskedAsPlanned (may sc s X.desc) (at (machine X) W s log).desk.served → NoneOf W id (at (machine X) W s log).desk.owed
   none_at [] a = tt
   none_at (Sent from to bytes ∷ log) a =
       let x = at (machine X) W s log in
       let mv = move W s (Sent from to bytes) in
-      let P : List logs.Decision → Type 0 = Asked (may sc s X.desc) in
+      let P : List logs.DecidedRequest → Type 0 = AskedAsPlanned (may sc s X.desc) in
       sent_next_none mv x (none_at log (subst P (sent_served mv x) a))
   none_at (Got at' from bytes ∷ log) a = by (same at' (W.slave s)) (λ b. none_at log b) a
     where
-      by : (b : Bool) → (Asked (may sc s X.desc) (at (machine X) W s log).desk.served → NoneOf W id (at (machine X) W s log).desk.owed) → Asked (may sc s X.desc) (if b then got (machine X) W s from bytes (at (machine X) W s log) else at (machine X) W s log).desk.served → NoneOf W id (if b then got (machine X) W s from bytes (at (machine X) W s log) else at (machine X) W s log).desk.owed
+      by : (b : Bool) → (AskedAsPlanned (may sc s X.desc) (at (machine X) W s log).desk.served → NoneOf W id (at (machine X) W s log).desk.owed) → AskedAsPlanned (may sc s X.desc) (if b then got (machine X) W s from bytes (at (machine X) W s log) else at (machine X) W s log).desk.served → NoneOf W id (if b then got (machine X) W s from bytes (at (machine X) W s log) else at (machine X) W s log).desk.owed
       by true f b = heard_none X W id (at (machine X) W s log).slave ((sends_back X W s (reads sc other)).sends log) from bytes (spec.heard bytes) refl
       by false f b = f b
   none_at (Idle at' ∷ log) a = none_at log a
   none_at (Turn at' ∷ log) a = by (same at' (W.slave s)) (λ b. none_at log b) a
     where
-      by : (b : Bool) → (Asked (may sc s X.desc) (at (machine X) W s log).desk.served → NoneOf W id (at (machine X) W s log).desk.owed) → Asked (may sc s X.desc) (if b then ticked (machine X) W s (at (machine X) W s log) else at (machine X) W s log).desk.served → NoneOf W id (if b then ticked (machine X) W s (at (machine X) W s log) else at (machine X) W s log).desk.owed
+      by : (b : Bool) → (AskedAsPlanned (may sc s X.desc) (at (machine X) W s log).desk.served → NoneOf W id (at (machine X) W s log).desk.owed) → AskedAsPlanned (may sc s X.desc) (if b then ticked (machine X) W s (at (machine X) W s log) else at (machine X) W s log).desk.served → NoneOf W id (if b then ticked (machine X) W s (at (machine X) W s log) else at (machine X) W s log).desk.owed
       by true f b = turn_none log b (at (machine X) W s log).slave.session refl
       by false f b = f b
 

@@ -11,27 +11,22 @@ use Rattle.lockstep.specs.Lockstep.{shown_at}
 use Rattle.log_spec.specs.Log.{Parties, IsSlaveOf}
 use Rattle.log_spec.specs.Moves.{Move, Asks, Comes, Tells, Hears, Brings, Turns, Rests, Other, move}
 use Rattle.lockstep_laws.specs.Steps.{Bench, StepsOn}
-use Rattle.lockstep_laws.specs.Cast.{Slaves}
+use Rattle.lockstep_laws.specs.Cast.{ConversingSlaves}
 use Rattle.model_laws.specs.Machines.{Store, Machines, values_owed, Fed, IsAskedInOrder, KeepsIt}
-use Rattle.slave_spec.specs.declared.words.Setup.{Setup}
+use Rattle.slave_spec.specs.declared.words.SlaveSetup.{SlaveSetup}
 use Rattle.slave_spec.specs.declared.words.Session.{Session}
 use Rattle.slave_spec.specs.declared.words.Session.TheVariants.{Before, During, After}
-use Rattle.slave_spec.specs.Slaves.{machine}
+use Rattle.slave_spec.specs.Slaves.{machine, has_ended}
 use Rattle.slave_meets.specs.Desks.{at}
 use Rattle.slave_sends.specs.Laws.{ReadsMessages}
 use Rattle.slave_holds.specs.Models.{plant_at}
 use Rattle.slave_data.specs.Made.{parties, slaves, machines}
 
-abbrev pub has_ended : Session → Bool
-has_ended Before = false
-has_ended (During master id) = false
-has_ended (After master id) = true
-
 abbrev pub EndedIsAlive : Type 0
-EndedIsAlive = (x : Setup) (s : ℕ) (w : Parties) → ReadsMessages w → (log : List LogEntry) → has_ended (at (machine x) w s log).slave.session ≡ true → (plant_at x w s log).state ≡ Alive
+EndedIsAlive = (x : SlaveSetup) (s : ℕ) (w : Parties) → ReadsMessages w → (log : List LogEntry) → has_ended (at (machine x) w s log).slave.session ≡ true → (plant_at x w s log).state ≡ Alive
 
 -- the parts of what a slave is to hold that speak of its model alone
-pub record HoldsModel (w : Parties) (x : Slaves) (m : Machines) (s : ℕ) : Type 0 where
+pub record HoldsModel (w : Parties) (x : ConversingSlaves) (m : Machines) (s : ℕ) : Type 0 where
   pub fresh : (log : List LogEntry) → IsAskedInOrder w x s log → (x.bench s log).steps ≡ 0 → (ps : List ℤ) × ((m.store s log).model ≡ start (m.desc s).kind ps)
   pub tuned : (log : List LogEntry) → IsAskedInOrder w x s log → (x.bench s log).steps ≡ 0 → m.tuned s ((x.bench s log).resets + 1) (x.desk s log).served ≡ true
       → (m.store s log).model ≡ start (m.desc s).kind (parameters m.sc s (m.desc s) ((x.bench s log).resets + 1))
@@ -40,11 +35,11 @@ pub record HoldsModel (w : Parties) (x : Slaves) (m : Machines) (s : ℕ) : Type
   pub still : (e : LogEntry) (log : List LogEntry) → IsAskedInOrder w x s (e ∷ log) → 0 < (x.bench s (e ∷ log)).steps → (x.bench s (e ∷ log)).steps ≡ (x.bench s log).steps → (m.store s (e ∷ log)).model ≡ (m.store s log).model
 
 -- and the parts that speak of what feeds it
-pub record HoldsInputs (w : Parties) (x : Slaves) (m : Machines) (s : ℕ) : Type 0 where
+pub record HoldsInputs (w : Parties) (x : ConversingSlaves) (m : Machines) (s : ℕ) : Type 0 where
   pub begins : (id : ℕ) → (m.store s []).kept id ≡ None
   pub fed : (e : LogEntry) (log : List LogEntry) → IsAskedInOrder w x s log → StepsOn (x.bench s log) (x.bench s (e ∷ log)) → Fed x m s (x.bench s log) (m.store s log)
 
-abbrev pub OfScenario : (Parties → Slaves → Machines → ℕ → Type 0) → Type 0
+abbrev pub OfScenario : (Parties → ConversingSlaves → Machines → ℕ → Type 0) → Type 0
 OfScenario Has = (sc : Scenario) (other : SlaveDesc) → IsScenario sc → (s : ℕ) → IsSlaveOf (parties sc other) s → Has (parties sc other) (slaves sc other) (machines sc other) s
 
 abbrev pub HoldsItsModel : Type 0
@@ -59,7 +54,7 @@ OwesItsOwn = OfScenario (λ w x m s. (log : List LogEntry) → IsAskedInOrder w 
 
 -- What is kept goes on by the entry: a data message that comes is kept for the ordinal that is wanted, or nothing changes under its
 -- id; a request leaves what is kept, or takes it away.
-abbrev pub KeepsOn : Slaves → Machines → Move → Bench → (u v : Store) → Type 0
+abbrev pub KeepsOn : ConversingSlaves → Machines → Move → Bench → (u v : Store) → Type 0
 KeepsOn x m (Asks n) b u v = v ≡ u
 KeepsOn x m (Comes from receiver n) b u v = (id : ℕ) → (v.kept id ≡ u.kept id) ⊎ (v.kept id ≡ None)
 KeepsOn x m (Tells to bytes) b u v = v ≡ u

@@ -4,14 +4,14 @@ use Rattle.pdu_layout.specs.Reading.{message_in}
 use Rattle.slave_desc.specs.declared.descriptions.SlaveDesc.{SlaveDesc}
 use Rattle.scenario.specs.declared.scenarios.Scenario.{Scenario}
 use Rattle.log_spec.specs.Log.{Parties}
-use Rattle.lockstep_laws.specs.Cast.{Slaves}
+use Rattle.lockstep_laws.specs.Cast.{ConversingSlaves}
 use Rattle.model_laws.specs.Ordinals.{ordinals_in_run}
 use Rattle.model_laws.specs.Machines.{KeptNote, Store, Machines}
 use Rattle.model_laws.specs.Scenarios.{slave_numbered, parties_of}
 use Rattle.slave_wiring.specs.Changes.{input, has_id}
 use Rattle.slave_wiring.specs.Payloads as wired
 use Rattle.slave_wiring.specs.Payloads.{kept_under, payload, data_message}
-use Rattle.slave_spec.specs.declared.words.Setup.{Setup}
+use Rattle.slave_spec.specs.declared.words.SlaveSetup.{SlaveSetup}
 use Rattle.slave_spec.specs.Plants.{Plant}
 use Rattle.slave_meets.specs.Laws.{slaves_made}
 use Rattle.slave_holds.specs.Models.{plant_at}
@@ -21,14 +21,14 @@ use Rattle.slave_links.specs.Links.{interval_of, sender_of}
 
 module _ (sc : Scenario) (other : SlaveDesc) where
   -- slave s as it is made; other stands for slaves that are not there
-  abbrev pub setup_at : ℕ → Setup
+  abbrev pub setup_at : ℕ → SlaveSetup
   setup_at s = record { desc = slave_numbered sc other s; micro = sc.micro }
 
   -- the master and the slaves, with datagrams read as the messages that they spell
   abbrev pub parties : Parties
   parties = parties_of sc other message_in
 
-  abbrev pub slaves : Slaves
+  abbrev pub slaves : ConversingSlaves
   slaves = slaves_made parties setup_at sc.steps sc.runs (λ s. may sc s (slave_numbered sc other s)) (λ s. opened sc s (slave_numbered sc other s))
 
   -- what is kept under a data id, with its ordinal over all runs

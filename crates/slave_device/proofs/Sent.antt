@@ -15,7 +15,7 @@ use Rattle.slave_spec.specs.Turns.{parcel}
 use Rattle.slave_device.specs.Sending.{data_sends}
 
 -- values that fit the types of the ports fit the ports
-pub ports_fit : (ports : List Port) (vs : List ℤ) → length vs ≡ length ports → all_fit (map (λ port. port.kind) ports) vs ≡ true → payloads.all_fit ports vs ≡ true
+pub ports_fit : (ports : List Port) (vs : List ℤ) → length vs ≡ length ports → all_fit (map (λ port. port.kind) ports) vs ≡ true → payloads.values_fit_ports ports vs ≡ true
 ports_fit [] [] e h = refl
 ports_fit (p ∷ ps) (v ∷ vs) e h = both _ _ _ (λ x. ports_fit ps vs (omega (arith, e)) x) h
   where

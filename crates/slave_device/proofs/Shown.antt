@@ -13,7 +13,7 @@ use Rattle.fixed_models.specs.declared.kinds.Kind.TheVariants as kinds
 use Rattle.fixed_models.specs.Kinds.{nth, output_count}
 use Rattle.fixed_models.specs.Steps.{outputs, all_fit}
 use Rattle.fixed_models.specs.Views.{View, value_at}
-use Rattle.slave_spec.specs.declared.words.Setup.{Setup}
+use Rattle.slave_spec.specs.declared.words.SlaveSetup.{SlaveSetup}
 use Rattle.slave_spec.specs.Turns.{values}
 use Rattle.slave_device.specs.Made.{IsMade}
 
@@ -62,7 +62,7 @@ unfit zero (t ∷ ts) [] a b e = absurd (omega (arith, b))
 unfit (suc i) [] vs a b e = absurd (omega (arith, a))
 unfit (suc i) (t ∷ ts) [] a b e = absurd (omega (arith, b))
 
-module _ (s : Setup) (model : View) (made : IsMade s model) where
+module _ (s : SlaveSetup) (model : View) (made : IsMade s model) where
   pub type_count : length model.types ≡ length s.desc.outputs
   type_count = ap length made.types ∙ length-map s.desc.outputs (λ p. p.kind)
 
@@ -77,7 +77,7 @@ err_is : (b : Bool) (y : ℤ) (code : FaultCode) → Err code ≡ (if b then Ok 
 err_is true y code e = absurd cc
 err_is false y code e = (refl, cc)
 
-pub shown_more : (s : Setup) (model : View) (room : List ℤ) (i : ℕ) (z : ℤ) → IsMade s model → i < length s.desc.outputs → Ok z ≡ value_at model i → Shown model room i
+pub shown_more : (s : SlaveSetup) (model : View) (room : List ℤ) (i : ℕ) (z : ℤ) → IsMade s model → i < length s.desc.outputs → Ok z ≡ value_at model i → Shown model room i
     → Shown model (set room i z) (i + 1)
 shown_more s model room i z made lt e h =
     let p = ok_is _ z (nth (values model) i) e in
@@ -93,12 +93,12 @@ shown_more s model room i z made lt e h =
     ∙ sym (take_more (values model) i (pos 0) b) in
     record { fit = subst (λ (k : ℕ). all_fit (take k model.types) (take k (values model)) ≡ true) (sym one) fit; shown = shown; size = length-set room i z ∙ h.size }
 
-pub unshown : (s : Setup) (model : View) (i : ℕ) (code : FaultCode) → IsMade s model → i < length s.desc.outputs → Err code ≡ value_at model i → (all_fit model.types (values model) ≡ false) × (code ≡ OutOfRange)
+pub unshown : (s : SlaveSetup) (model : View) (i : ℕ) (code : FaultCode) → IsMade s model → i < length s.desc.outputs → Err code ≡ value_at model i → (all_fit model.types (values model) ≡ false) × (code ≡ OutOfRange)
 unshown s model i code made lt e =
     let p = err_is _ (nth (values model) i) code e in
     (unfit i model.types (values model) (omega (arith, type_count s model made)) (omega (arith, value_count s model made)) p.0, p.1)
 
-pub shown_all : (s : Setup) (model : View) (room : List ℤ) (n : ℕ) → IsMade s model → n ≡ length s.desc.outputs → Shown model room n → (all_fit model.types (values model) ≡ true) × (take n room ≡ values model) × (n ≤ 8)
+pub shown_all : (s : SlaveSetup) (model : View) (room : List ℤ) (n : ℕ) → IsMade s model → n ≡ length s.desc.outputs → Shown model room n → (all_fit model.types (values model) ≡ true) × (take n room ≡ values model) × (n ≤ 8)
 shown_all s model room n made e h =
     let a = take_all n model.types (omega (arith, type_count s model made)) in
     let b = take_all n (values model) (omega (arith, value_count s model made)) in

@@ -4,7 +4,7 @@ use Rattle.dcp_types.specs.declared.addresses.Address.{Address}
 use Rattle.dcp_ends.specs.Events.{Send}
 use Rattle.slave_log.specs.declared.lines.LogLine.{LogLine}
 use Rattle.slave_log.specs.Shelves.{Log, noted, to_send}
-use Rattle.slave_spec.specs.declared.words.Note.{Note}
+use Rattle.slave_spec.specs.declared.words.LogRemark.{LogRemark}
 use Rattle.slave_spec.specs.Transport.{Notice, notice_sends}
 use Rattle.slave_spec.specs.Requests.{notices, told}
 
@@ -13,7 +13,7 @@ told_then to id None rest = refl
 told_then to id (Some entry) rest = refl
 
 -- two entries, one after the other
-pub both_told : (to : Address) (id : ℕ) (log : Log) (step : ℕ) (n m : Note)
+pub both_told : (to : Address) (id : ℕ) (log : Log) (step : ℕ) (n m : LogRemark)
     → notice_sends to id (notices log step (n ∷ [])) ++ notice_sends to id (notices (noted log n.category n.level n.code step) step (m ∷ [])) ≡ notice_sends to id (notices log step (n ∷ m ∷ []))
 both_told to id log step n m = told_then to id (to_send log n.category n.level n.code step) _
 

@@ -5,8 +5,8 @@ use Rattle.dcp_types.specs.declared.error_codes.ErrorCode.{ErrorCode}
 use Rattle.fixed_models.specs.Kinds.{takes, has_inputs}
 use Rattle.fixed_models.specs.Views.{View, moved}
 use Rattle.slave_desc.specs.declared.descriptions.SlaveDesc.{SlaveDesc}
-use Rattle.slave_wiring.specs.Payloads.{Wires}
-use Rattle.slave_spec.specs.declared.words.Setup.{Setup}
+use Rattle.slave_wiring.specs.Payloads.{WiringState}
+use Rattle.slave_spec.specs.declared.words.SlaveSetup.{SlaveSetup}
 use Rattle.slave_spec.specs.declared.words.Asked.{Asked}
 use Rattle.slave_spec.specs.Plants.{Plant, output_types}
 use Rattle.slave_spec.specs.Requests.{refusal, accepted}
@@ -17,7 +17,7 @@ use Rattle.slave_device.specs.declared.acts.Act.{Act}
 use Rattle.slave_device.specs.declared.acts.Act.TheVariants as acts
 
 -- the machine stands where the definition has it
-pub record DeviceFor {W : Type 0} (wires : W → SlaveDesc → Wires → Type 0) (c : Device W) (p : Plant) : Type 0 where
+pub record DeviceFor {W : Type 0} (wires : W → SlaveDesc → WiringState → Type 0) (c : Device W) (p : Plant) : Type 0 where
   pub state : c.state ≡ p.state
   pub steps : c.steps ≡ p.steps
   pub outputs_sent : c.outputs_sent ≡ p.outputs_sent
@@ -28,7 +28,7 @@ pub record DeviceFor {W : Type 0} (wires : W → SlaveDesc → Wires → Type 0)
   pub log : c.log ≡ p.log
 
 -- what a turn does, where a step was taken by the model
-abbrev pub Acts : {W : Type 0} → (W → SlaveDesc → Wires → Type 0) → Device W → Plant → Act → turns.Act → Type 0
+abbrev pub Acts : {W : Type 0} → (W → SlaveDesc → WiringState → Type 0) → Device W → Plant → Act → turns.Act → Type 0
 Acts wires c p acts.Stay Stay = DeviceFor wires c p
 Acts wires c p (acts.Wait left) (Wait n) = (left ≡ n) × DeviceFor wires c p
 Acts wires c p (acts.Fault code) (Fault e) = (code ≡ e) × DeviceFor wires c p

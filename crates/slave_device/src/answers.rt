@@ -13,7 +13,7 @@ use crate::devices::Device;
 use dcp_types::{Address, ErrorCode, State};
 use pdu_layout::{Cfg, Inf, Stc};
 use slave_core::{Outbox, put_ack, put_entries, put_error, put_nack, put_state};
-use slave_spec::{Asked, Request};
+use slave_spec::{Asked, SlaveRequest};
 use slave_wiring::Wired;
 
 impl<W: Wired> Device<W> {
@@ -22,7 +22,7 @@ impl<W: Wired> Device<W> {
     pub(crate) fn inform(
         &mut self,
         from: Address,
-        request: &Request,
+        request: &SlaveRequest,
         asked: &Inf,
         next: u16,
         out: &mut Outbox,
@@ -62,7 +62,7 @@ impl<W: Wired> Device<W> {
     fn refuse(
         &mut self,
         from: Address,
-        request: &Request,
+        request: &SlaveRequest,
         next: u16,
         code: ErrorCode,
         out: &mut Outbox,
@@ -80,7 +80,7 @@ impl<W: Wired> Device<W> {
     }
 
     /// Acknowledges a change of state, and notes it.
-    fn accept_change(&mut self, from: Address, request: &Request, next: u16, out: &mut Outbox)
+    fn accept_change(&mut self, from: Address, request: &SlaveRequest, next: u16, out: &mut Outbox)
         requires { out.old ≡ [] }
         ensures after { (p : Plant) → DeviceFor W.stands self.old p → DeviceFor W.stands self.new (answered_with Ack (note 1 3 (state_code p.state) ∷ []) p).after }
         ensures sends { (p : Plant) → DeviceFor W.stands self.old p → out.new ≡ answering from request.now next (answered_with Ack (note 1 3 (state_code p.state) ∷ []) p) }
@@ -96,7 +96,7 @@ impl<W: Wired> Device<W> {
     pub(crate) fn answer_change(
         &mut self,
         from: Address,
-        request: &Request,
+        request: &SlaveRequest,
         named: State,
         body: &Stc,
         next: u16,
@@ -125,7 +125,7 @@ impl<W: Wired> Device<W> {
     pub(crate) fn answer_setting(
         &mut self,
         from: Address,
-        request: &Request,
+        request: &SlaveRequest,
         body: &Cfg,
         next: u16,
         out: &mut Outbox,

@@ -4,7 +4,7 @@ ghost use Rattle.std.specs.Prelude.{◌≡◌, Some, None, MatchResult};
 ghost use Rattle.dcp_types.specs.declared.states.State.{State};
 ghost use Rattle.slave_spec.specs.Transport.{Ack, is_last};
 ghost use Rattle.slave_spec.specs.Plants.{Plant};
-ghost use Rattle.slave_spec.specs.Requests.{refusal, accepted, reset, change_refusal, changed_to};
+ghost use Rattle.slave_spec.specs.Requests.{refusal, accepted, plant_reset, change_refusal, changed_to};
 ghost use Rattle.slave_device.specs.Devices.{DeviceFor};
 
 use crate::devices::Device;
@@ -38,7 +38,7 @@ impl<W: Wired> Device<W> {
 
     /// Begins another run: the parameters and the configuration stay, and the ordinals go on.
     fn reset(&mut self, next: State)
-        ensures stands { (p : Plant) → DeviceFor W.stands self.old p → DeviceFor W.stands self.new (reset p next) }
+        ensures stands { (p : Plant) → DeviceFor W.stands self.old p → DeviceFor W.stands self.new (plant_reset p next) }
         ensures setup { self.new.works.setup ≡ self.old.works.setup }
     {
         self.wiring.restart(self.steps);

@@ -1,9 +1,9 @@
 //! The machine of a slave, and how it is made.
 
-ghost use Rattle.std.specs.Prelude.{◌≡◌, ◌≤◌, IfOk, map};
+ghost use Rattle.std.specs.Prelude.{◌≡◌, ◌≤◌, IfOk};
 ghost use Rattle.slave_desc.specs.Descriptions.{IsDesc};
-ghost use Rattle.slave_spec.specs.Plants.{start, model_with, output_types};
-ghost use Rattle.slave_wiring.specs.Payloads.{bare};
+ghost use Rattle.slave_spec.specs.Plants.{start_plant, model_with, output_types};
+ghost use Rattle.slave_wiring.specs.Payloads.{bare_wires};
 ghost use Rattle.slave_device.specs.Made.{IsMade};
 
 use crate::works::Works;
@@ -11,7 +11,7 @@ use dcp_types::{DataType, FaultCode, OutOfMemory, State};
 use fixed_models::{Model, ModelRefused};
 use slave_desc::SlaveDesc;
 use slave_log::SlaveLog;
-use slave_spec::Setup;
+use slave_spec::SlaveSetup;
 use slave_wiring::Wired;
 use std::alloc::Global;
 
@@ -65,14 +65,14 @@ impl<W: Wired> Device<W> {
     /// at first, and a wiring that was told nothing. It takes all the memory that it needs.
     pub fn new(
         alloc: Global,
-        setup: Setup,
+        setup: SlaveSetup,
         model: Model,
         wiring: W,
     ) -> Result<Device<W>, OutOfMemory>
         requires made { IsMade setup model }
         requires model { model ≡ model_with setup.desc setup.desc.parameters }
-        requires wiring { W.stands wiring setup.desc bare }
-        ensures stands { IfOk result (λ d. DeviceFor W.stands d (start setup)) }
+        requires wiring { W.stands wiring setup.desc bare_wires }
+        ensures stands { IfOk result (λ d. DeviceFor W.stands d (start_plant setup)) }
         ensures setup { IfOk result (λ d. d.works.setup ≡ setup) }
     {
         let log = SlaveLog::new(alloc)?;
@@ -98,11 +98,11 @@ impl<W: Wired> Device<W> {
     ) -> Result<Device<W>, OutOfMemory>
         requires desc { IsDesc desc }
         requires micro { (1 ≤ micro) × (micro ≤ 1000) }
-        requires wiring { W.stands wiring desc bare }
-        ensures stands { IfOk result (λ d. DeviceFor W.stands d (start (record { desc = desc; micro = micro }))) }
+        requires wiring { W.stands wiring desc bare_wires }
+        ensures stands { IfOk result (λ d. DeviceFor W.stands d (start_plant (record { desc = desc; micro = micro }))) }
         ensures setup { IfOk result (λ d. d.works.setup ≡ record { desc = desc; micro = micro }) }
     {
         let model = model_of(alloc, &desc)?;
-        Device::new(alloc, Setup { desc, micro }, model, wiring)
+        Device::new(alloc, SlaveSetup { desc, micro }, model, wiring)
     }
 }

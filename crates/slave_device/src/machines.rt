@@ -7,7 +7,7 @@ use crate::devices::Device;
 use dcp_types::{Address, ErrorCode, FaultCode, State};
 use pdu_layout::Stc;
 use slave_core::{Inner, Outbox};
-use slave_spec::{Asked, Request};
+use slave_spec::{Asked, SlaveRequest};
 use slave_wiring::Wired;
 
 impl<W: Wired> Inner for Device<W> {
@@ -48,7 +48,13 @@ impl<W: Wired> Inner for Device<W> {
         }
     }
 
-    fn answer(&mut self, from: Address, request: &Request, next: u16, out: &mut Outbox) -> bool {
+    fn answer(
+        &mut self,
+        from: Address,
+        request: &SlaveRequest,
+        next: u16,
+        out: &mut Outbox,
+    ) -> bool {
         match &request.asked {
             Asked::Change {
                 named,

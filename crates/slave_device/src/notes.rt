@@ -11,11 +11,11 @@ use crate::devices::Device;
 use dcp_types::Address;
 use slave_core::{Outbox, put_noted};
 use slave_log::{Noted, SlaveLog};
-use slave_spec::Note;
+use slave_spec::LogRemark;
 use slave_wiring::Wired;
 
 /// Notes an entry, and puts its notice where it is to be sent.
-fn note(log: &mut SlaveLog, step: u32, entry: Note, to: Address, id: u8, out: &mut Outbox)
+fn note(log: &mut SlaveLog, step: u32, entry: LogRemark, to: Address, id: u8, out: &mut Outbox)
     requires room { length out.old < 21 }
     requires category { (1 ≤ entry.category) × (entry.category ≤ 3) }
     requires level { (1 ≤ entry.level) × (entry.level ≤ 3) }
@@ -46,7 +46,7 @@ impl<W: Wired> Device<W> {
         ensures count { length out.new ≤ length out.old + 1 }
         ensures same { self.new.works ≡ self.old.works }
     {
-        let entry = Note {
+        let entry = LogRemark {
             category,
             level,
             code,

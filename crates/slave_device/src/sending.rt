@@ -6,7 +6,7 @@ ghost use Rattle.slave_wiring.specs.Changes.{output, ids};
 ghost use Rattle.slave_wiring.specs.Payloads as payloads;
 ghost use Rattle.slave_spec.specs.Transport.{parcel_send};
 ghost use Rattle.slave_spec.specs.Plants.{Plant};
-ghost use Rattle.slave_spec.specs.Sound.{IsSound};
+ghost use Rattle.slave_spec.specs.Sound.{IsSoundPlant};
 ghost use Rattle.slave_spec.specs.Turns.{values, data_parcels, parcels};
 ghost use Rattle.slave_device.specs.Devices.{DeviceFor};
 ghost use Rattle.slave_device.specs.Sending.{data_sends};
@@ -37,7 +37,7 @@ impl<W: Wired> Device<W> {
     fn send_one(&self, target: usize, values: &[i128], out: &mut Outbox)
         requires room { length out.old < 21 }
         ensures out { (p : Plant) → DeviceFor W.stands self.now p → (id : ℕ) → slice_get (ids output p.wires.changes) target ≡ Some id
-            → payloads.all_fit self.now.works.setup.desc.outputs values.now ≡ true
+            → payloads.values_fit_ports self.now.works.setup.desc.outputs values.now ≡ true
             → out.new ≡ out.old ++ data_sends self.now.works.setup.desc p.wires.changes p.steps values.now (id ∷ []) }
         ensures few { length out.new ≤ length out.old + 1 }
     {
@@ -52,7 +52,7 @@ impl<W: Wired> Device<W> {
     /// Puts the data messages that are due, of these outputs.
     fn send_values(&self, values: &[i128], out: &mut Outbox)
         requires out { out.old ≡ [] }
-        requires fit { payloads.all_fit self.now.works.setup.desc.outputs values.now ≡ true }
+        requires fit { payloads.values_fit_ports self.now.works.setup.desc.outputs values.now ≡ true }
         ensures out { (p : Plant) → DeviceFor W.stands self.now p
             → out.new ≡ map parcel_send (data_parcels self.now.works.setup.desc p.wires.changes p.steps values.now) }
         ensures few { length out.new ≤ 17 }
@@ -78,7 +78,7 @@ impl<W: Wired> Device<W> {
     /// Puts the data messages of a sending state.
     pub(crate) fn send_outputs(&self, out: &mut Outbox)
         requires { out.old ≡ [] }
-        ensures out { (p : Plant) → DeviceFor W.stands self.now p → IsSound p → out.new ≡ map parcel_send (parcels self.now.works.setup p) }
+        ensures out { (p : Plant) → DeviceFor W.stands self.now p → IsSoundPlant p → out.new ≡ map parcel_send (parcels self.now.works.setup p) }
         ensures few { length out.new ≤ 17 }
     {
         match self.state {

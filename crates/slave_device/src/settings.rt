@@ -73,10 +73,10 @@ impl<W: Wired> Device<W> {
     }
 
     /// Forgets the configuration, and takes the parameters of the description.
-    #[tactic(auto, unfolding(slave_wiring::specs::Refusals::refusal))]
+    #[tactic(auto, unfolding(slave_wiring::specs::Refusals::refusal_of_setting))]
     fn clear(&mut self)
         ensures stands { (p : Plant) → DeviceFor W.stands self.old p → DeviceFor W.stands self.new (set_to self.old.works.setup p Cfg.Clear) }
-        ensures never { (d : SlaveDesc) (changes : List Change) → wiring.refusal d changes Cfg.Clear ≡ None }
+        ensures never { (d : SlaveDesc) (changes : List Change) → wiring.refusal_of_setting d changes Cfg.Clear ≡ None }
         ensures setup { self.new.works.setup ≡ self.old.works.setup }
     {
         self.works

@@ -2,8 +2,8 @@
 
 ghost use Rattle.std.specs.Prelude.{◌≡◌, ◌≤◌, [], IfOk};
 ghost use Rattle.slave_desc.specs.Descriptions.{IsDesc};
-ghost use Rattle.slave_wiring.specs.Payloads.{bare};
-ghost use Rattle.slave_spec.specs.Slaves.{rules_from};
+ghost use Rattle.slave_wiring.specs.Payloads.{bare_wires};
+ghost use Rattle.slave_spec.specs.Slaves.{slave_rules_from};
 
 use crate::devices::Device;
 use dcp_ends::End;
@@ -23,9 +23,9 @@ pub fn slave_over<W: Wired>(
 ) -> Result<SlaveCore<Device<W>>, OutOfMemory>
     requires desc { IsDesc desc }
     requires micro { (1 ≤ micro) × (micro ≤ 1000) }
-    requires wiring { W.stands wiring desc bare }
+    requires wiring { W.stands wiring desc bare_wires }
     ensures stands { IfOk result (λ s. ⟦<SlaveCore<Device<W>> as End>⟧.stands s []) }
-    ensures rules { IfOk result (λ s. ⟦<SlaveCore<Device<W>> as End>⟧.rules s ≡ rules_from (record { desc = desc; micro = micro })) }
+    ensures rules { IfOk result (λ s. ⟦<SlaveCore<Device<W>> as End>⟧.rules s ≡ slave_rules_from (record { desc = desc; micro = micro })) }
     ensures made { IfOk result (λ s. ⟦<SlaveCore<Device<W>> as End>⟧.made s ≡ record { desc = desc; micro = micro }) }
     ensures quiet { IfOk result (λ s. ⟦<SlaveCore<Device<W>> as End>⟧.outs s ≡ []) }
 {

@@ -5,7 +5,7 @@ ghost use Rattle.slave_states.specs.Transitions.{is_passing};
 ghost use Rattle.slave_spec.specs.Transport.{send, notice_message, notice_sends, turned_sends, Changed};
 ghost use Rattle.slave_spec.specs.Plants.{Plant};
 ghost use Rattle.slave_spec.specs.Requests.{note};
-ghost use Rattle.slave_spec.specs.Sound.{IsSound};
+ghost use Rattle.slave_spec.specs.Sound.{IsSoundPlant};
 ghost use Rattle.slave_spec.specs.Turns.{act, is_missed, sent_after, turned, reached};
 ghost use Rattle.slave_spec.specs.Turns as turns;
 ghost use Rattle.slave_device.specs.Devices.{DeviceFor, Acts};
@@ -14,7 +14,7 @@ use crate::acts::Act;
 use crate::devices::Device;
 use dcp_types::{Address, FaultCode, State};
 use slave_core::{Outbox, put_changed};
-use slave_spec::Note;
+use slave_spec::LogRemark;
 use slave_states::next_on_turn;
 use slave_wiring::Wired;
 
@@ -107,7 +107,7 @@ impl<W: Wired> Device<W> {
     }
 
     /// Tells the state that was reached, and notes first what has led to it.
-    fn reach_by(&mut self, first: Note, master: Address, id: u8, out: &mut Outbox)
+    fn reach_by(&mut self, first: LogRemark, master: Address, id: u8, out: &mut Outbox)
         requires out { out.old ≡ [] }
         requires category { (1 ≤ first.category) × (first.category ≤ 3) }
         requires level { (1 ≤ first.level) × (first.level ≤ 3) }
@@ -129,7 +129,7 @@ impl<W: Wired> Device<W> {
     {
         self.state = State::ErrorHandling;
         self.fault = Some(code);
-        let first = Note {
+        let first = LogRemark {
             category: 3,
             level: 1,
             code: code.code() as u8,
@@ -146,7 +146,7 @@ impl<W: Wired> Device<W> {
     {
         self.state = State::Computed;
         self.steps = self.steps.saturating_add(1);
-        let first = Note {
+        let first = LogRemark {
             category: 2,
             level: 3,
             code: 0,
@@ -173,7 +173,7 @@ impl<W: Wired> Device<W> {
     pub(crate) fn pass_on(&mut self, master: Address, id: u8, out: &mut Outbox)
         requires { out.old ≡ [] }
         ensures after { (p : Plant) → DeviceFor W.stands self.old p → DeviceFor W.stands self.new (turned self.old.works.setup p turns.Pass).after }
-        ensures sends { (p : Plant) → DeviceFor W.stands self.old p → IsSound p → out.new ≡ turned_sends master id (turned self.old.works.setup p turns.Pass) }
+        ensures sends { (p : Plant) → DeviceFor W.stands self.old p → IsSoundPlant p → out.new ≡ turned_sends master id (turned self.old.works.setup p turns.Pass) }
         ensures setup { self.new.works.setup ≡ self.old.works.setup }
     {
         self.send_outputs(out);

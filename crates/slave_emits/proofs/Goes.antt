@@ -8,20 +8,20 @@ use Rattle.scenario.specs.declared.scenarios.Scenario.{Scenario}
 use Rattle.scenario.specs.Sound.{IsScenario}
 use Rattle.log_spec.specs.Messages.{Role, Request, Answer, Value, Else}
 use Rattle.log_spec.specs.Log as logs
-use Rattle.log_spec.specs.Log.{Parties, same, role_heard, Decision}
+use Rattle.log_spec.specs.Log.{Parties, same, role_heard, DecidedRequest}
 use Rattle.log_spec.specs.Moves.{Move, Asks, Comes, Tells, Hears, Brings, Turns, Rests, Other, sent_move, got_move, move}
 use Rattle.lockstep_laws.specs.Slaves.{Post, SlaveMay}
-use Rattle.lockstep_laws.specs.Asked.{Asked}
-use Rattle.lockstep_laws.specs.Steps.{Bench, Idles, Shows, StepsOn, Fails}
-use Rattle.lockstep_laws.specs.Cast.{Slaves}
+use Rattle.lockstep_laws.specs.Asked.{AskedAsPlanned}
+use Rattle.lockstep_laws.specs.Steps.{Bench, Idles, BenchShows, StepsOn, BenchFails}
+use Rattle.lockstep_laws.specs.Cast.{ConversingSlaves}
 use Rattle.model_laws.specs.Machines.{Store, Machines, values_owed, Emits, Keeps, IsAskedInOrder}
-use Rattle.slave_spec.specs.declared.words.Setup.{Setup}
+use Rattle.slave_spec.specs.declared.words.SlaveSetup.{SlaveSetup}
 use Rattle.slave_spec.specs.declared.words.Fate.{Fate}
 use Rattle.slave_spec.specs.declared.words.Fate.TheVariants.{Dropped, Refused, Repeated, Taken}
-use Rattle.slave_spec.specs.declared.words.Request as req
+use Rattle.slave_spec.specs.declared.words.SlaveRequest as req
 use Rattle.slave_spec.specs.Heard as spec
 use Rattle.slave_spec.specs.Transport as transport
-use Rattle.slave_spec.specs.Transport.{Slave}
+use Rattle.slave_spec.specs.Transport.{SlaveState}
 use Rattle.slave_spec.specs.Plants.{Plant}
 use Rattle.slave_spec.specs.Slaves.{machine}
 use Rattle.slave_meets.specs.Plants.{bench_of}
@@ -52,11 +52,11 @@ abbrev pub IsTurn : Move → Type 0
 IsTurn Turns = Unit {0}
 IsTurn _ = ⊥
 
-record OwesAtTurn (w : Parties) (x : Slaves) (m : Machines) (s : ℕ) (b c : Bench) (u : Store) (owed : List Post) : Type 0 where
-  pub quiet : Idles b c ⊎ (StepsOn b c ⊎ Fails b c) → (id : ℕ) → values_owed w id owed ≡ []
-  pub shows : Shows b c → (id : ℕ) → m.from id ≡ s → Emits w x m s id b u owed
+record OwesAtTurn (w : Parties) (x : ConversingSlaves) (m : Machines) (s : ℕ) (b c : Bench) (u : Store) (owed : List Post) : Type 0 where
+  pub quiet : Idles b c ⊎ (StepsOn b c ⊎ BenchFails b c) → (id : ℕ) → values_owed w id owed ≡ []
+  pub shows : BenchShows b c → (id : ℕ) → m.from id ≡ s → Emits w x m s id b u owed
 
-whole : (w : Parties) (x : Slaves) (m : Machines) (s : ℕ) (mv : Move) (b c : Bench) (u v : Store) (owed : List Post) → KeepsOn x m mv b u v → (IsIdle mv → (id : ℕ) → values_owed w id owed ≡ []) → (IsTurn mv → OwesAtTurn w x m s b c u owed) → Keeps w x m s mv b c u v owed
+whole : (w : Parties) (x : ConversingSlaves) (m : Machines) (s : ℕ) (mv : Move) (b c : Bench) (u v : Store) (owed : List Post) → KeepsOn x m mv b u v → (IsIdle mv → (id : ℕ) → values_owed w id owed ≡ []) → (IsTurn mv → OwesAtTurn w x m s b c u owed) → Keeps w x m s mv b c u v owed
 whole w x m s (Asks n) b c u v owed k f g = k
 whole w x m s (Comes from receiver n) b c u v owed k f g = (f tt, k)
 whole w x m s (Tells to bytes) b c u v owed k f g = k
@@ -122,23 +122,23 @@ module _ (sc : Scenario) (other : SlaveDesc) (ok : IsScenario sc) (s : ℕ) (is 
   abbrev W : Parties
   W = parties sc other
 
-  abbrev X : Setup
+  abbrev X : SlaveSetup
   X = setup_at sc other s
 
-  abbrev Allowed : List Decision → Type 0
-  Allowed es = Asked (may sc s X.desc) es
+  abbrev Allowed : List DecidedRequest → Type 0
+  Allowed es = AskedAsPlanned (may sc s X.desc) es
 
   abbrev here : List LogEntry → Both Plant
   here log = at (machine X) W s log
 
   -- who was asked in order was so before
-  fate_less : (x : Slave Plant) (es : List Decision) (n : _) (r : req.Request) (f : Fate) → Allowed (served_by (machine X) x es n r f) → Allowed es
+  fate_less : (x : SlaveState Plant) (es : List DecidedRequest) (n : _) (r : req.SlaveRequest) (f : Fate) → Allowed (served_by (machine X) x es n r f) → Allowed es
   fate_less x es n r Taken a = a.1
   fate_less x es n r Dropped a = a
   fate_less x es n r (Refused code) a = a
   fate_less x es n r Repeated a = a
 
-  heard_less : (x : Slave Plant) (es : List Decision) (from : Address) (k : Role) (h : spec.Heard) → Allowed (served_after (machine X) x es from k h) → Allowed es
+  heard_less : (x : SlaveState Plant) (es : List DecidedRequest) (from : Address) (k : Role) (h : spec.Heard) → Allowed (served_after (machine X) x es from k h) → Allowed es
   heard_less x es from (Request receiver n) (spec.Asks r) a = fate_less x es n r (transport.fate (machine X) x from r) a
   heard_less x es from (Request receiver n) (spec.Brings number i payload) a = a
   heard_less x es from (Request receiver n) spec.Nothing a = a
@@ -214,7 +214,7 @@ module _ (sc : Scenario) (other : SlaveDesc) (ok : IsScenario sc) (s : ℕ) (is 
       by false g = g
   turn_owes (Turn at') log a h = by (same at' (W.slave s)) h
     where
-      x : Slave Plant
+      x : SlaveState Plant
       x = (here log).slave
 
       n : ℕ

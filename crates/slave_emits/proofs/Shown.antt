@@ -20,25 +20,25 @@ use Rattle.log_spec.specs.Messages.{Note}
 use Rattle.log_spec.specs.Log as logs
 use Rattle.log_spec.specs.Log.{Parties}
 use Rattle.lockstep_laws.specs.Slaves.{Post}
-use Rattle.lockstep_laws.specs.Asked.{Asked}
-use Rattle.lockstep_laws.specs.Steps.{Show, Step, Bench, Idles, Shows, StepsOn, Fails}
+use Rattle.lockstep_laws.specs.Asked.{AskedAsPlanned}
+use Rattle.lockstep_laws.specs.Steps.{Show, Step, Bench, Idles, BenchShows, StepsOn, BenchFails}
 use Rattle.model_laws.specs.Machines.{values_owed, carried, Emits}
 use Rattle.model_laws.specs.Scenarios.{slave_numbered}
-use Rattle.slave_wiring.specs.Changes.{Change, output, entries, has_id, target_given, newest, target, interval, ordinal, is_due}
+use Rattle.slave_wiring.specs.Changes.{Change, output, entries, has_id, target_given, newest_change, target, entry_interval, ordinal, is_due}
 use Rattle.slave_wiring.specs.Payloads.{bytes_for, payload}
-use Rattle.slave_spec.specs.declared.words.Setup.{Setup}
+use Rattle.slave_spec.specs.declared.words.SlaveSetup.{SlaveSetup}
 use Rattle.slave_spec.specs.declared.words.Session.{Session}
 use Rattle.slave_spec.specs.declared.words.Session.TheVariants.{Before, During, After}
 use Rattle.slave_spec.specs.Transport as transport
-use Rattle.slave_spec.specs.Transport.{Slave, parcel_send}
+use Rattle.slave_spec.specs.Transport.{SlaveState, parcel_send}
 use Rattle.slave_spec.specs.Plants.{Plant, output_types}
-use Rattle.slave_spec.specs.Sound.{IsSound}
+use Rattle.slave_spec.specs.Sound.{IsSoundPlant}
 use Rattle.slave_spec.specs.Turns as turns
-use Rattle.slave_spec.specs.Turns.{Act, Stay, Wait, Fault, Pass, act, data_parcels, is_sending, values, turned}
+use Rattle.slave_spec.specs.Turns.{Act, Stay, Wait, Fault, Pass, act, data_parcels, is_sending_state, values, turned}
 use Rattle.slave_spec.specs.Slaves.{machine}
 use Rattle.slave_spec.proofs.Soundness.{sound_after}
 use Rattle.slave_meets.specs.Plants.{under_way, events_turned}
-use Rattle.slave_meets.specs.Desks.{post, at, events}
+use Rattle.slave_meets.specs.Desks.{post, at, events_of_slave}
 use Rattle.slave_meets.specs.Benches.{bench_at, events_tick, events_done}
 use Rattle.slave_meets.proofs.Meets.{slave_is}
 use Rattle.slave_meets.proofs.Plants.{act_step}
@@ -47,7 +47,7 @@ use Rattle.slave_sends.proofs.Sending.{in_range, sends_back}
 use Rattle.slave_holds.proofs.Fresh.{begins_fresh}
 use Rattle.slave_tuned.proofs.Parameters.{have_parameters}
 use Rattle.course_spec.specs.Courses.{may}
-use Rattle.slave_course.specs.Wired.{planned_changes, restarted, is_past, is_during}
+use Rattle.slave_course.specs.Wired.{planned_changes, changes_restarted, is_past, is_during}
 use Rattle.slave_course.proofs.Courses.{is_planned}
 use Rattle.slave_course.proofs.Counting.{outputs_go_on}
 use Rattle.slave_links.specs.Links.{interval_of, sender_of}
@@ -60,23 +60,23 @@ use Rattle.slave_emits.proofs.Taken.{past_tuned}
 use Rattle.slave_emits.proofs.Due.{none_after, note, data_sent}
 
 -- ---- a restart changes no entries and no addresses
-restarted_entries : (id steps : ℕ) (changes : List Change) (runs : ℕ) → entries output id (restarted steps changes runs) ≡ entries output id changes
+restarted_entries : (id steps : ℕ) (changes : List Change) (runs : ℕ) → entries output id (changes_restarted steps changes runs) ≡ entries output id changes
 restarted_entries id steps changes zero = refl
 restarted_entries id steps changes (suc runs) = restarted_entries id steps changes runs
 
-restarted_targets : (id steps : ℕ) (changes : List Change) (runs : ℕ) → filter_map (target_given id) (restarted steps changes runs) ≡ filter_map (target_given id) changes
+restarted_targets : (id steps : ℕ) (changes : List Change) (runs : ℕ) → filter_map (target_given id) (changes_restarted steps changes runs) ≡ filter_map (target_given id) changes
 restarted_targets id steps changes zero = refl
 restarted_targets id steps changes (suc runs) = restarted_targets id steps changes runs
 
 -- ---- what is under way
-shows_sending : (state : State) → under_way state ≡ Some Show → is_sending state ≡ true
+shows_sending : (state : State) → under_way state ≡ Some Show → is_sending_state state ≡ true
 shows_sending state h = grind arith
 
-sending_shows : (state : State) → is_sending state ≡ true → under_way state ≡ Some Step → ⊥
+sending_shows : (state : State) → is_sending_state state ≡ true → under_way state ≡ Some Step → ⊥
 sending_shows state h e = grind arith
 
-sending_not : (state : State) → is_sending state ≡ true → state ≡ Computing → ⊥
-sending_not state h e = clash (sym (ap is_sending e) ∙ h)
+sending_not : (state : State) → is_sending_state state ≡ true → state ≡ Computing → ⊥
+sending_not state h e = clash (sym (ap is_sending_state e) ∙ h)
   where
     clash : false ≡ true → ⊥
     clash z = cc
@@ -87,30 +87,30 @@ shown_fit types vs h = ap (λ b. if b then Ok vs else Err OutOfRange) h
 same_more : (n : ℕ) → n ≡ n + 1 → ⊥
 same_more n e = omega (arith, e)
 
-sending_outputs : (p : Plant) → IsSound p → is_sending p.state ≡ true → all_fit p.model.types (values p.model) ≡ true
+sending_outputs : (p : Plant) → IsSoundPlant p → is_sending_state p.state ≡ true → all_fit p.model.types (values p.model) ≡ true
 sending_outputs p ok h = ok.fit (grind arith)
 
 module _ (sc : Scenario) (other : SlaveDesc) (ok : IsScenario sc) (s : ℕ) (is : logs.IsSlaveOf (parties sc other) s) where
   abbrev W : Parties
   W = parties sc other
 
-  abbrev X : Setup
+  abbrev X : SlaveSetup
   X = setup_at sc other s
 
-  abbrev slave_at : List LogEntry → Slave Plant
+  abbrev slave_at : List LogEntry → SlaveState Plant
   slave_at log = (at (machine X) W s log).slave
 
   abbrev plant : List LogEntry → Plant
   plant log = (slave_at log).inner
 
-  sound : (log : List LogEntry) → IsSound (plant log)
-  sound log = let Q : Slave Plant → Type 0 = λ x. IsSound x.inner in subst Q (sym (slave_is (machine X) W s log)) (sound_after X (events W s log))
+  sound : (log : List LogEntry) → IsSoundPlant (plant log)
+  sound log = let Q : SlaveState Plant → Type 0 = λ x. IsSoundPlant x.inner in subst Q (sym (slave_is (machine X) W s log)) (sound_after X (events_of_slave W s log))
 
   in_fields : (log : List LogEntry) → SlaveFits (slave_at log)
-  in_fields log = let P : Slave Plant → Type 0 = SlaveFits in subst P (sym (slave_is (machine X) W s log)) (in_range X (events W s log))
+  in_fields log = let P : SlaveState Plant → Type 0 = SlaveFits in subst P (sym (slave_is (machine X) W s log)) (in_range X (events_of_slave W s log))
 
   -- ---- where a row is shown
-  module _ (log : List LogEntry) (a : Asked (may sc s X.desc) (at (machine X) W s log).desk.served) (e : is_during (slave_at log).session ≡ true) (sending : is_sending (plant log).state ≡ true) (id : ℕ) (own : sender_of sc id ≡ s) where
+  module _ (log : List LogEntry) (a : AskedAsPlanned (may sc s X.desc) (at (machine X) W s log).desk.served) (e : is_during (slave_at log).session ≡ true) (sending : is_sending_state (plant log).state ≡ true) (id : ℕ) (own : sender_of sc id ≡ s) where
     abbrev p : Plant
     p = plant log
 
@@ -123,13 +123,13 @@ module _ (sc : Scenario) (other : SlaveDesc) (ok : IsScenario sc) (s : ℕ) (is 
     abbrev every : ℕ
     every = interval_of sc id
 
-    of : plans.IsSlaveOf sc s X.desc
+    of : plans.IsScenarioSlave sc s X.desc
     of = of_scenario sc other ok s is
 
     past : is_past p.state ≡ true
     past = sending_past p.state sending
 
-    planned : p.wires.changes ≡ restarted sc.steps C r
+    planned : p.wires.changes ≡ changes_restarted sc.steps C r
     planned = is_planned sc s X W of (reads sc other) log a e past
 
     known : has_id output id C ≡ true
@@ -138,7 +138,7 @@ module _ (sc : Scenario) (other : SlaveDesc) (ok : IsScenario sc) (s : ℕ) (is 
     known_here : has_id output id p.wires.changes ≡ true
     known_here = (outputs_go_on sc s X W of (reads sc other) log a e past id).known ∙ known
 
-    spaced : interval output id p.wires.changes ≡ every
+    spaced : entry_interval output id p.wires.changes ≡ every
     spaced = (outputs_go_on sc s X W of (reads sc other) log a e past id).spaced ∙ output_intervals sc s X.desc of id known
 
     numbered : ordinal output id p.wires.changes p.steps ≡ r * (sc.steps / every + 1) + p.steps / every
@@ -147,7 +147,7 @@ module _ (sc : Scenario) (other : SlaveDesc) (ok : IsScenario sc) (s : ℕ) (is 
     goes : (to : Address) × (target id p.wires.changes ≡ Some to)
     goes =
         let t = (each_sends sc s X.desc of id own).1 in
-        (t.0, ap (target id) planned ∙ ap newest (restarted_targets id sc.steps C r) ∙ t.1)
+        (t.0, ap (target id) planned ∙ ap newest_change (restarted_targets id sc.steps C r) ∙ t.1)
 
     due_is : is_due output id p.wires.changes p.steps ≡ (p.steps % every == 0)
     due_is = ap (λ i. p.steps % i == 0) spaced
@@ -189,8 +189,8 @@ module _ (sc : Scenario) (other : SlaveDesc) (ok : IsScenario sc) (s : ℕ) (is 
         not_due f false q = refl
 
   -- ---- a turn
-  module _ (log : List LogEntry) (a : Asked (may sc s X.desc) (at (machine X) W s log).desk.served) where
-    abbrev x : Slave Plant
+  module _ (log : List LogEntry) (a : AskedAsPlanned (may sc s X.desc) (at (machine X) W s log).desk.served) where
+    abbrev x : SlaveState Plant
     x = slave_at log
 
     abbrev n : ℕ
@@ -203,21 +203,21 @@ module _ (sc : Scenario) (other : SlaveDesc) (ok : IsScenario sc) (s : ℕ) (is 
     quiet = transport.quieter x.quiet
 
     abbrev Quiet : Bench → Type 0
-    Quiet c = Idles b c ⊎ (StepsOn b c ⊎ Fails b c)
+    Quiet c = Idles b c ⊎ (StepsOn b c ⊎ BenchFails b c)
 
     act_quiet : (c : Bench) (id : ℕ) (act' : Act) → c.events ≡ events_turned x.inner.state act' n → Quiet c → NoneOf W id (map post (map parcel_send (turned X x.inner act').parcels))
     act_quiet c id Stay h q = tt
     act_quiet c id (Wait left) h q = tt
     act_quiet c id (Fault code) h q = tt
     act_quiet c id (turns.Step y) h q = tt
-    act_quiet c id Pass h q = by (is_sending x.inner.state) refl h
+    act_quiet c id Pass h q = by (is_sending_state x.inner.state) refl h
       where
-        same : c.events ≡ n + 1 → is_sending x.inner.state ≡ true → Quiet c → ⊥
+        same : c.events ≡ n + 1 → is_sending_state x.inner.state ≡ true → Quiet c → ⊥
         same g f (inl i) = same_more n (sym i.events ∙ g)
         same g f (inr (inl i)) = sending_shows x.inner.state f i.under_way
         same g f (inr (inr i)) = same_more n (sym i.events ∙ g)
 
-        by : (f : Bool) → is_sending x.inner.state ≡ f → c.events ≡ (if f then n + 1 else n) → NoneOf W id (map post (map parcel_send (if f then data_parcels X.desc x.inner.wires.changes x.inner.steps (values x.inner.model) else [])))
+        by : (f : Bool) → is_sending_state x.inner.state ≡ f → c.events ≡ (if f then n + 1 else n) → NoneOf W id (map post (map parcel_send (if f then data_parcels X.desc x.inner.wires.changes x.inner.steps (values x.inner.model) else [])))
         by true f g = absurd (same g f q)
         by false f g = tt
 
@@ -231,7 +231,7 @@ module _ (sc : Scenario) (other : SlaveDesc) (ok : IsScenario sc) (s : ℕ) (is 
         subst P (sym (map_joined (map parcel_send t.parcels) (transport.notice_sends master i t.notices)))
         (none_joined W id (map post (map parcel_send t.parcels)) (map post (transport.notice_sends master i t.notices)) (act_quiet c id (act X quiet x.inner) h q) (notices_none W id (transport.notice_sends master i t.notices) rb.1))
 
-    act_shows : (c : Bench) (id : ℕ) → is_during x.session ≡ true → sender_of sc id ≡ s → Shows b c → (act' : Act) → act X quiet x.inner ≡ act' → c.events ≡ events_turned x.inner.state act' n → (posts : List Post)
+    act_shows : (c : Bench) (id : ℕ) → is_during x.session ≡ true → sender_of sc id ≡ s → BenchShows b c → (act' : Act) → act X quiet x.inner ≡ act' → c.events ≡ events_turned x.inner.state act' n → (posts : List Post)
         → values_owed W id posts ≡ values_owed W id (map post (map parcel_send (turned X x.inner act').parcels)) → Emits W (slaves sc other) (machines sc other) s id b (store_of sc other x.inner) posts
     act_shows c id e own sh Stay g h posts v = absurd (same_more n (sym h ∙ sh.events))
     act_shows c id e own sh (Wait left) g h posts v = absurd (same_more n (sym h ∙ sh.events))
@@ -243,7 +243,7 @@ module _ (sc : Scenario) (other : SlaveDesc) (ok : IsScenario sc) (s : ℕ) (is 
         = ap (λ d. values_owed W id (map post (map parcel_send (if d then data_parcels X.desc x.inner.wires.changes x.inner.steps (values x.inner.model) else [])))) f in
         emits_by log a e f id own posts (v ∙ is' ∙ all_sent log a e f id own)
 
-    pub turn_shows : (c : Bench) (id : ℕ) (session : Session) → x.session ≡ session → c.events ≡ events_tick X W s session x n → sender_of sc id ≡ s → Shows b c → Emits W (slaves sc other) (machines sc other) s id b (store_of sc other x.inner) (map post (transport.turn_sends (machine X) session x))
+    pub turn_shows : (c : Bench) (id : ℕ) (session : Session) → x.session ≡ session → c.events ≡ events_tick X W s session x n → sender_of sc id ≡ s → BenchShows b c → Emits W (slaves sc other) (machines sc other) s id b (store_of sc other x.inner) (map post (transport.turn_sends (machine X) session x))
     turn_shows c id Before f h own sh = absurd (same_more n (sym h ∙ sh.events))
     turn_shows c id (After master i) f h own sh = absurd (same_more n (sym h ∙ sh.events))
     turn_shows c id (During master i) f h own sh =

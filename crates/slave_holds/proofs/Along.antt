@@ -5,52 +5,52 @@ use Rattle.dcp_types.specs.declared.addresses.Address.{Address}
 use Rattle.dcp_ends.specs.declared.entries.LogEntry.{LogEntry}
 use Rattle.dcp_ends.specs.declared.entries.LogEntry.TheVariants.{Sent, Got, Idle, Turn}
 use Rattle.log_spec.specs.Messages.{Note, Role, Request, Answer, Value, Else}
-use Rattle.log_spec.specs.Log.{Parties, same, role_heard, Decision}
+use Rattle.log_spec.specs.Log.{Parties, same, role_heard, DecidedRequest}
 use Rattle.lockstep_laws.specs.Steps.{event_asked}
 use Rattle.slave_meets.specs.Plants.{event_wanted}
 use Rattle.log_spec.specs.Moves.{Move, Asks, Comes, Tells, Hears, Brings, Turns, Rests, Other, move}
 use Rattle.seq_window.specs.declared.places.Place.{Place}
 use Rattle.seq_window.specs.Window.{place}
-use Rattle.slave_spec.specs.declared.words.Setup.{Setup}
-use Rattle.slave_spec.specs.declared.words.Request as req
+use Rattle.slave_spec.specs.declared.words.SlaveSetup.{SlaveSetup}
+use Rattle.slave_spec.specs.declared.words.SlaveRequest as req
 use Rattle.slave_spec.specs.declared.words.Session.{Session}
 use Rattle.slave_spec.specs.declared.words.Session.TheVariants.{Before, During, After}
 use Rattle.slave_spec.specs.declared.words.Fate.{Fate}
 use Rattle.slave_spec.specs.declared.words.Fate.TheVariants.{Dropped, Refused, Repeated, Taken}
 use Rattle.slave_spec.specs.Heard as spec
 use Rattle.slave_spec.specs.Transport as transport
-use Rattle.slave_spec.specs.Transport.{Slave}
+use Rattle.slave_spec.specs.Transport.{SlaveState}
 use Rattle.slave_spec.specs.Plants as plants
 use Rattle.slave_spec.specs.Plants.{Plant}
 use Rattle.slave_spec.specs.Begun.{IsRegular, IsRegularIn}
-use Rattle.slave_spec.specs.Sound.{IsSound}
+use Rattle.slave_spec.specs.Sound.{IsSoundPlant}
 use Rattle.slave_spec.specs.Requests.{register_refusal, answers}
 use Rattle.slave_spec.specs.Turns as turns
 use Rattle.slave_spec.specs.Slaves.{machine}
 use Rattle.slave_spec.proofs.Regular.{regular_after}
 use Rattle.slave_spec.proofs.Soundness.{sound_after}
-use Rattle.slave_meets.specs.Desks.{answer_note, served_by, served_after, Both, got, ticked, sent_next, next, at, events, Agree}
+use Rattle.slave_meets.specs.Desks.{answer_note, served_by, served_after, Both, got, ticked, sent_next, next, at, events_of_slave, Agree}
 use Rattle.slave_meets.proofs.Meets.{slave_is}
 
 -- the exchange of a request that is taken
-abbrev pub exchanged : Setup → Plant → req.Request → Note → (next : ℕ) → Decision
+abbrev pub exchanged : SlaveSetup → Plant → req.SlaveRequest → Note → (next : ℕ) → DecidedRequest
 exchanged s p r n next' = record { request = n; answer = answer_note r next' (answers s r.asked p).answer }
 
-module _ (s : Setup) (Allowed : List Decision → Type 0) (P : Session → Plant → List Decision → Type 0) where
+module _ (s : SlaveSetup) (Allowed : List DecidedRequest → Type 0) (P : Session → Plant → List DecidedRequest → Type 0) where
   -- Allowed says what may have been asked, and P what is kept
   pub record Lasts : Type 0 where
-    pub less : (d : Decision) (es : List Decision) → Allowed (d ∷ es) → Allowed es
-    pub start : P Before (plants.start s) []
-    pub first : (from : Address) (r : req.Request) (n : Note) (next' : ℕ) (es : List Decision) → spec.heard_as (Some n.message) ≡ spec.Asks r → event_asked n ≡ event_wanted r.asked → transport.is_register r.asked ≡ true
-        → Allowed (exchanged s (plants.start s) r n next' ∷ es) → P Before (plants.start s) es → P (During from r.receiver) (answers s r.asked (plants.start s)).after (exchanged s (plants.start s) r n next' ∷ es)
-    pub taken : (master from : Address) (id : ℕ) (r : req.Request) (n : Note) (next' : ℕ) (p : Plant) (es : List Decision) → spec.heard_as (Some n.message) ≡ spec.Asks r → event_asked n ≡ event_wanted r.asked → IsRegular p
+    pub less : (d : DecidedRequest) (es : List DecidedRequest) → Allowed (d ∷ es) → Allowed es
+    pub start : P Before (plants.start_plant s) []
+    pub first : (from : Address) (r : req.SlaveRequest) (n : Note) (next' : ℕ) (es : List DecidedRequest) → spec.heard_as (Some n.message) ≡ spec.Asks r → event_asked n ≡ event_wanted r.asked → transport.is_register r.asked ≡ true
+        → Allowed (exchanged s (plants.start_plant s) r n next' ∷ es) → P Before (plants.start_plant s) es → P (During from r.receiver) (answers s r.asked (plants.start_plant s)).after (exchanged s (plants.start_plant s) r n next' ∷ es)
+    pub taken : (master from : Address) (id : ℕ) (r : req.SlaveRequest) (n : Note) (next' : ℕ) (p : Plant) (es : List DecidedRequest) → spec.heard_as (Some n.message) ≡ spec.Asks r → event_asked n ≡ event_wanted r.asked → IsRegular p
         → Allowed (exchanged s p r n next' ∷ es) → P (During master id) p es → P (transport.session_after (During master id) from r (answers s r.asked p).answer) (answers s r.asked p).after (exchanged s p r n next' ∷ es)
-    pub brings : (master from : Address) (id number i : ℕ) (payload : List ℕ) (p : Plant) (es : List Decision) → Allowed es → P (During master id) p es → P (During master id) (turns.brings s from number i payload p) es
-    pub turns : (master : Address) (id quiet : ℕ) (p : Plant) (es : List Decision) → IsRegular p → IsRegular (turns.turns s quiet p).after → IsSound p → Allowed es → P (During master id) p es → P (During master id) (turns.turns s quiet p).after es
+    pub brings : (master from : Address) (id number i : ℕ) (payload : List ℕ) (p : Plant) (es : List DecidedRequest) → Allowed es → P (During master id) p es → P (During master id) (turns.brings s from number i payload p) es
+    pub turns : (master : Address) (id quiet : ℕ) (p : Plant) (es : List DecidedRequest) → IsRegular p → IsRegular (turns.turns s quiet p).after → IsSoundPlant p → Allowed es → P (During master id) p es → P (During master id) (turns.turns s quiet p).after es
 
   module _ (l : Lasts) where
     -- ---- a request
-    abbrev Next : Slave Plant → List Decision → Slave Plant → List Decision → Type 0
+    abbrev Next : SlaveState Plant → List DecidedRequest → SlaveState Plant → List DecidedRequest → Type 0
     Next x es y ds = Allowed ds → (Allowed es → P x.session x.inner es) → P y.session y.inner ds
 
     never_late : (c : Bool) (q : Place) → (if c then transport.placed_late q else Dropped) ≡ Taken → ⊥
@@ -60,7 +60,7 @@ module _ (s : Setup) (Allowed : List Decision → Type 0) (P : Session → Plant
     register_first true d f e = refl
     register_first false d f e = absurd cc
 
-    taken_in : (session : Session) (x : Slave Plant) (es : List Decision) (from : Address) (n : Note) (r : req.Request) → spec.heard_as (Some n.message) ≡ spec.Asks r → event_asked n ≡ event_wanted r.asked → IsRegularIn s session x.inner
+    taken_in : (session : Session) (x : SlaveState Plant) (es : List DecidedRequest) (from : Address) (n : Note) (r : req.SlaveRequest) → spec.heard_as (Some n.message) ≡ spec.Asks r → event_asked n ≡ event_wanted r.asked → IsRegularIn s session x.inner
         → transport.fate_in (machine s) session x.served from r ≡ Taken
         → let d = exchanged s x.inner r n (transport.expected (record { request = r; answer = (answers s r.asked x.inner).answer } ∷ x.served)) in
         Allowed (d ∷ es) → (Allowed es → P session x.inner es) → P (transport.session_after session from r (answers s r.asked x.inner).answer) (answers s r.asked x.inner).after (d ∷ es)
@@ -74,7 +74,7 @@ module _ (s : Setup) (Allowed : List Decision → Type 0) (P : Session → Plant
         l.taken master from id r n many x.inner es h ev reg a (f (l.less (exchanged s x.inner r n many) es a))
     taken_in (After master id) x es from n r h ev reg e a f = absurd (never_late (transport.same_address from master && (r.receiver == id)) (place r.number (transport.expected x.served)) e)
 
-    at_request : (x : Slave Plant) (es : List Decision) (from : Address) (n : Note) (r : req.Request) → spec.heard_as (Some n.message) ≡ spec.Asks r → event_asked n ≡ event_wanted r.asked → IsRegularIn s x.session x.inner → (f : Fate) → transport.fate (machine s) x from r ≡ f
+    at_request : (x : SlaveState Plant) (es : List DecidedRequest) (from : Address) (n : Note) (r : req.SlaveRequest) → spec.heard_as (Some n.message) ≡ spec.Asks r → event_asked n ≡ event_wanted r.asked → IsRegularIn s x.session x.inner → (f : Fate) → transport.fate (machine s) x from r ≡ f
         → Next x es (transport.after_request (machine s) x from r f) (served_by (machine s) x es n r f)
     at_request x es from n r h ev reg Dropped e a f = f a
     at_request x es from n r h ev reg (Refused code) e a f = f a
@@ -82,24 +82,24 @@ module _ (s : Setup) (Allowed : List Decision → Type 0) (P : Session → Plant
     at_request x es from n r h ev reg Taken e a f = taken_in x.session x es from n r h ev reg e a f
 
     -- ---- data and turns
-    open_brings : (session : Session) (p : Plant) (es : List Decision) (from : Address) (number i : ℕ) (payload : List ℕ) → transport.is_open session ≡ true → Allowed es → P session p es → P session (turns.brings s from number i payload p) es
+    open_brings : (session : Session) (p : Plant) (es : List DecidedRequest) (from : Address) (number i : ℕ) (payload : List ℕ) → transport.is_open session ≡ true → Allowed es → P session p es → P session (turns.brings s from number i payload p) es
     open_brings Before p es from number i payload o a h = absurd cc
     open_brings (During master id) p es from number i payload o a h = l.brings master from id number i payload p es a h
     open_brings (After master id) p es from number i payload o a h = absurd cc
 
-    at_data : (x : Slave Plant) (es : List Decision) (from : Address) (number i : ℕ) (payload : List ℕ) → Next x es (transport.after_heard (machine s) x from (spec.Brings number i payload)) es
+    at_data : (x : SlaveState Plant) (es : List DecidedRequest) (from : Address) (number i : ℕ) (payload : List ℕ) → Next x es (transport.after_heard (machine s) x from (spec.Brings number i payload)) es
     at_data x es from number i payload a f = by (transport.is_open x.session) refl
       where
         by : (b : Bool) → transport.is_open x.session ≡ b → let y = (if b then record x { inner = turns.brings s from number i payload x.inner } else x) in P y.session y.inner es
         by true o = open_brings x.session x.inner es from number i payload o a (f a)
         by false o = f a
 
-    open_turns : (session : Session) (p : Plant) (es : List Decision) (quiet : ℕ) → transport.is_open session ≡ true → IsRegularIn s session p → IsRegularIn s session (turns.turns s quiet p).after → IsSound p → Allowed es → P session p es → P session (turns.turns s quiet p).after es
+    open_turns : (session : Session) (p : Plant) (es : List DecidedRequest) (quiet : ℕ) → transport.is_open session ≡ true → IsRegularIn s session p → IsRegularIn s session (turns.turns s quiet p).after → IsSoundPlant p → Allowed es → P session p es → P session (turns.turns s quiet p).after es
     open_turns Before p es quiet o r r' ok a h = absurd cc
     open_turns (During master id) p es quiet o r r' ok a h = l.turns master id quiet p es r r' ok a h
     open_turns (After master id) p es quiet o r r' ok a h = absurd cc
 
-    at_turn : (x : Slave Plant) (es : List Decision) → IsRegularIn s x.session x.inner → (let y = transport.after_turn (machine s) x in IsRegularIn s y.session y.inner) → IsSound x.inner → Next x es (transport.after_turn (machine s) x) es
+    at_turn : (x : SlaveState Plant) (es : List DecidedRequest) → IsRegularIn s x.session x.inner → (let y = transport.after_turn (machine s) x in IsRegularIn s y.session y.inner) → IsSoundPlant x.inner → Next x es (transport.after_turn (machine s) x) es
     at_turn x es r r' ok a f = by (transport.is_open x.session) refl r'
       where
         by : (b : Bool) → transport.is_open x.session ≡ b → (let y = (if b then record x { quiet = transport.quieter x.quiet; inner = (turns.turns s (transport.quieter x.quiet) x.inner).after } else x) in IsRegularIn s y.session y.inner)
@@ -136,7 +136,7 @@ module _ (s : Setup) (Allowed : List Decision → Type 0) (P : Session → Plant
       told_has Rests x f = f
       told_has Other x f = f
 
-      next_has : (e : LogEntry) (x : Both Plant) → IsRegularIn s x.slave.session x.slave.inner → (let y = next (machine s) w s' e x in IsRegularIn s y.slave.session y.slave.inner) → IsSound x.slave.inner → Has x → Has (next (machine s) w s' e x)
+      next_has : (e : LogEntry) (x : Both Plant) → IsRegularIn s x.slave.session x.slave.inner → (let y = next (machine s) w s' e x in IsRegularIn s y.slave.session y.slave.inner) → IsSoundPlant x.slave.inner → Has x → Has (next (machine s) w s' e x)
       next_has (Sent from to bytes) x r r' ok f = told_has (move w s' (Sent from to bytes)) x f
       next_has (Got at' from bytes) x r r' ok f = by (same at' (w.slave s'))
         where
@@ -151,10 +151,10 @@ module _ (s : Setup) (Allowed : List Decision → Type 0) (P : Session → Plant
           by false g = f
 
       regular : (log : List LogEntry) → let x = (at (machine s) w s' log).slave in IsRegularIn s x.session x.inner
-      regular log = let Q : Slave Plant → Type 0 = λ x. IsRegularIn s x.session x.inner in subst Q (sym (slave_is (machine s) w s' log)) (regular_after s (events w s' log))
+      regular log = let Q : SlaveState Plant → Type 0 = λ x. IsRegularIn s x.session x.inner in subst Q (sym (slave_is (machine s) w s' log)) (regular_after s (events_of_slave w s' log))
 
-      sound : (log : List LogEntry) → IsSound (at (machine s) w s' log).slave.inner
-      sound log = let Q : Slave Plant → Type 0 = λ x. IsSound x.inner in subst Q (sym (slave_is (machine s) w s' log)) (sound_after s (events w s' log))
+      sound : (log : List LogEntry) → IsSoundPlant (at (machine s) w s' log).slave.inner
+      sound log = let Q : SlaveState Plant → Type 0 = λ x. IsSoundPlant x.inner in subst Q (sym (slave_is (machine s) w s' log)) (sound_after s (events_of_slave w s' log))
 
       pub along : (log : List LogEntry) → let x = at (machine s) w s' log in Allowed x.desk.served → P x.slave.session x.slave.inner x.desk.served
       along [] a = l.start

@@ -15,19 +15,19 @@ use Rattle.pdu_layout.specs.declared.messages.Cfg.TheVariants as cfg
 use Rattle.pdu_layout.specs.declared.messages.Inf.TheVariants as inf
 use Rattle.dcp_types.specs.Values.{width}
 use Rattle.slave_desc.specs.declared.descriptions.SlaveDesc.{SlaveDesc}
-use Rattle.slave_states.specs.Transitions.{row, next_on, next_on_turn, is_same}
-use Rattle.slave_wiring.specs.Changes.{Change as WiringChange, Entry, Side, input, vr_for, entries, has_id, put_ascending, ascending, ids, source, ordinal, in_run}
-use Rattle.slave_wiring.specs.Payloads.{Wires, is_here, is_address, is_wanted, brought, ready, input_types}
-use Rattle.slave_spec.specs.declared.words.Setup.{Setup}
+use Rattle.slave_states.specs.Transitions.{transition_row, next_on, next_on_turn, is_same}
+use Rattle.slave_wiring.specs.Changes.{Change as WiringChange, Entry, Side, input, vr_for, entries, has_id, put_ascending, ascending, ids, source, ordinal, steps_in_run}
+use Rattle.slave_wiring.specs.Payloads.{WiringState, is_here, is_address, is_wanted, brought, ready, input_types}
+use Rattle.slave_spec.specs.declared.words.SlaveSetup.{SlaveSetup}
 use Rattle.slave_spec.specs.declared.words.Asked.{Asked}
 use Rattle.slave_spec.specs.declared.words.Asked.TheVariants.{Change, Setting, Question}
-use Rattle.slave_spec.specs.Transport.{Slave}
+use Rattle.slave_spec.specs.Transport.{SlaveState}
 use Rattle.slave_spec.specs.Plants.{Plant}
-use Rattle.slave_spec.specs.Requests.{first_true, change_refusal, moved_refusal, setting_refusal, is_error, is_left_out, body_refusal, refusal, changed_to, set_to, accepted, answered}
+use Rattle.slave_spec.specs.Requests.{first_true, change_refusal, moved_refusal, setting_refusal, is_in_error, is_left_out, body_refusal, refusal, changed_to, set_to, accepted, answered_plant}
 use Rattle.slave_spec.specs.Turns.{Act, Stay, Wait, Fault, Step, Pass, act, turned, is_listening, brings}
 use Rattle.slave_spec.specs.Slaves.{machine}
 use Rattle.slave_spec.proofs.Lasting.{Keeps, lasting}
-use Rattle.slave_meets.specs.Desks.{events}
+use Rattle.slave_meets.specs.Desks.{events_of_slave}
 use Rattle.slave_meets.proofs.Meets.{slave_is}
 use Rattle.slave_meets.proofs.Plants.{no_refusal, row_of_next, state_is}
 use Rattle.slave_holds.specs.Models.{InputsAreThere}
@@ -71,7 +71,7 @@ module _ (side : Side) (id : ℕ) (t : ℕ → Bool) where
 ends_of : (a b c d e : Bool) → (a && b && c && d && e) ≡ true → (a ≡ true) × (e ≡ true)
 ends_of a b c d e h = grind arith
 
-not_wanted : (d : SlaveDesc) (w : Wires) (from : Address) (number id : ℕ) (payload : List ℕ) (steps : ℕ) → ready w steps ≡ true → is_wanted d w from number id payload steps ≡ true → ⊥
+not_wanted : (d : SlaveDesc) (w : WiringState) (from : Address) (number id : ℕ) (payload : List ℕ) (steps : ℕ) → ready w steps ≡ true → is_wanted d w from number id payload steps ≡ true → ⊥
 not_wanted d w from number id payload steps r h =
     let e = ends_of (has_id input id w.changes) (is_address (source id w.changes) from) (length payload == sum_by width (input_types d id w.changes)) (number == ordinal input id w.changes steps % 65536) (not (is_here w steps id)) h in
     by (is_here w steps id) (among input id (is_here w steps) w.changes r e.0) e.1
@@ -80,10 +80,10 @@ not_wanted d w from number id payload steps r h =
     by true e f = absurd cc
     by false e f = absurd cc
 
-brought_ready : (d : SlaveDesc) (w : Wires) (from : Address) (number id : ℕ) (payload : List ℕ) (steps : ℕ) → ready w steps ≡ true → ready (brought d w from number id payload steps) steps ≡ true
+brought_ready : (d : SlaveDesc) (w : WiringState) (from : Address) (number id : ℕ) (payload : List ℕ) (steps : ℕ) → ready w steps ≡ true → ready (brought d w from number id payload steps) steps ≡ true
 brought_ready d w from number id payload steps r = by (is_wanted d w from number id payload steps) refl
   where
-    by : (b : Bool) → is_wanted d w from number id payload steps ≡ b → ready (if b then record w { kept = record { id = id; ordinal = in_run input id w.changes steps; payload = payload } ∷ w.kept } else w) steps ≡ true
+    by : (b : Bool) → is_wanted d w from number id payload steps ≡ b → ready (if b then record w { kept = record { id = id; ordinal = steps_in_run input id w.changes steps; payload = payload } ∷ w.kept } else w) steps ≡ true
     by true e = absurd (not_wanted d w from number id payload steps r e)
     by false e = r
 
@@ -91,7 +91,7 @@ brought_ready d w from number id payload steps r = by (is_wanted d w from number
 abbrev HasInputs : Plant → Type 0
 HasInputs p = p.state ≡ Computing → ready p.wires p.steps ≡ true
 
-computing_by : (request : Stc) (state : State) (sent : Bool) → row request state sent ≡ Some Computing → (n : ℕ) × (request ≡ stc.DoStep n)
+computing_by : (request : Stc) (state : State) (sent : Bool) → transition_row request state sent ≡ Some Computing → (n : ℕ) × (request ≡ stc.DoStep n)
 computing_by (stc.DoStep n) state sent h = (n, refl)
 computing_by (stc.Register a b c d) state sent h = absurd (grind arith)
 computing_by stc.Deregister state sent h = absurd (grind arith)
@@ -115,9 +115,9 @@ change_allowed : (p : Plant) (request : Stc) (r : Result State ErrorCode) → mo
 change_allowed p request (Ok state) h = h
 change_allowed p request (Err code) h = absurd cc
 
-module _ (s : Setup) where
+module _ (s : SlaveSetup) where
   -- an accepted change leads into computing by a step alone
-  changed_has : (p : Plant) (request : Stc) (state : State) → row request p.state p.outputs_sent ≡ Some state → change_refusal p request ≡ None → HasInputs (changed_to s p request state)
+  changed_has : (p : Plant) (request : Stc) (state : State) → transition_row request p.state p.outputs_sent ≡ Some state → change_refusal p request ≡ None → HasInputs (changed_to s p request state)
   changed_has p (stc.DoStep n) state r c e = step_ready p n c
   changed_has p (stc.Register a b c' d) state r c e = absurd (no' (computing_by (stc.Register a b c' d) p.state p.outputs_sent (r ∙ ap (λ (z : State). Some z) e)))
     where
@@ -134,7 +134,7 @@ module _ (s : Setup) where
 
   -- a setting is accepted in CONFIGURATION alone
   pub set_where : (p : Plant) (body : Cfg) → setting_refusal s p body ≡ None → p.state ≡ Configuration
-  set_where p body h = by (is_error p.state) (is_left_out body) (is_same p.state Configuration) refl h
+  set_where p body h = by (is_in_error p.state) (is_left_out body) (is_same p.state Configuration) refl h
     where
       by : (a b c : Bool) → is_same p.state Configuration ≡ c → (if a then Some InErrorState else (if b then Some NotSupported else (if c then body_refusal s p body else Some WrongState))) ≡ None → p.state ≡ Configuration
       by true b c f e = absurd cc
@@ -174,7 +174,7 @@ module _ (s : Setup) where
   accepted_has p (Question inf.Error) r h = h
   accepted_has p (Question (inf.Log category most)) r h = h
 
-  answered_has : (p : Plant) (asked : Asked) (o : Option ErrorCode) → refusal s p asked ≡ o → HasInputs p → HasInputs (answered s p asked o).after
+  answered_has : (p : Plant) (asked : Asked) (o : Option ErrorCode) → refusal s p asked ≡ o → HasInputs p → HasInputs (answered_plant s p asked o).after
   answered_has p asked (Some code) r h = h
   answered_has p asked None r h = accepted_has p asked r h
 
@@ -205,4 +205,4 @@ module _ (s : Setup) where
   }
 
 pub are_there : InputsAreThere
-are_there s w n log = let P : Slave Plant → Type 0 = λ x. HasInputs x.inner in subst P (sym (slave_is (machine s) w n log)) (lasting (machine s) HasInputs (has_keeps s) (events w n log))
+are_there s w n log = let P : SlaveState Plant → Type 0 = λ x. HasInputs x.inner in subst P (sym (slave_is (machine s) w n log)) (lasting (machine s) HasInputs (has_keeps s) (events_of_slave w n log))

@@ -16,10 +16,10 @@ use Rattle.log_spec.specs.Moves.{Move, Asks, Comes, Tells, Hears, Brings, Turns,
 use Rattle.seq_window.specs.declared.places.Place.{Place}
 use Rattle.seq_window.specs.Window.{place}
 use Rattle.std.specs.Prelude.{◌==◌, ◌&&◌}
-use Rattle.slave_states.specs.Transitions.{row, next_on, next_on_turn, is_same}
+use Rattle.slave_states.specs.Transitions.{transition_row, next_on, next_on_turn, is_same}
 use Rattle.slave_wiring.specs.Payloads.{brought}
-use Rattle.slave_spec.specs.declared.words.Setup.{Setup}
-use Rattle.slave_spec.specs.declared.words.Request.{Request}
+use Rattle.slave_spec.specs.declared.words.SlaveSetup.{SlaveSetup}
+use Rattle.slave_spec.specs.declared.words.SlaveRequest.{SlaveRequest}
 use Rattle.slave_spec.specs.declared.words.Asked.{Asked}
 use Rattle.slave_spec.specs.declared.words.Asked.TheVariants.{Change, Setting, Question}
 use Rattle.slave_spec.specs.declared.words.Session.{Session}
@@ -28,16 +28,16 @@ use Rattle.slave_spec.specs.declared.words.Fate.{Fate}
 use Rattle.slave_spec.specs.declared.words.Fate.TheVariants.{Dropped, Refused, Repeated, Taken}
 use Rattle.slave_spec.specs.Heard as spec
 use Rattle.slave_spec.specs.Transport as transport
-use Rattle.slave_spec.specs.Transport.{Slave}
+use Rattle.slave_spec.specs.Transport.{SlaveState}
 use Rattle.slave_spec.specs.Plants.{Plant}
 use Rattle.slave_spec.specs.Begun.{IsRegularIn}
-use Rattle.slave_spec.specs.Sound.{IsSound}
-use Rattle.slave_spec.specs.Requests.{refusal, state_or, changed_to, set_to, accepted, answered, answers}
+use Rattle.slave_spec.specs.Sound.{IsSoundPlant}
+use Rattle.slave_spec.specs.Requests.{refusal, state_or, changed_to, set_to, accepted, answered_plant, answers}
 use Rattle.slave_spec.specs.Turns.{Act, Stay, Wait, Fault, Step, Pass, act, turned, turns, is_listening, brings, counted}
 use Rattle.slave_spec.specs.Slaves.{machine}
 use Rattle.slave_spec.proofs.Regular.{regular_after}
 use Rattle.slave_spec.proofs.Soundness.{sound_after}
-use Rattle.slave_meets.specs.Desks.{Both, got, ticked, sent_next, next, at, events}
+use Rattle.slave_meets.specs.Desks.{Both, got, ticked, sent_next, next, at, events_of_slave}
 use Rattle.slave_meets.proofs.Meets.{slave_is}
 use Rattle.slave_meets.proofs.Plants.{act_step, no_refusal, row_of_next, state_is}
 use Rattle.slave_holds.specs.Models.{ModelsStayStill}
@@ -47,14 +47,14 @@ use Rattle.slave_holds.proofs.Inputs.{set_where}
 abbrev pub IsEarly : Plant → Type 0
 IsEarly p = p.state ≡ Configuration → p.steps ≡ 0
 
-into_configuration : (request : Stc) (t : State) (sent : Bool) → row request t sent ≡ Some Configuration → (t ≡ Alive) ⊎ (request ≡ stc.Reset)
+into_configuration : (request : Stc) (t : State) (sent : Bool) → transition_row request t sent ≡ Some Configuration → (t ≡ Alive) ⊎ (request ≡ stc.Reset)
 into_configuration request t sent h = grind arith
 
 turn_to_configuration : (t : State) → next_on_turn t 0 ≡ Configuration → t ≡ Configuration
 unfolding next_on_turn
 turn_to_configuration t h = grind arith
 
-module _ (s : Setup) where
+module _ (s : SlaveSetup) where
   changed_steps : (p : Plant) (request : Stc) (t : State) → ((changed_to s p request t).steps ≡ p.steps) ⊎ ((changed_to s p request t).steps ≡ 0)
   changed_steps p (stc.Register a b c d) t = inl refl
   changed_steps p stc.Deregister t = inl refl
@@ -89,7 +89,7 @@ module _ (s : Setup) where
   alive_same : (t : State) → t ≡ Alive → is_same t Alive ≡ true
   alive_same t e = ap (λ z. is_same z Alive) e
 
-  changed_early : (p : Plant) (request : Stc) (t : State) → row request p.state p.outputs_sent ≡ Some t → MayAnswer p → IsEarly (changed_to s p request t)
+  changed_early : (p : Plant) (request : Stc) (t : State) → transition_row request p.state p.outputs_sent ≡ Some t → MayAnswer p → IsEarly (changed_to s p request t)
   changed_early p request t r (inl z) e = zero_steps (changed_steps p request t)
     where
       zero_steps : ((changed_to s p request t).steps ≡ p.steps) ⊎ ((changed_to s p request t).steps ≡ 0) → (changed_to s p request t).steps ≡ 0
@@ -134,7 +134,7 @@ module _ (s : Setup) where
   accepted_early p (Question inf.Error) r m = early p m
   accepted_early p (Question (inf.Log category most)) r m = early p m
 
-  answered_early : (p : Plant) (asked : Asked) (o : Option ErrorCode) → refusal s p asked ≡ o → MayAnswer p → IsEarly (answered s p asked o).after
+  answered_early : (p : Plant) (asked : Asked) (o : Option ErrorCode) → refusal s p asked ≡ o → MayAnswer p → IsEarly (answered_plant s p asked o).after
   answered_early p asked (Some code) r m = early p m
   answered_early p asked None r m = accepted_early p asked r m
 
@@ -158,7 +158,7 @@ module _ (s : Setup) where
   EarlyIn (During master id) p = IsEarly p
   EarlyIn (After master id) p = Unit {0}
 
-  after_session : (session : Session) (from : Address) (r : Request) (a : transport.Answer) (p : Plant) → IsEarly p → EarlyIn (transport.session_after session from r a) p
+  after_session : (session : Session) (from : Address) (r : SlaveRequest) (a : transport.SlaveAnswer) (p : Plant) → IsEarly p → EarlyIn (transport.session_after session from r a) p
   after_session Before from r a p h = h
   after_session (During master id) from r a p h = by (transport.is_last r.asked a)
     where
@@ -167,12 +167,12 @@ module _ (s : Setup) where
       by false = h
   after_session (After master id) from r a p h = tt
 
-  taken_early : (session : Session) (served : List transport.Exchange) (quiet : ℕ) (p : Plant) (from : Address) (r : Request) → IsRegularIn s session p → EarlyIn session p → EarlyIn (transport.session_after session from r (answers s r.asked p).answer) (answers s r.asked p).after
+  taken_early : (session : Session) (served : List transport.Exchange) (quiet : ℕ) (p : Plant) (from : Address) (r : SlaveRequest) → IsRegularIn s session p → EarlyIn session p → EarlyIn (transport.session_after session from r (answers s r.asked p).answer) (answers s r.asked p).after
   taken_early Before served quiet p from r reg h = after_session Before from r (answers s r.asked p).answer (answers s r.asked p).after (answered_early p r.asked (refusal s p r.asked) refl (inl h))
   taken_early (During master id) served quiet p from r reg h = after_session (During master id) from r (answers s r.asked p).answer (answers s r.asked p).after (answered_early p r.asked (refusal s p r.asked) refl (inr (reg.registered, h)))
   taken_early (After master id) served quiet p from r reg h = tt
 
-  at_request : (x : Slave Plant) (from : Address) (r : Request) (f : Fate) → IsRegularIn s x.session x.inner → EarlyIn x.session x.inner → let y = transport.after_request (machine s) x from r f in EarlyIn y.session y.inner
+  at_request : (x : SlaveState Plant) (from : Address) (r : SlaveRequest) (f : Fate) → IsRegularIn s x.session x.inner → EarlyIn x.session x.inner → let y = transport.after_request (machine s) x from r f in EarlyIn y.session y.inner
   at_request x from r Dropped reg h = h
   at_request x from r (Refused code) reg h = h
   at_request x from r Repeated reg h = h
@@ -183,7 +183,7 @@ module _ (s : Setup) where
   open_stays (During master id) p q o f h = f h
   open_stays (After master id) p q o f h = tt
 
-  at_heard : (x : Slave Plant) (from : Address) (k : spec.Heard) → IsRegularIn s x.session x.inner → EarlyIn x.session x.inner → let y = transport.after_heard (machine s) x from k in EarlyIn y.session y.inner
+  at_heard : (x : SlaveState Plant) (from : Address) (k : spec.Heard) → IsRegularIn s x.session x.inner → EarlyIn x.session x.inner → let y = transport.after_heard (machine s) x from k in EarlyIn y.session y.inner
   at_heard x from (spec.Asks r) reg h = at_request x from r (transport.fate (machine s) x from r) reg h
   at_heard x from (spec.Brings number id payload) reg h = by (transport.is_open x.session) refl
     where
@@ -195,7 +195,7 @@ module _ (s : Setup) where
       by false o = h
   at_heard x from spec.Nothing reg h = h
 
-  at_tick : (x : Slave Plant) → EarlyIn x.session x.inner → let y = transport.after_turn (machine s) x in EarlyIn y.session y.inner
+  at_tick : (x : SlaveState Plant) → EarlyIn x.session x.inner → let y = transport.after_turn (machine s) x in EarlyIn y.session y.inner
   at_tick x h = by (transport.is_open x.session) refl
     where
       q : Plant
@@ -226,7 +226,7 @@ module _ (s : Setup) where
   accepted_still p (Question inf.Error) r m h = refl
   accepted_still p (Question (inf.Log category most)) r m h = refl
 
-  answered_still : (p : Plant) (asked : Asked) (o : Option ErrorCode) → refusal s p asked ≡ o → MayAnswer p → 0 < (answered s p asked o).after.steps → (answered s p asked o).after.model ≡ p.model
+  answered_still : (p : Plant) (asked : Asked) (o : Option ErrorCode) → refusal s p asked ≡ o → MayAnswer p → 0 < (answered_plant s p asked o).after.steps → (answered_plant s p asked o).after.model ≡ p.model
   answered_still p asked (Some code) r m h = refl
   answered_still p asked None r m h = accepted_still p asked r m h
 
@@ -240,7 +240,7 @@ module _ (s : Setup) where
   turned_still p (Step x) f e = absurd (one_more p.steps (f x refl) e)
   turned_still p Pass f e = refl
 
-  below : (quiet : ℕ) (p : Plant) → IsSound p → (x : List ℤ) → act s quiet p ≡ Step x → p.steps < 2 ^ 32 - 1
+  below : (quiet : ℕ) (p : Plant) → IsSoundPlant p → (x : List ℤ) → act s quiet p ≡ Step x → p.steps < 2 ^ 32 - 1
   below quiet p ok x e = ok.below (ap (λ z. is_same z Computing) (act_step s quiet p x e))
 
   -- a request that is taken after the session would be late
@@ -250,12 +250,12 @@ module _ (s : Setup) where
   abbrev Still : Plant → Plant → Type 0
   Still p q = 0 < q.steps → q.steps ≡ p.steps → q.model ≡ p.model
 
-  taken_still : (x : Slave Plant) (from : Address) (r : Request) (session : Session) → IsRegularIn s session x.inner → EarlyIn session x.inner → transport.fate_in (machine s) session x.served from r ≡ Taken → Still x.inner (answers s r.asked x.inner).after
+  taken_still : (x : SlaveState Plant) (from : Address) (r : SlaveRequest) (session : Session) → IsRegularIn s session x.inner → EarlyIn session x.inner → transport.fate_in (machine s) session x.served from r ≡ Taken → Still x.inner (answers s r.asked x.inner).after
   taken_still x from r Before reg h e = λ a b. answered_still x.inner r.asked (refusal s x.inner r.asked) refl (inl h) a
   taken_still x from r (During master id) reg h e = λ a b. answered_still x.inner r.asked (refusal s x.inner r.asked) refl (inr (reg.registered, h)) a
   taken_still x from r (After master id) reg h e = absurd (never_late (transport.same_address from master && (r.receiver == id)) (place r.number (transport.expected x.served)) e)
 
-  request_still : (x : Slave Plant) (from : Address) (r : Request) (f : Fate) → transport.fate (machine s) x from r ≡ f → IsRegularIn s x.session x.inner → EarlyIn x.session x.inner → Still x.inner (transport.after_request (machine s) x from r f).inner
+  request_still : (x : SlaveState Plant) (from : Address) (r : SlaveRequest) (f : Fate) → transport.fate (machine s) x from r ≡ f → IsRegularIn s x.session x.inner → EarlyIn x.session x.inner → Still x.inner (transport.after_request (machine s) x from r f).inner
   request_still x from r Dropped e reg h = λ a b. refl
   request_still x from r (Refused code) e reg h = λ a b. refl
   request_still x from r Repeated e reg h = λ a b. refl
@@ -268,7 +268,7 @@ module _ (s : Setup) where
       by true = refl
       by false = refl
 
-  heard_still : (x : Slave Plant) (from : Address) (k : spec.Heard) → IsRegularIn s x.session x.inner → EarlyIn x.session x.inner → Still x.inner (transport.after_heard (machine s) x from k).inner
+  heard_still : (x : SlaveState Plant) (from : Address) (k : spec.Heard) → IsRegularIn s x.session x.inner → EarlyIn x.session x.inner → Still x.inner (transport.after_heard (machine s) x from k).inner
   heard_still x from (spec.Asks r) reg h = request_still x from r (transport.fate (machine s) x from r) refl reg h
   heard_still x from (spec.Brings number id payload) reg h = by (transport.is_open x.session)
     where
@@ -277,7 +277,7 @@ module _ (s : Setup) where
       by false = λ a e. refl
   heard_still x from spec.Nothing reg h = λ a e. refl
 
-  tick_still : (x : Slave Plant) → IsSound x.inner → Still x.inner (transport.after_turn (machine s) x).inner
+  tick_still : (x : SlaveState Plant) → IsSoundPlant x.inner → Still x.inner (transport.after_turn (machine s) x).inner
   tick_still x ok = by (transport.is_open x.session)
     where
       by : (b : Bool) → Still x.inner (if b then record x { quiet = transport.quieter x.quiet; inner = (turns s (transport.quieter x.quiet) x.inner).after } else x).inner
@@ -287,10 +287,10 @@ module _ (s : Setup) where
   -- ---- over a log
   module _ (w : Parties) (n : ℕ) where
     regular : (log : List LogEntry) → let x = (at (machine s) w n log).slave in IsRegularIn s x.session x.inner
-    regular log = let P : Slave Plant → Type 0 = λ x. IsRegularIn s x.session x.inner in subst P (sym (slave_is (machine s) w n log)) (regular_after s (events w n log))
+    regular log = let P : SlaveState Plant → Type 0 = λ x. IsRegularIn s x.session x.inner in subst P (sym (slave_is (machine s) w n log)) (regular_after s (events_of_slave w n log))
 
-    sound : (log : List LogEntry) → IsSound (at (machine s) w n log).slave.inner
-    sound log = let P : Slave Plant → Type 0 = λ x. IsSound x.inner in subst P (sym (slave_is (machine s) w n log)) (sound_after s (events w n log))
+    sound : (log : List LogEntry) → IsSoundPlant (at (machine s) w n log).slave.inner
+    sound log = let P : SlaveState Plant → Type 0 = λ x. IsSoundPlant x.inner in subst P (sym (slave_is (machine s) w n log)) (sound_after s (events_of_slave w n log))
 
     sent_slave : (mv : Move) (x : Both Plant) → (sent_next (machine s) w n mv x).slave ≡ x.slave
     sent_slave (Asks k) x = refl
@@ -303,7 +303,7 @@ module _ (s : Setup) where
     sent_slave Other x = refl
 
     next_early : (e : LogEntry) (x : Both Plant) → IsRegularIn s x.slave.session x.slave.inner → EarlyIn x.slave.session x.slave.inner → let y = next (machine s) w n e x in EarlyIn y.slave.session y.slave.inner
-    next_early (Sent from to bytes) x reg h = let P : Slave Plant → Type 0 = λ y. EarlyIn y.session y.inner in subst P (sym (sent_slave (move w n (Sent from to bytes)) x)) h
+    next_early (Sent from to bytes) x reg h = let P : SlaveState Plant → Type 0 = λ y. EarlyIn y.session y.inner in subst P (sym (sent_slave (move w n (Sent from to bytes)) x)) h
     next_early (Got at' from bytes) x reg h = by (same at' (w.slave n))
       where
         by : (b : Bool) → let y = (if b then got (machine s) w n from bytes x else x) in EarlyIn y.slave.session y.slave.inner
@@ -320,7 +320,7 @@ module _ (s : Setup) where
     early_at [] = refl
     early_at (e ∷ log) = next_early e (at (machine s) w n log) (regular log) (early_at log)
 
-    next_still : (e : LogEntry) (x : Both Plant) → IsRegularIn s x.slave.session x.slave.inner → IsSound x.slave.inner → EarlyIn x.slave.session x.slave.inner → Still x.slave.inner (next (machine s) w n e x).slave.inner
+    next_still : (e : LogEntry) (x : Both Plant) → IsRegularIn s x.slave.session x.slave.inner → IsSoundPlant x.slave.inner → EarlyIn x.slave.session x.slave.inner → Still x.slave.inner (next (machine s) w n e x).slave.inner
     next_still (Sent from to bytes) x reg ok h = λ a b. ap (λ y. y.inner.model) (sent_slave (move w n (Sent from to bytes)) x)
     next_still (Got at' from bytes) x reg ok h = by (same at' (w.slave n))
       where

@@ -11,7 +11,7 @@ use Rattle.scenario.specs.declared.scenarios.Scenario.{Scenario}
 use Rattle.log_spec.specs.Messages.{Note, Role, Request, Answer, Value, Else, Class, Asking, Answering, Carrying, Noting, between, is_request_code, class_of, role_by, role_read}
 use Rattle.log_spec.specs.Log.{Parties, same, role_heard}
 use Rattle.log_spec.specs.Moves.{Move, Asks, Comes, Tells, Hears, Brings, Turns, Rests, Other, sent_move, got_move, move, decided_exchanges}
-use Rattle.lockstep_laws.specs.Master.{IsNew, MasterMay}
+use Rattle.lockstep_laws.specs.Master.{IsNewRequest, MasterMay}
 use Rattle.model_laws.specs.Scenarios.{slave_numbered}
 use Rattle.course_spec.specs.Courses.{may}
 use Rattle.slave_data.specs.Made.{parties, slaves}
@@ -125,7 +125,7 @@ module _ (sc : Scenario) (other : SlaveDesc) where
   both true false h k = k
   both false b h k = h
 
-  new_asked : (s : ℕ) (n : Note) (log : List LogEntry) → is_request_code n.message.code ≡ true → IsNew (parties sc other) (slaves sc other) s n log → IsNew (parties sc other) (slaves_asked sc other) s n log
+  new_asked : (s : ℕ) (n : Note) (log : List LogEntry) → is_request_code n.message.code ≡ true → IsNewRequest (parties sc other) (slaves sc other) s n log → IsNewRequest (parties sc other) (slaves_asked sc other) s n log
   new_asked s n log code h = record {
     closed = h.closed;
     number = h.number;

@@ -18,7 +18,7 @@ use Rattle.plan_laws.proofs.Lists.{each_filter, each_weaker, each_both, each_app
 use Rattle.plan_laws.proofs.Links.{IsWireLink, links_wired, links_to, links_of}
 use Rattle.slave_wiring.specs.Changes.{Change, Set, input, vr_for, entries, has_id}
 use Rattle.slave_course.specs.Wired.{changes_with, changes_after, planned_changes}
-use Rattle.slave_links.specs.Links.{link_of, every_of, from_of, interval_of, sender_of}
+use Rattle.slave_links.specs.Links.{data_link_of, link_interval, from_of, interval_of, sender_of}
 use Rattle.slave_links.proofs.Found.{wires_found}
 use Rattle.slave_links.proofs.Parts.{after_append, each_numbered}
 use Rattle.slave_links.proofs.Planned.{first, planned_is}
@@ -39,9 +39,9 @@ each_spaced sc ok =
     (each_weaker (IsWireLink sc) (λ (l : DataLink). 0 < l.every) (λ l k. let e = k.interval.0 in omega (arith, e)) (wire_links sc) (links_wired sc ok))
 
 pub some_interval : (sc : Scenario) → IsScenario sc → (id : ℕ) → 0 < interval_of sc id
-some_interval sc ok id = by (link_of sc id) refl
+some_interval sc ok id = by (data_link_of sc id) refl
   where
-    by : (o : Option DataLink) → link_of sc id ≡ o → 0 < every_of o
+    by : (o : Option DataLink) → data_link_of sc id ≡ o → 0 < link_interval o
     by None e = omega arith
     by (Some l) e = found_has (λ (m : DataLink). 0 < m.every) id (links sc) l (each_spaced sc ok) e
 
@@ -144,8 +144,8 @@ fed_by_slaves sc ok s d id h = planned_known sc s d F (each_filter (λ (l : Data
     F : ℕ → Type 0
     F i = IsSlave sc.slaves (sender_of sc i)
 
-    one : (l : DataLink) → IsWireLink sc l → link_of sc l.id ≡ Some l → F l.id
+    one : (l : DataLink) → IsWireLink sc l → data_link_of sc l.id ≡ Some l → F l.id
     one l w e = let P : ℕ → Type 0 = IsSlave sc.slaves in subst P (sym (ap from_of e)) (wire_from sc.slaves l.from l.to sc.wires (each_from_all (λ (v : Wire). IsWire sc.slaves v) sc.wires ok.wires) w.wired)
 
     wires : AllByRecursion (λ (l : DataLink). F l.id) (wire_links sc)
-    wires = each_both (IsWireLink sc) (λ (l : DataLink). link_of sc l.id ≡ Some l) (λ (l : DataLink). F l.id) one (wire_links sc) (links_wired sc ok) (wires_found sc ok)
+    wires = each_both (IsWireLink sc) (λ (l : DataLink). data_link_of sc l.id ≡ Some l) (λ (l : DataLink). F l.id) one (wire_links sc) (links_wired sc ok) (wires_found sc ok)

@@ -15,19 +15,19 @@ use Rattle.scenario.specs.Settings.{parameters}
 use Rattle.scenario.specs.Sound.{IsScenario}
 use Rattle.log_spec.specs.Messages.{is_request_code}
 use Rattle.log_spec.specs.Log as logs
-use Rattle.log_spec.specs.Log.{Parties, Decision, same, role_heard}
+use Rattle.log_spec.specs.Log.{Parties, DecidedRequest, same, role_heard}
 use Rattle.log_spec.specs.Moves.{Move, Asks, Comes, Tells, Hears, Brings, Turns, Rests, Other, move}
-use Rattle.lockstep_laws.specs.Asked.{Asked}
+use Rattle.lockstep_laws.specs.Asked.{AskedAsPlanned}
 use Rattle.lockstep_laws.specs.Works.{Works}
 use Rattle.lockstep_laws.specs.Steps.{Bench, StepsOn, TakesOn, Told, Begins, Does, Rested, Nothing, told_of}
 use Rattle.model_laws.specs.Machines.{IsAskedInOrder}
 use Rattle.model_laws.specs.Scenarios.{slave_numbered}
 use Rattle.slave_wiring.specs.Payloads as wired
-use Rattle.slave_spec.specs.declared.words.Setup.{Setup}
+use Rattle.slave_spec.specs.declared.words.SlaveSetup.{SlaveSetup}
 use Rattle.slave_spec.specs.declared.words.Session.{Session}
 use Rattle.slave_spec.specs.declared.words.Session.TheVariants.{Before, During, After}
 use Rattle.slave_spec.specs.Transport as transport
-use Rattle.slave_spec.specs.Transport.{Slave}
+use Rattle.slave_spec.specs.Transport.{SlaveState}
 use Rattle.slave_spec.specs.Plants.{Plant}
 use Rattle.slave_spec.specs.Turns as turns
 use Rattle.slave_spec.specs.Turns.{Act, Stay, Wait, Fault, Step, Pass, act, is_missed, step_act, computing, state_act, turned, values}
@@ -50,7 +50,7 @@ use Rattle.slave_emits.proofs.Goes.{IsTurn, sent_busy, got_turn, order_less}
 use Rattle.slave_laws.specs.Whole.{slaves_asked, StepOnInputs}
 
 -- ---- who is asked as wanted here is asked as wanted below
-pub asked_may : (sc : Scenario) (s : ℕ) (d : SlaveDesc) (es : List Decision) → Asked (may_ask sc s d) es → Asked (may sc s d) es
+pub asked_may : (sc : Scenario) (s : ℕ) (d : SlaveDesc) (es : List DecidedRequest) → AskedAsPlanned (may_ask sc s d) es → AskedAsPlanned (may sc s d) es
 asked_may sc s d [] a = tt
 asked_may sc s d (e ∷ es) a = ((and_parts (is_request_code e.request.message.code) (may sc s d es e.request) a.0).1, asked_may sc s d es a.1)
 
@@ -62,12 +62,12 @@ step_is : (r : Result (List ℤ) FaultCode) (y : List ℤ) → step_act r ≡ St
 step_is (Ok x) y h = let e : x ≡ y = cc in ap (λ (z : List ℤ). Ok z) e
 step_is (Err code) y h = absurd cc
 
-module _ (s : Setup) (p : Plant) (y : List ℤ) where
+module _ (s : SlaveSetup) (p : Plant) (y : List ℤ) where
   abbrev IsStep : Type 0
-  IsStep = step_of p.model (wired.inputs s.desc p.wires) s.micro ≡ Ok y
+  IsStep = step_of p.model (wired.wired_values s.desc p.wires) s.micro ≡ Ok y
 
   computing_is : (left : ℕ) → computing s p left ≡ Step y → IsStep
-  computing_is zero h = step_is (step_of p.model (wired.inputs s.desc p.wires) s.micro) y h
+  computing_is zero h = step_is (step_of p.model (wired.wired_values s.desc p.wires) s.micro) y h
   computing_is (suc left) h = absurd cc
 
   fit_no : (b : Bool) → (if b then Pass else Fault OutOfRange) ≡ Step y → ⊥
@@ -113,7 +113,7 @@ takes_none Does b c h st = let e = sym h.steps ∙ st.steps in omega (arith, e)
 takes_none Rested b c h st = same_more b.steps (sym h.idles.steps ∙ st.steps)
 takes_none Nothing b c h st = same_more b.steps (sym h.steps ∙ st.steps)
 
-works_turn : (mv : Move) (es es' : List Decision) (b c : Bench) → Works mv es es' b c → StepsOn b c → IsTurn mv
+works_turn : (mv : Move) (es es' : List DecidedRequest) (b c : Bench) → Works mv es es' b c → StepsOn b c → IsTurn mv
 works_turn (Asks n) es es' b c h st = absurd (same_more b.steps (sym (ap (λ z. z.steps) h) ∙ st.steps))
 works_turn (Comes from receiver n) es es' b c (inl h) st = absurd (same_more b.steps (sym h.1.steps ∙ st.steps))
 works_turn (Comes from receiver n) es es' b c (inr h) st = absurd (takes_none (told_of h.0) b c h.2 st)
@@ -125,14 +125,14 @@ works_turn Rests es es' b c h st = absurd (same_more b.steps (sym h.steps ∙ st
 works_turn Other es es' b c h st = absurd (same_more b.steps (sym (ap (λ z. z.steps) h) ∙ st.steps))
 
 -- ---- the model's step
-module _ (sc : Scenario) (other : SlaveDesc) (ok : IsScenario sc) (s : ℕ) (is : logs.IsSlaveOf (parties sc other) s) (log : List LogEntry) (a : Asked (may sc s (slave_numbered sc other s)) (at (machine (setup_at sc other s)) (parties sc other) s log).desk.served) where
+module _ (sc : Scenario) (other : SlaveDesc) (ok : IsScenario sc) (s : ℕ) (is : logs.IsSlaveOf (parties sc other) s) (log : List LogEntry) (a : AskedAsPlanned (may sc s (slave_numbered sc other s)) (at (machine (setup_at sc other s)) (parties sc other) s log).desk.served) where
   abbrev W : Parties
   W = parties sc other
 
-  abbrev X : Setup
+  abbrev X : SlaveSetup
   X = setup_at sc other s
 
-  abbrev x : Slave Plant
+  abbrev x : SlaveState Plant
   x = (at (machine X) W s log).slave
 
   abbrev p : Plant
@@ -148,15 +148,15 @@ module _ (sc : Scenario) (other : SlaveDesc) (ok : IsScenario sc) (s : ℕ) (is 
   quiet = transport.quieter x.quiet
 
   abbrev Goal : Plant → Type 0
-  Goal q = model_step X.desc.kind (parameters sc s X.desc (b.resets + 1)) (map (λ r. r.kind) X.desc.outputs) p.model.state (wired.inputs X.desc p.wires) sc.micro ≡ Ok q.model.state
+  Goal q = model_step X.desc.kind (parameters sc s X.desc (b.resets + 1)) (map (λ r. r.kind) X.desc.outputs) p.model.state (wired.wired_values X.desc p.wires) sc.micro ≡ Ok q.model.state
 
-  stepped : (y : List ℤ) → is_during x.session ≡ true → act X quiet p ≡ Step y → model_step X.desc.kind (parameters sc s X.desc (b.resets + 1)) (map (λ r. r.kind) X.desc.outputs) p.model.state (wired.inputs X.desc p.wires) sc.micro ≡ Ok y
+  stepped : (y : List ℤ) → is_during x.session ≡ true → act X quiet p ≡ Step y → model_step X.desc.kind (parameters sc s X.desc (b.resets + 1)) (map (λ r. r.kind) X.desc.outputs) p.model.state (wired.wired_values X.desc p.wires) sc.micro ≡ Ok y
   stepped y e h =
       let of = of_scenario sc other ok s is in
       let past : is_past p.state ≡ true = ap is_past (act_step X quiet p y h) in
       let fresh = begins_fresh X W s log in
       let ps = have_parameters sc s X W of (reads sc other) log (past_tuned sc s X W of (reads sc other) log a e past) in
-      let us = wired.inputs X.desc p.wires in
+      let us = wired.wired_values X.desc p.wires in
       sym (ap (λ k. model_step k p.model.parameters p.model.types p.model.state us sc.micro) fresh.kind
       ∙ ap (λ qs. model_step X.desc.kind qs p.model.types p.model.state us sc.micro) ps
       ∙ ap (λ ts. model_step X.desc.kind (parameters sc s X.desc (b.resets + 1)) ts p.model.state us sc.micro) fresh.types)

@@ -11,10 +11,10 @@ use Rattle.lockstep.specs.Lockstep as reference
 use Rattle.lockstep.specs.Lockstep.{EachRow}
 use Rattle.log_spec.specs.Log.{IsSlaveOf}
 use Rattle.lockstep_laws.specs.Steps.{StepsOn}
-use Rattle.lockstep_laws.specs.Cast.{Slaves}
+use Rattle.lockstep_laws.specs.Cast.{ConversingSlaves}
 use Rattle.lockstep_laws.specs.Master.{MasterConverses}
 use Rattle.model_laws.specs.Scenarios.{slave_numbered}
-use Rattle.model_laws.specs.Machines.{KeptNote, IsRight, IsAskedInOrder, AreMachines}
+use Rattle.model_laws.specs.Machines.{KeptNote, IsRightNote, IsAskedInOrder, AreMachines}
 use Rattle.slave_wiring.specs.Payloads as wired
 use Rattle.slave_meets.specs.Laws.{slaves_made}
 use Rattle.slave_meets.specs.Benches.{bench_at}
@@ -25,26 +25,26 @@ use Rattle.slave_data.specs.Made.{setup_at, parties, slaves, machines}
 
 module _ (sc : Scenario) (other : SlaveDesc) where
   -- the slaves of the scenario, of which requests alone may be asked
-  abbrev pub slaves_asked : Slaves
+  abbrev pub slaves_asked : ConversingSlaves
   slaves_asked = slaves_made (parties sc other) (setup_at sc other) sc.steps sc.runs (λ s. may_ask sc s (slave_numbered sc other s)) (λ s. opened sc s (slave_numbered sc other s))
 
   -- the payloads that are kept under the ids that feed a slave carry what their senders show in these rows
   abbrev pub KeepsRight : (s : ℕ) → List (List ℤ) → List LogEntry → Type 0
-  KeepsRight s rows log = (id : ℕ) → (machines sc other).feeds s id ≡ true → (k : KeptNote) → ((machines sc other).store s log).kept id ≡ Some k → IsRight slaves_asked (machines sc other) rows id k.ordinal k.note
+  KeepsRight s rows log = (id : ℕ) → (machines sc other).feeds s id ≡ true → (k : KeptNote) → ((machines sc other).store s log).kept id ≡ Some k → IsRightNote slaves_asked (machines sc other) rows id k.ordinal k.note
 
   -- while a step is computed on such payloads, its inputs are those of the reference, which has no rows behind the scenario's runs
   abbrev pub ReadsRows : ℕ → Type 0
   ReadsRows s = (log : List LogEntry) → IsAskedInOrder (parties sc other) (slaves sc other) s log → (plant_at (setup_at sc other s) (parties sc other) s log).state ≡ Computing
       → (rows : List (List ℤ)) → EachRow sc rows → length rows ≤ sc.runs * (sc.steps + 1) → KeepsRight s rows log
       → let b = bench_at (setup_at sc other s) (parties sc other) s log in
-      wired.inputs (slave_numbered sc other s) (plant_at (setup_at sc other s) (parties sc other) s log).wires ≡ reference.inputs sc rows s (slave_numbered sc other s) (b.resets + 1) b.steps
+      wired.wired_values (slave_numbered sc other s) (plant_at (setup_at sc other s) (parties sc other) s log).wires ≡ reference.inputs sc rows s (slave_numbered sc other s) (b.resets + 1) b.steps
 
 -- a step is the model's, with the parameters of the run, on the inputs that are kept
 abbrev pub StepOnInputs : Type 0
 StepOnInputs = (sc : Scenario) (other : SlaveDesc) → IsScenario sc → (s : ℕ) → IsSlaveOf (parties sc other) s → (e : LogEntry) (log : List LogEntry) → IsAskedInOrder (parties sc other) (slaves_asked sc other) s (e ∷ log)
     → let x = setup_at sc other s in let w = parties sc other in let b = bench_at x w s log in
     StepsOn b (bench_at x w s (e ∷ log))
-    → model_step x.desc.kind (parameters sc s x.desc (b.resets + 1)) (map (λ p. p.kind) x.desc.outputs) (plant_at x w s log).model.state (wired.inputs x.desc (plant_at x w s log).wires) sc.micro ≡ Ok (plant_at x w s (e ∷ log)).model.state
+    → model_step x.desc.kind (parameters sc s x.desc (b.resets + 1)) (map (λ p. p.kind) x.desc.outputs) (plant_at x w s log).model.state (wired.wired_values x.desc (plant_at x w s log).wires) sc.micro ≡ Ok (plant_at x w s (e ∷ log)).model.state
 
 -- all that the laws of models want of the slaves of a scenario, where these read the reference's rows
 abbrev pub AreMachinesOnRows : Type 0

@@ -10,7 +10,7 @@ use Rattle.plan_spec.specs.declared.links.DataLink.{DataLink}
 use Rattle.plan_spec.specs.Links.{watch_link, wire_links, watch_links}
 use Rattle.plan_laws.proofs.Lists.{Pairwise, each_both, pairwise_weaker, each_always}
 use Rattle.plan_laws.proofs.Links.{IsWireLink, IsLinkBefore, links_wired, links_ordered}
-use Rattle.slave_links.specs.Links.{link_of}
+use Rattle.slave_links.specs.Links.{data_link_of}
 
 chosen : (b : Bool) (x : DataLink) (o : Option DataLink) → b ≡ true → (if b then Some x else o) ≡ Some x
 chosen true x o e = refl
@@ -45,12 +45,12 @@ watch_there a (suc n) s ys h k = by (watch_there (a + 1) n s ys) (cases_lt a s)
     by f (inr le) = let e : a ≡ s = omega (arith, h, le) in chosen (a == s) (watch_link a) _ (eq-eqb a s e) ∙ ap (λ z. Some (watch_link z)) e
 
 module _ (sc : Scenario) (ok : IsScenario sc) where
-  pub watch_found : (s : ℕ) → 1 ≤ s → s ≤ length sc.slaves → link_of sc s ≡ Some (watch_link s)
+  pub watch_found : (s : ℕ) → 1 ≤ s → s ≤ length sc.slaves → data_link_of sc s ≡ Some (watch_link s)
   watch_found s h k = watch_there 1 (length sc.slaves) s (wire_links sc) h (omega (arith, k))
 
-  pub wires_found : AllByRecursion (λ (l : DataLink). link_of sc l.id ≡ Some l) (wire_links sc)
+  pub wires_found : AllByRecursion (λ (l : DataLink). data_link_of sc l.id ≡ Some l) (wire_links sc)
   wires_found =
-      each_both (IsWireLink sc) (λ (l : DataLink). find (λ m. m.id == l.id) (wire_links sc) ≡ Some l) (λ (l : DataLink). link_of sc l.id ≡ Some l)
+      each_both (IsWireLink sc) (λ (l : DataLink). find (λ m. m.id == l.id) (wire_links sc) ≡ Some l) (λ (l : DataLink). data_link_of sc l.id ≡ Some l)
       (λ l w f. skipped l.id (watch_links sc) (wire_links sc) (watches_below 1 (length sc.slaves) l.id (omega (arith, w.id, ok.few_slaves.1))) ∙ f)
       (wire_links sc) (links_wired sc ok)
       (each_found (wire_links sc) (pairwise_weaker (λ (l : DataLink). Unit {0}) IsLinkBefore (λ (l r : DataLink). (l.id == r.id) ≡ false) (λ l r a b h. h.apart) (wire_links sc) (each_always (λ (l : DataLink). Unit {0}) (λ l. tt) (wire_links sc)) (links_ordered sc)))

@@ -8,7 +8,7 @@ use Rattle.pdu_layout.specs.declared.messages.Cfg.TheVariants as cfg
 use Rattle.plan_spec.specs.declared.links.DataLink.{DataLink}
 use Rattle.plan_spec.specs.Setup.{numbered, told_interval}
 use Rattle.plan_laws.proofs.Lists.{each_append}
-use Rattle.slave_wiring.specs.Changes.{Change, Set, Side, vr_for, entries, has_id, interval_given, set_or, interval}
+use Rattle.slave_wiring.specs.Changes.{Change, Set, Side, vr_for, entries, has_id, interval_given, set_or, entry_interval}
 use Rattle.slave_course.specs.Wired.{changes_with, changes_after}
 
 pub after_append : (base : List Change) (xs ys : List Cfg) → changes_after base (xs ++ ys) ≡ changes_after (changes_after base xs) ys
@@ -34,11 +34,11 @@ module _ (side : Side) where
   unset_same known None before e = refl
   unset_same known (Some q) before e = absurd cc
 
-  pub quiet_interval : (id other : ℕ) (bodies : List Cfg) (changes : List Change) → AreQuiet id bodies → interval side other (changes_after changes bodies) ≡ interval side other changes
+  pub quiet_interval : (id other : ℕ) (bodies : List Cfg) (changes : List Change) → AreQuiet id bodies → entry_interval side other (changes_after changes bodies) ≡ entry_interval side other changes
   quiet_interval id other [] changes h = refl
   quiet_interval id other (body ∷ bodies) changes h =
-      quiet_interval id other bodies (changes_with body changes) h.1 ∙ ap (interval side other) ((h.0).kept changes)
-      ∙ unset_same (has_id side other changes) (interval_given other (Set body)) (interval side other changes) ((h.0).unset other)
+      quiet_interval id other bodies (changes_with body changes) h.1 ∙ ap (entry_interval side other) ((h.0).kept changes)
+      ∙ unset_same (has_id side other changes) (interval_given other (Set body)) (entry_interval side other changes) ((h.0).unset other)
 
   pub quiet_entries : (id other : ℕ) (bodies : List Cfg) (changes : List Change) → (id == other) ≡ false → AreQuiet id bodies → entries side other (changes_after changes bodies) ≡ entries side other changes
   quiet_entries id other [] changes e h = refl
@@ -52,8 +52,8 @@ module _ (side : Side) where
   -- ---- intervals
   module _ (f : ℕ → ℕ) (steps_silent : (other id q : ℕ) → vr_for other (side (Set (cfg.Steps id q))) ≡ None) where
     pub record AreSpaced (changes : List Change) : Type 0 where
-      pub each : (id : ℕ) → has_id side id changes ≡ true → interval side id changes ≡ f id
-      pub near : (id : ℕ) → (interval side id changes ≡ 1) ⊎ (interval side id changes ≡ f id)
+      pub each : (id : ℕ) → has_id side id changes ≡ true → entry_interval side id changes ≡ f id
+      pub near : (id : ℕ) → (entry_interval side id changes ≡ 1) ⊎ (entry_interval side id changes ≡ f id)
 
     one_or : (q r : ℕ) → (q ≡ 1) ⊎ (q ≡ r) → r ≡ 1 → q ≡ r
     one_or q r (inl e) z = e ∙ sym z
@@ -66,19 +66,19 @@ module _ (side : Side) where
       near = λ other. near other (j.near other);
     }
       where
-        near : (other : ℕ) → (interval side other changes ≡ 1) ⊎ (interval side other changes ≡ f other) → (interval side other (changes_after changes bodies) ≡ 1) ⊎ (interval side other (changes_after changes bodies) ≡ f other)
+        near : (other : ℕ) → (entry_interval side other changes ≡ 1) ⊎ (entry_interval side other changes ≡ f other) → (entry_interval side other (changes_after changes bodies) ≡ 1) ⊎ (entry_interval side other (changes_after changes bodies) ≡ f other)
         near other (inl e) = inl (quiet_interval id other bodies changes h ∙ e)
         near other (inr e) = inr (quiet_interval id other bodies changes h ∙ e)
 
-        each : (other : ℕ) → has_id side other (changes_after changes bodies) ≡ true → (b : Bool) → (id == other) ≡ b → interval side other (changes_after changes bodies) ≡ f other
-        each other k true e = quiet_interval id other bodies changes h ∙ one_or (interval side other changes) (f other) (j.near other) (ap f (sym (eqb-true id other e)) ∙ one)
+        each : (other : ℕ) → has_id side other (changes_after changes bodies) ≡ true → (b : Bool) → (id == other) ≡ b → entry_interval side other (changes_after changes bodies) ≡ f other
+        each other k true e = quiet_interval id other bodies changes h ∙ one_or (entry_interval side other changes) (f other) (j.near other) (ap f (sym (eqb-true id other e)) ∙ one)
         each other k false e = quiet_interval id other bodies changes h ∙ j.each other (sym (quiet_known id other bodies changes e h) ∙ k)
 
-    set_here : (id other q : ℕ) (changes : List Change) → (id == other) ≡ true → has_id side other changes ≡ true → interval side other (Set (cfg.Steps id q) ∷ changes) ≡ q
-    set_here id other q changes e k = ap (λ b. set_or (has_id side other changes) (if b then Some q else None) (interval side other changes)) e ∙ ap (λ b. set_or b (Some q) (interval side other changes)) k
+    set_here : (id other q : ℕ) (changes : List Change) → (id == other) ≡ true → has_id side other changes ≡ true → entry_interval side other (Set (cfg.Steps id q) ∷ changes) ≡ q
+    set_here id other q changes e k = ap (λ b. set_or (has_id side other changes) (if b then Some q else None) (entry_interval side other changes)) e ∙ ap (λ b. set_or b (Some q) (entry_interval side other changes)) k
 
-    set_other : (id other q : ℕ) (changes : List Change) → (id == other) ≡ false → interval side other (Set (cfg.Steps id q) ∷ changes) ≡ interval side other changes
-    set_other id other q changes e = ap (λ b. set_or (has_id side other changes) (if b then Some q else None) (interval side other changes)) e
+    set_other : (id other q : ℕ) (changes : List Change) → (id == other) ≡ false → entry_interval side other (Set (cfg.Steps id q) ∷ changes) ≡ entry_interval side other changes
+    set_other id other q changes e = ap (λ b. set_or (has_id side other changes) (if b then Some q else None) (entry_interval side other changes)) e
 
     set_unknown : (o : Option ℕ) (known : Bool) (before : ℕ) → known ≡ false → set_or known o before ≡ before
     set_unknown None known before e = refl
@@ -98,20 +98,20 @@ module _ (side : Side) where
         cs : List Change
         cs = changes_after changes bodies
 
-        same : (other : ℕ) → interval side other cs ≡ interval side other changes
+        same : (other : ℕ) → entry_interval side other cs ≡ entry_interval side other changes
         same other = quiet_interval id other bodies changes h
 
-        each : (other : ℕ) → has_id side other cs ≡ true → (b : Bool) → (id == other) ≡ b → interval side other (Set (cfg.Steps id q) ∷ cs) ≡ f other
+        each : (other : ℕ) → has_id side other cs ≡ true → (b : Bool) → (id == other) ≡ b → entry_interval side other (Set (cfg.Steps id q) ∷ cs) ≡ f other
         each other k true e = set_here id other q cs e k ∙ sym is ∙ ap f (eqb-true id other e)
         each other k false e = set_other id other q cs e ∙ same other ∙ j.each other (sym (quiet_known id other bodies changes e h) ∙ k)
 
-        stays : (other : ℕ) → interval side other (Set (cfg.Steps id q) ∷ cs) ≡ interval side other changes → (interval side other changes ≡ 1) ⊎ (interval side other changes ≡ f other) → (interval side other (Set (cfg.Steps id q) ∷ cs) ≡ 1) ⊎ (interval side other (Set (cfg.Steps id q) ∷ cs) ≡ f other)
+        stays : (other : ℕ) → entry_interval side other (Set (cfg.Steps id q) ∷ cs) ≡ entry_interval side other changes → (entry_interval side other changes ≡ 1) ⊎ (entry_interval side other changes ≡ f other) → (entry_interval side other (Set (cfg.Steps id q) ∷ cs) ≡ 1) ⊎ (entry_interval side other (Set (cfg.Steps id q) ∷ cs) ≡ f other)
         stays other g (inl e) = inl (g ∙ e)
         stays other g (inr e) = inr (g ∙ e)
 
-        near : (other : ℕ) (b : Bool) → (id == other) ≡ b → (c : Bool) → has_id side other cs ≡ c → (interval side other changes ≡ 1) ⊎ (interval side other changes ≡ f other) → (interval side other (Set (cfg.Steps id q) ∷ cs) ≡ 1) ⊎ (interval side other (Set (cfg.Steps id q) ∷ cs) ≡ f other)
+        near : (other : ℕ) (b : Bool) → (id == other) ≡ b → (c : Bool) → has_id side other cs ≡ c → (entry_interval side other changes ≡ 1) ⊎ (entry_interval side other changes ≡ f other) → (entry_interval side other (Set (cfg.Steps id q) ∷ cs) ≡ 1) ⊎ (entry_interval side other (Set (cfg.Steps id q) ∷ cs) ≡ f other)
         near other true e true k n = inr (each other k true e)
-        near other true e false k n = stays other (set_unknown (interval_given other (Set (cfg.Steps id q))) (has_id side other cs) (interval side other cs) k ∙ same other) n
+        near other true e false k n = stays other (set_unknown (interval_given other (Set (cfg.Steps id q))) (has_id side other cs) (entry_interval side other cs) k ∙ same other) n
         near other false e c k n = stays other (set_other id other q cs e ∙ same other) n
 
     -- the part of a link

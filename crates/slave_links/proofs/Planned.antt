@@ -16,13 +16,13 @@ use Rattle.plan_spec.specs.declared.links.DataLink.{DataLink}
 use Rattle.plan_spec.specs.declared.pairs.Pair.{Pair}
 use Rattle.plan_spec.specs.Links.{positions, wire_links}
 use Rattle.plan_spec.specs.Setup.{set_parameter, settings_of, numbered, net_info, input_at, output_at, told_interval, incoming, outgoing, watched}
-use Rattle.plan_laws.specs.Taking.{IsSlaveOf}
+use Rattle.plan_laws.specs.Taking.{IsScenarioSlave}
 use Rattle.plan_laws.proofs.Lists.{each_filter, each_weaker, each_both, each_append}
 use Rattle.plan_laws.proofs.Planned.{slave_there}
 use Rattle.plan_laws.proofs.Links.{links_to, links_of, from_here}
 use Rattle.slave_wiring.specs.Changes.{Change, Set, Side, input, output, vr_for, entries, has_id}
 use Rattle.slave_course.specs.Wired.{changes_with, changes_after, planned_changes}
-use Rattle.slave_links.specs.Links.{link_of, every_of, from_of, interval_of, sender_of, IntervalsArePlanned, SendersArePlanned}
+use Rattle.slave_links.specs.Links.{data_link_of, link_interval, from_of, interval_of, sender_of, IntervalsArePlanned, SendersArePlanned}
 use Rattle.slave_links.proofs.Found.{watch_found, wires_found}
 use Rattle.slave_links.proofs.Parts.{after_append, each_numbered, IsQuiet, AreQuiet, AreSpaced, quiet_spaced, link_spaced}
 
@@ -144,11 +144,11 @@ module _ (side : Side) (is : IsSide side) where
     first_spaced : Spaced (first d)
     first_spaced = record { each = λ id h. absurd (none_known id h); near = λ id. inl refl }
 
-    planned_spaced : IsSlaveOf sc s d → Spaced (planned_changes sc s d)
+    planned_spaced : IsScenarioSlave sc s d → Spaced (planned_changes sc s d)
     planned_spaced ok =
         let there = slave_there sc.slaves s d ok.sound.slaves ok.slave in
-        let every : AllByRecursion HasEvery (wire_links sc) = each_weaker (λ (l : DataLink). link_of sc l.id ≡ Some l) HasEvery (λ l e. ap every_of e) (wire_links sc) (wires_found sc ok.sound) in
-        let one : interval_of sc s ≡ 1 = ap every_of (watch_found sc ok.sound s there.first there.last) in
+        let every : AllByRecursion HasEvery (wire_links sc) = each_weaker (λ (l : DataLink). data_link_of sc l.id ≡ Some l) HasEvery (λ l e. ap link_interval e) (wire_links sc) (wires_found sc ok.sound) in
+        let one : interval_of sc s ≡ 1 = ap link_interval (watch_found sc ok.sound s there.first there.last) in
         let a = all_spaced (incoming sc d) come_spaced (links_to sc s) (first d) (each_filter HasEvery (λ (l : DataLink). l.to == s) (wire_links sc) every) first_spaced in
         let b = all_spaced (outgoing sc d) go_spaced (links_of sc s) (changes_after (first d) (flat_map (incoming sc d) (links_to sc s))) (each_filter HasEvery (λ (l : DataLink). l.from == s) (wire_links sc) every) a in
         let c = quiet_spaced side (interval_of sc) is.steps s (watched sc s d) (changes_after (changes_after (first d) (flat_map (incoming sc d) (links_to sc s))) (flat_map (outgoing sc d) (links_of sc s))) watched_quiet one b in
@@ -233,11 +233,11 @@ module _ (sc : Scenario) (s : ℕ) where
     goings_sent [] changes own j = j
     goings_sent (l ∷ ls) changes own j = let P : List Change → Type 0 = AreSent in subst P (sym (after_append changes (outgoing sc d l) (flat_map (outgoing sc d) ls))) (goings_sent ls (changes_after changes (outgoing sc d l)) own.1 (all_sent l.id (outgoing sc d l) changes (outgoing_of l) own.0 j))
 
-    planned_sent : IsSlaveOf sc s d → AreSent (planned_changes sc s d)
+    planned_sent : IsScenarioSlave sc s d → AreSent (planned_changes sc s d)
     planned_sent ok =
         let there = slave_there sc.slaves s d ok.sound.slaves ok.slave in
-        let found : AllByRecursion (λ (l : DataLink). link_of sc l.id ≡ Some l) (links_of sc s) = each_filter (λ (l : DataLink). link_of sc l.id ≡ Some l) (λ (l : DataLink). l.from == s) (wire_links sc) (wires_found sc ok.sound) in
-        let own : AllByRecursion (λ (l : DataLink). sender_of sc l.id ≡ s) (links_of sc s) = each_both (λ (l : DataLink). link_of sc l.id ≡ Some l) (λ (l : DataLink). l.from ≡ s) (λ (l : DataLink). sender_of sc l.id ≡ s) (λ l e f. ap from_of e ∙ f) (links_of sc s) found (from_here sc s) in
+        let found : AllByRecursion (λ (l : DataLink). data_link_of sc l.id ≡ Some l) (links_of sc s) = each_filter (λ (l : DataLink). data_link_of sc l.id ≡ Some l) (λ (l : DataLink). l.from == s) (wire_links sc) (wires_found sc ok.sound) in
+        let own : AllByRecursion (λ (l : DataLink). sender_of sc l.id ≡ s) (links_of sc s) = each_both (λ (l : DataLink). data_link_of sc l.id ≡ Some l) (λ (l : DataLink). l.from ≡ s) (λ (l : DataLink). sender_of sc l.id ≡ s) (λ l e f. ap from_of e ∙ f) (links_of sc s) found (from_here sc s) in
         let mine : sender_of sc s ≡ s = ap from_of (watch_found sc ok.sound s there.first there.last) in
         let a = comings_sent (links_to sc s) (first d) (λ id h. absurd cc) in
         let b = goings_sent (links_of sc s) (changes_after (first d) (flat_map (incoming sc d) (links_to sc s))) own a in

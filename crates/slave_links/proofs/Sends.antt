@@ -17,19 +17,19 @@ use Rattle.plan_spec.specs.declared.links.DataLink.{DataLink}
 use Rattle.plan_spec.specs.declared.pairs.Pair.{Pair}
 use Rattle.plan_spec.specs.Links.{pairs_from, positions, watch_link, watch_links, wire_links, links}
 use Rattle.plan_spec.specs.Setup.{numbered, net_info, output_at, told_interval, incoming, outgoing, watched, setup_list}
-use Rattle.plan_laws.specs.Taking.{IsSlaveOf, after_all}
+use Rattle.plan_laws.specs.Taking.{IsScenarioSlave, plant_after_all}
 use Rattle.plan_laws.proofs.Lists.{each_filter, each_weaker, each_both, each_append, each_always, each_map, each_flat_map, each_from_all}
 use Rattle.plan_laws.proofs.Planned.{slave_there, positions_some, outputs_there}
 use Rattle.plan_laws.proofs.Links.{IsWireLink, links_wired, links_to, links_of, from_here}
 use Rattle.plan_laws.proofs.Taken.{setup_completes}
 use Rattle.slave_wiring.specs.Changes.{Change, Set, input, output, vr_for, entries, has_id, ids, source, target, time_given, complete}
-use Rattle.slave_spec.specs.declared.words.Setup.{Setup}
+use Rattle.slave_spec.specs.declared.words.SlaveSetup.{SlaveSetup}
 use Rattle.slave_spec.specs.declared.words.Asked.TheVariants.{Setting}
-use Rattle.slave_spec.specs.Plants.{Plant, start}
+use Rattle.slave_spec.specs.Plants.{Plant, start_plant}
 use Rattle.slave_spec.specs.Requests.{accepted}
 use Rattle.slave_holds.proofs.Inputs.{among}
 use Rattle.slave_course.specs.Wired.{changes_with, changes_after, planned_changes}
-use Rattle.slave_links.specs.Links.{link_of, from_of, sender_of, SendersSend}
+use Rattle.slave_links.specs.Links.{data_link_of, from_of, sender_of, SendersSend}
 use Rattle.slave_links.proofs.Parts.{after_append, each_numbered}
 use Rattle.slave_links.proofs.Planned.{first, planned_is, IsOf, told_silent, silent_of, output_of, outgoing_of, watched_of}
 
@@ -86,7 +86,7 @@ first_there d (p ∷ ps) some h = by (slice_get d.outputs p.from) refl h.0
     by None e k = absurd cc
     by (Some port) e k = (p, ps, port, refl, e)
 
-module _ (sc : Scenario) (s : ℕ) (d : SlaveDesc) (ok : IsSlaveOf sc s d) where
+module _ (sc : Scenario) (s : ℕ) (d : SlaveDesc) (ok : IsScenarioSlave sc s d) where
   abbrev entry : DataLink → ℕ → Pair → List Cfg
   entry l i p = output_at l.id i (slice_get d.outputs p.from)
 
@@ -149,14 +149,14 @@ module _ (sc : Scenario) (s : ℕ) (d : SlaveDesc) (ok : IsSlaveOf sc s d) where
       (each_map (λ (l : DataLink). l.from ≡ s → has_id output l.id Planned ≡ true) watch_link (range_with_len 1 (length sc.slaves)) (each_always (λ (k : ℕ). k ≡ s → has_id output k Planned ≡ true) own (range_with_len 1 (length sc.slaves)))) all
 
   sends_each : (id : ℕ) → sender_of sc id ≡ s → has_id output id Planned ≡ true
-  sends_each id e = by (link_of sc id) refl e
+  sends_each id e = by (data_link_of sc id) refl e
     where
-      by : (o : Option DataLink) → link_of sc id ≡ o → from_of o ≡ s → has_id output id Planned ≡ true
+      by : (o : Option DataLink) → data_link_of sc id ≡ o → from_of o ≡ s → has_id output id Planned ≡ true
       by None g h = absurd (omega (arith, h, (slave_there sc.slaves s d ok.sound.slaves ok.slave).first))
       by (Some l) g h = let f = found_one (λ (m : DataLink). m.from ≡ s → has_id output m.id Planned ≡ true) id (links sc) l each_known g in ap (λ z. has_id output z Planned) (sym f.1) ∙ f.0 h
 
 -- ---- and to an address
-set_changes : (x : Setup) (p : Plant) (body : Cfg) → (accepted x p (Setting body)).wires.changes ≡ changes_with body p.wires.changes
+set_changes : (x : SlaveSetup) (p : Plant) (body : Cfg) → (accepted x p (Setting body)).wires.changes ≡ changes_with body p.wires.changes
 unfolding accepted
 set_changes x p (cfg.Parameter vr kind value) = refl
 set_changes x p (cfg.Logging category level mode) = refl
@@ -171,7 +171,7 @@ set_changes x p (cfg.Tunable a b c e) = refl
 set_changes x p (cfg.ParamNet a b c e) = refl
 set_changes x p (cfg.Scope a b) = refl
 
-all_changes : (x : Setup) (p : Plant) (bodies : List Cfg) → (after_all x p bodies).wires.changes ≡ changes_after p.wires.changes bodies
+all_changes : (x : SlaveSetup) (p : Plant) (bodies : List Cfg) → (plant_after_all x p bodies).wires.changes ≡ changes_after p.wires.changes bodies
 all_changes x p [] = refl
 all_changes x p (body ∷ bodies) = all_changes x (accepted x p (Setting body)) bodies ∙ ap (λ cs. changes_after cs bodies) (set_changes x p body)
 
@@ -182,11 +182,11 @@ some_is : (o : Option Address) → is_some o ≡ true → (to : Address) × (o �
 some_is None h = absurd cc
 some_is (Some to) h = (to, refl)
 
-planned_targets : (sc : Scenario) (s : ℕ) (d : SlaveDesc) → IsSlaveOf sc s d → (id : ℕ) → has_id output id (planned_changes sc s d) ≡ true → (to : Address) × (target id (planned_changes sc s d) ≡ Some to)
+planned_targets : (sc : Scenario) (s : ℕ) (d : SlaveDesc) → IsScenarioSlave sc s d → (id : ℕ) → has_id output id (planned_changes sc s d) ≡ true → (to : Address) × (target id (planned_changes sc s d) ≡ Some to)
 planned_targets sc s d ok id h =
-    let x : Setup = record { desc = d; micro = 1 } in
+    let x : SlaveSetup = record { desc = d; micro = 1 } in
     let C = planned_changes sc s d in
-    let whole : complete C ≡ true = sym (ap complete (all_changes x (start x) (setup_list sc s d))) ∙ setup_completes sc s x (start x) ok in
+    let whole : complete C ≡ true = sym (ap complete (all_changes x (start_plant x) (setup_list sc s d))) ∙ setup_completes sc s x (start_plant x) ok in
     let targets = last_of (nat_lt 0 (length (filter_map time_given C))) (list_all (λ i. is_some (source i C)) (ids input C)) (list_all (λ i. is_some (target i C)) (ids output C)) whole in
     some_is (target id C) (among output id (λ i. is_some (target i C)) C targets h)
 

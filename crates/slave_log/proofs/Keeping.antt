@@ -5,8 +5,8 @@ use Rattle.std.proofs.lemmas.Bool.Decides.{nat_tests}
 use Rattle.std.proofs.lemmas.List.{map-append, take-map, length-map}
 use Rattle.std.proofs.lemmas.List.Elements.{filter-append}
 use Rattle.slave_log.specs.declared.lines.LogLine.{LogLine}
-use Rattle.slave_log.specs.Shelves.{Log, Shelf, empty, shelf, with_shelf, is_setting, configured, set_to, line, is_noted, put, counted, newest, noted, fetched, left}
-use Rattle.slave_log.specs.Calls.{Call, Configure, Note, Fetch, IsCategory, AreCalls, after_call, after_calls, all_fetched, LogFate, is_overwritten, waits, one_further, just_noted, with_fetched, keeps, log_fates, KeepsAll}
+use Rattle.slave_log.specs.Shelves.{Log, Shelf, empty, shelf, with_shelf, is_setting, log_configured, shelf_set_to, line, is_noted, put, shelf_counted, newest, noted, fetched, left}
+use Rattle.slave_log.specs.Calls.{LogCall, Configure, Note, Fetch, IsCategory, AreCalls, after_call, after_calls, all_fetched, LogFate, is_overwritten, waits, one_further, just_noted, with_fetched, keeps, log_fates, KeepsAll}
 
 by_test : {P : Type 0} → (b : Bool) → (b ≡ true → P) → (b ≡ false → P) → P
 by_test true f g = f refl
@@ -109,7 +109,7 @@ lines_more : (xs : List LogFate) (entry : LogLine) → lines (map one_further xs
 lines_more xs entry = map-append (λ f. f.line) (map one_further xs) (just_noted entry ∷ []) ∙ ap (λ l. l ++ entry ∷ []) (lines_further xs)
 
 -- the log_fates of a category: those that are done with, and those that wait
-pub record Parts (category : ℕ) (calls : List Call) : Type 0 where
+pub record Parts (category : ℕ) (calls : List LogCall) : Type 0 where
   pub done : List LogFate
   pub waiting : List LogFate
   pub split : log_fates category calls ≡ done ++ waiting
@@ -131,7 +131,7 @@ aging_stays (x ∷ xs) a h =
 further_of : (f : LogFate) → f.is_fetched ≡ false → (one_further f).further ≡ f.further + 1
 further_of f e = rw e refl
 
-over_kept : (c : ℕ) (calls after : List Call) (done : List LogFate) (w : LogFate) (ws : List LogFate) (entry : LogLine)
+over_kept : (c : ℕ) (calls after : List LogCall) (done : List LogFate) (w : LogFate) (ws : List LogFate) (entry : LogLine)
     → log_fates c calls ≡ done ++ w ∷ ws → Done done → Aging (w ∷ ws) → length ws ≡ 63 → lines (filter stays done) ≡ all_fetched c calls → lines (w ∷ ws) ≡ (shelf (after_calls calls) c).kept
     → log_fates c after ≡ map one_further (log_fates c calls) ++ just_noted entry ∷ [] → all_fetched c after ≡ all_fetched c calls → (shelf (after_calls after) c).kept ≡ newest 64 ((shelf (after_calls calls) c).kept ++ entry ∷ [])
     → Parts c after
@@ -161,7 +161,7 @@ over_kept c calls after done w ws entry split over age size got' kept log_fates'
     neither true = refl
     neither false = refl
 
-more_kept : (c : ℕ) (calls after : List Call) (k : Parts c calls) (entry : LogLine)
+more_kept : (c : ℕ) (calls after : List LogCall) (k : Parts c calls) (entry : LogLine)
     → log_fates c after ≡ map one_further (log_fates c calls) ++ just_noted entry ∷ [] → all_fetched c after ≡ all_fetched c calls → (shelf (after_calls after) c).kept ≡ newest 64 ((shelf (after_calls calls) c).kept ++ entry ∷ [])
     → Parts c after
 more_kept c calls after k entry log_fates' fetched' kept'' = by_test (nat_lt (length k.waiting) 64) room (λ e. full k.waiting refl e)
@@ -233,7 +233,7 @@ drop_lines zero xs = refl
 drop_lines (suc most) [] = refl
 drop_lines (suc most) (x ∷ xs) = drop_lines most xs
 
-fetch_kept : (c : ℕ) (calls after : List Call) (most : ℕ) (k : Parts c calls)
+fetch_kept : (c : ℕ) (calls after : List LogCall) (most : ℕ) (k : Parts c calls)
     → log_fates c after ≡ with_fetched most (log_fates c calls) → all_fetched c after ≡ all_fetched c calls ++ take most (shelf (after_calls calls) c).kept → (shelf (after_calls after) c).kept ≡ drop most (shelf (after_calls calls) c).kept
     → Parts c after
 fetch_kept c calls after most k log_fates' fetched' kept'' = record {
@@ -251,7 +251,7 @@ fetch_kept c calls after most k log_fates' fetched' kept'' = record {
   kept' = drop_lines most k.waiting ∙ ap (drop most) k.kept' ∙ sym kept'';
 }
 
-same_kept : (c : ℕ) (calls after : List Call) (k : Parts c calls) → log_fates c after ≡ log_fates c calls → all_fetched c after ≡ all_fetched c calls → (shelf (after_calls after) c).kept ≡ (shelf (after_calls calls) c).kept → Parts c after
+same_kept : (c : ℕ) (calls after : List LogCall) (k : Parts c calls) → log_fates c after ≡ log_fates c calls → all_fetched c after ≡ all_fetched c calls → (shelf (after_calls after) c).kept ≡ (shelf (after_calls calls) c).kept → Parts c after
 same_kept c calls after k log_fates' fetched' kept'' = record {
   done = k.done;
   waiting = k.waiting;
@@ -270,17 +270,17 @@ nothing_kept _ First = refl
 nothing_kept _ Second = refl
 nothing_kept _ Third = refl
 
-configured_kept : (a c : ℕ) → Three c → (log : Log) (level mode : ℕ) → (shelf (configured log a level mode) c).kept ≡ (shelf log c).kept
+configured_kept : (a c : ℕ) → Three c → (log : Log) (level mode : ℕ) → (shelf (log_configured log a level mode) c).kept ≡ (shelf log c).kept
 configured_kept a _ First log level mode = by_test (a == 0) (λ e. rw e refl) (λ e. by_test (a == 1) (λ f. rw (e, f) refl) (λ f. by_test (a == 2) (λ g. rw (e, f, g) refl) (λ g. rw (e, f, g) refl)))
 configured_kept a _ Second log level mode = by_test (a == 0) (λ e. rw e refl) (λ e. by_test (a == 1) (λ f. rw (e, f) refl) (λ f. by_test (a == 2) (λ g. rw (e, f, g) refl) (λ g. rw (e, f, g) refl)))
 configured_kept a _ Third log level mode = by_test (a == 0) (λ e. rw e refl) (λ e. by_test (a == 1) (λ f. rw (e, f) refl) (λ f. by_test (a == 2) (λ g. rw (e, f, g) refl) (λ g. rw (e, f, g) refl)))
 
-set_kept : (c : ℕ) (calls : List Call) (a level mode : ℕ) → Three c → Parts c calls → Parts c (Configure a level mode ∷ calls)
+set_kept : (c : ℕ) (calls : List LogCall) (a level mode : ℕ) → Three c → Parts c calls → Parts c (Configure a level mode ∷ calls)
 set_kept c calls a level mode t k =
     same_kept c calls (Configure a level mode ∷ calls) k refl refl
     (by_test (is_setting a level mode) (λ e. rw e (configured_kept a c t (after_calls calls) level mode)) (λ e. rw e refl))
 
-note_own : (c : ℕ) (calls : List Call) (level code step : ℕ) → Three c → Parts c calls → Parts c (Note c level code step ∷ calls)
+note_own : (c : ℕ) (calls : List LogCall) (level code step : ℕ) → Three c → Parts c calls → Parts c (Note c level code step ∷ calls)
 note_own c calls level code step t k =
     let log = after_calls calls in
     let s = shelf log c in
@@ -294,7 +294,7 @@ note_own c calls level code step t k =
     (rw e (ap (λ (q : Shelf). q.kept) (own_shelf c t log (put s entry)) ∙ rw f refl))))
     (λ e. same_kept c calls (Note c level code step ∷ calls) k (rw (me, e) refl) refl (rw e refl))
 
-note_other : (c : ℕ) (calls : List Call) (a level code step : ℕ) → Three a → Three c → (a == c) ≡ false → Parts c calls → Parts c (Note a level code step ∷ calls)
+note_other : (c : ℕ) (calls : List LogCall) (a level code step : ℕ) → Three a → Three c → (a == c) ≡ false → Parts c calls → Parts c (Note a level code step ∷ calls)
 note_other c calls a level code step o t ne k =
     let log = after_calls calls in
     let s = shelf log a in
@@ -303,20 +303,20 @@ note_other c calls a level code step o t ne k =
     (λ e. rw e (ap (λ (q : Shelf). q.kept) (other_shelf a c o t ne log (put s (line s.next a level code step)))))
     (λ e. rw e refl))
 
-fetch_own : (c : ℕ) (calls : List Call) (most : ℕ) → Three c → Parts c calls → Parts c (Fetch c most ∷ calls)
+fetch_own : (c : ℕ) (calls : List LogCall) (most : ℕ) → Three c → Parts c calls → Parts c (Fetch c most ∷ calls)
 fetch_own c calls most t k =
     let log = after_calls calls in
     let s = shelf log c in
     let me : (c == c) ≡ true = grind (arith, nat_tests) in
     fetch_kept c calls (Fetch c most ∷ calls) most k (rw me refl) (rw me refl) (ap (λ (q : Shelf). q.kept) (own_shelf c t log (record s { kept = drop most s.kept })))
 
-fetch_other : (c : ℕ) (calls : List Call) (a most : ℕ) → Three a → Three c → (a == c) ≡ false → Parts c calls → Parts c (Fetch a most ∷ calls)
+fetch_other : (c : ℕ) (calls : List LogCall) (a most : ℕ) → Three a → Three c → (a == c) ≡ false → Parts c calls → Parts c (Fetch a most ∷ calls)
 fetch_other c calls a most o t ne k =
     let log = after_calls calls in
     let s = shelf log a in
     same_kept c calls (Fetch a most ∷ calls) k (rw ne refl) (rw ne refl) (ap (λ (q : Shelf). q.kept) (other_shelf a c o t ne log (record s { kept = drop most s.kept })))
 
-kept_all : (c : ℕ) (calls : List Call) → Three c → AreCalls calls → Parts c calls
+kept_all : (c : ℕ) (calls : List LogCall) → Three c → AreCalls calls → Parts c calls
 kept_all c [] t h = record { done = []; waiting = []; split = refl; over = tt; age = tt; few = omega arith; fetched' = refl; kept' = nothing_kept c t }
 kept_all c (Configure a level mode ∷ calls) t h = set_kept c calls a level mode t (kept_all c calls t h)
 kept_all c (Note a level code step ∷ calls) t h =
@@ -330,7 +330,7 @@ kept_all c (Fetch a most ∷ calls) t h =
     (λ e. let same : c ≡ a = grind (arith, nat_tests, e) in subst (λ (n : ℕ). Parts c (Fetch n most ∷ calls)) same (fetch_own c calls most t k))
     (λ e. fetch_other c calls a most (three a h.0) t e k)
 
-whole : (category : ℕ) (calls : List Call) → Parts category calls → all_fetched category calls ++ (shelf (after_calls calls) category).kept ≡ lines (filter stays (log_fates category calls))
+whole : (category : ℕ) (calls : List LogCall) → Parts category calls → all_fetched category calls ++ (shelf (after_calls calls) category).kept ≡ lines (filter stays (log_fates category calls))
 whole category calls k =
     sym (ap (λ l. lines (filter stays l)) k.split
     ∙ ap lines (filter-append stays k.done k.waiting)

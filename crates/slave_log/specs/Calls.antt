@@ -1,35 +1,35 @@
 -- What a log's calls do to the entries of a category, over the whole list of the calls.
 use Rattle.std.specs.Prelude.{◌≡◌, ◌≤◌, ℕ, zero, suc, ◌+◌, ◌&&◌, ◌==◌, nat_lt, not, Bool, true, false, List, [], ◌∷◌, ◌++◌, map, filter, if◌then◌else◌}
 use Rattle.slave_log.specs.declared.lines.LogLine.{LogLine}
-use Rattle.slave_log.specs.Shelves.{Log, Shelf, empty, shelf, is_setting, configured, line, is_noted, noted, fetched, left}
+use Rattle.slave_log.specs.Shelves.{Log, Shelf, empty, shelf, is_setting, log_configured, line, is_noted, noted, fetched, left}
 
-pub data Call : Type 0 where
-  Configure : (category level mode : ℕ) → Call
-  Note : (category level code step : ℕ) → Call
-  Fetch : (category most : ℕ) → Call
+pub data LogCall : Type 0 where
+  Configure : (category level mode : ℕ) → LogCall
+  Note : (category level code step : ℕ) → LogCall
+  Fetch : (category most : ℕ) → LogCall
 
 abbrev pub IsCategory : ℕ → Type 0
 IsCategory category = (1 ≤ category) × (category ≤ 3)
 
 -- an entry is noted in a category from 1 to 3, and a fetch is of such a one
-abbrev pub AreCalls : List Call → Type 0
+abbrev pub AreCalls : List LogCall → Type 0
 AreCalls [] = Unit {0}
 AreCalls (Configure category level mode ∷ calls) = AreCalls calls
 AreCalls (Note category level code step ∷ calls) = IsCategory category × AreCalls calls
 AreCalls (Fetch category most ∷ calls) = IsCategory category × AreCalls calls
 
-abbrev pub after_call : Log → Call → Log
-after_call log (Configure category level mode) = if is_setting category level mode then configured log category level mode else log
+abbrev pub after_call : Log → LogCall → Log
+after_call log (Configure category level mode) = if is_setting category level mode then log_configured log category level mode else log
 after_call log (Note category level code step) = noted log category level code step
 after_call log (Fetch category most) = left log category most
 
 -- the log after these calls, the newest call first
-abbrev pub after_calls : List Call → Log
+abbrev pub after_calls : List LogCall → Log
 after_calls [] = empty
 after_calls (call ∷ calls) = after_call (after_calls calls) call
 
 -- the entries of a category that were fetched, one fetch after the other
-abbrev pub all_fetched : (category : ℕ) → List Call → List LogLine
+abbrev pub all_fetched : (category : ℕ) → List LogCall → List LogLine
 all_fetched category [] = []
 all_fetched category (Fetch other most ∷ calls) = if other == category then all_fetched category calls ++ fetched (after_calls calls) category most else all_fetched category calls
 all_fetched category (call ∷ calls) = all_fetched category calls
@@ -65,7 +65,7 @@ abbrev pub keeps : Shelf → ℕ → Bool
 keeps s level = is_noted s level && not (s.mode == 1)
 
 -- the entries of a category that were noted in mode 0, in order, each with what became of it
-abbrev pub log_fates : (category : ℕ) → List Call → List LogFate
+abbrev pub log_fates : (category : ℕ) → List LogCall → List LogFate
 log_fates category [] = []
 log_fates category (Note other level code step ∷ calls) =
     let s = shelf (after_calls calls) category in
@@ -76,5 +76,5 @@ log_fates category (call ∷ calls) = log_fates category calls
 -- Nothing is lost and nothing comes twice: what was fetched and then what is kept are the entries noted in mode 0, in order, without the
 -- overwritten ones.
 abbrev pub KeepsAll : Type 0
-KeepsAll = (category : ℕ) (calls : List Call) → IsCategory category → AreCalls calls
+KeepsAll = (category : ℕ) (calls : List LogCall) → IsCategory category → AreCalls calls
     → all_fetched category calls ++ (shelf (after_calls calls) category).kept ≡ map (λ f. f.line) (filter (λ f. not (is_overwritten f)) (log_fates category calls))

@@ -147,22 +147,22 @@ one_of false true c h = inr (inl refl)
 one_of false false c h = inr (inr h)
 
 -- what a request's code makes the slave hear
-asks_by : (code : ℕ) (vs : List FieldValue) → is_request_code code ≡ true → (a : Asked) × (spec.heard_in code vs ≡ spec.asks vs a) × ((if code == 8 then Some Show else (if code == 7 then Some Step else (if code == 10 then Some Restart else None))) ≡ event_wanted a)
+asks_by : (code : ℕ) (vs : List FieldValue) → is_request_code code ≡ true → (a : Asked) × (spec.heard_in code vs ≡ spec.heard_asking vs a) × ((if code == 8 then Some Show else (if code == 7 then Some Step else (if code == 10 then Some Restart else None))) ≡ event_wanted a)
 asks_by code vs h = by (one_of (between 1 10 code) (between 32 43 code) (between 128 130 code) h)
   where
     change : spec.Heard
-    change = spec.asks vs (Change (spec.state_from (spec.number_at 2 vs)) (spec.stc_of code vs))
+    change = spec.heard_asking vs (Change (spec.state_from (spec.number_at 2 vs)) (spec.stc_of code vs))
 
     setting : spec.Heard
-    setting = spec.asks vs (Setting (spec.cfg_of code vs))
+    setting = spec.heard_asking vs (Setting (spec.cfg_of code vs))
 
     question : spec.Heard
-    question = spec.asks vs (Question (spec.inf_of code vs))
+    question = spec.heard_asking vs (Question (spec.inf_of code vs))
 
     rest : spec.Heard
     rest = if code == 240 then spec.Brings (spec.number_at 0 vs) (spec.number_at 1 vs) (spec.bytes_at 2 vs) else spec.Nothing
 
-    by : (between 1 10 code ≡ true) ⊎ ((between 32 43 code ≡ true) ⊎ (between 128 130 code ≡ true)) → (a : Asked) × (spec.heard_in code vs ≡ spec.asks vs a) × ((if code == 8 then Some Show else (if code == 7 then Some Step else (if code == 10 then Some Restart else None))) ≡ event_wanted a)
+    by : (between 1 10 code ≡ true) ⊎ ((between 32 43 code ≡ true) ⊎ (between 128 130 code ≡ true)) → (a : Asked) × (spec.heard_in code vs ≡ spec.heard_asking vs a) × ((if code == 8 then Some Show else (if code == 7 then Some Step else (if code == 10 then Some Restart else None))) ≡ event_wanted a)
     by (inl b) = (Change (spec.state_from (spec.number_at 2 vs)) (spec.stc_of code vs), pick_change change setting question rest code b, change_event code (spec.state_from (spec.number_at 2 vs)) vs b)
     by (inr (inl b)) = (Setting (spec.cfg_of code vs), pick_setting change setting question rest code b, no_event 32 43 code (omega arith) b)
     by (inr (inr b)) = (Question (spec.inf_of code vs), pick_question change setting question rest code b, no_event 128 130 code (omega arith) b)
@@ -177,22 +177,22 @@ class_agrees m Asking e b late =
     let P : Role → spec.Heard → Type 0 = Agree in
     let k : Note = record { number = b.first; message = m } in
     let part : role_by Asking m.values m ≡ Request b.second k = ap (λ vs. role_by Asking vs m) b.is in
-    let hears : spec.heard_in m.code m.values ≡ spec.Asks (record { number = b.first; receiver = b.second; asked = a.0 }) = a.1 ∙ ap (λ vs. spec.asks vs a.0) b.is in
+    let hears : spec.heard_in m.code m.values ≡ spec.Asks (record { number = b.first; receiver = b.second; asked = a.0 }) = a.1 ∙ ap (λ vs. spec.heard_asking vs a.0) b.is in
     subst (λ p. P p (spec.heard_in m.code m.values)) (sym part) (subst (λ h. P (Request b.second k) h) (sym hears) (refl, b.small, hears, a.2))
 class_agrees m Answering e b late =
     let P : Role → spec.Heard → Type 0 = Agree in
     let part : role_by Answering m.values m ≡ Answer b.second (record { number = b.first; message = m }) = ap (λ vs. role_by Answering vs m) b.is in
-    let hears : spec.heard_in m.code m.values ≡ spec.Nothing = pick_answer (spec.asks m.values (Change (spec.state_from (spec.number_at 2 m.values)) (spec.stc_of m.code m.values))) (spec.asks m.values (Setting (spec.cfg_of m.code m.values))) (spec.asks m.values (Question (spec.inf_of m.code m.values))) (spec.Brings (spec.number_at 0 m.values) (spec.number_at 1 m.values) (spec.bytes_at 2 m.values)) m.code e in
+    let hears : spec.heard_in m.code m.values ≡ spec.Nothing = pick_answer (spec.heard_asking m.values (Change (spec.state_from (spec.number_at 2 m.values)) (spec.stc_of m.code m.values))) (spec.heard_asking m.values (Setting (spec.cfg_of m.code m.values))) (spec.heard_asking m.values (Question (spec.inf_of m.code m.values))) (spec.Brings (spec.number_at 0 m.values) (spec.number_at 1 m.values) (spec.bytes_at 2 m.values)) m.code e in
     subst (λ p. P p (spec.heard_in m.code m.values)) (sym part) (subst (λ h. P (Answer b.second (record { number = b.first; message = m })) h) (sym hears) tt)
 class_agrees m Carrying e b late =
     let P : Role → spec.Heard → Type 0 = Agree in
     let part : role_by Carrying m.values m ≡ Value b.second (record { number = b.first; message = m }) = ap (λ vs. role_by Carrying vs m) b.is in
     let brings = spec.Brings (spec.number_at 0 m.values) (spec.number_at 1 m.values) (spec.bytes_at 2 m.values) in
-    let hears : spec.heard_in m.code m.values ≡ brings = pick_data (spec.asks m.values (Change (spec.state_from (spec.number_at 2 m.values)) (spec.stc_of m.code m.values))) (spec.asks m.values (Setting (spec.cfg_of m.code m.values))) (spec.asks m.values (Question (spec.inf_of m.code m.values))) brings m.code e in
+    let hears : spec.heard_in m.code m.values ≡ brings = pick_data (spec.heard_asking m.values (Change (spec.state_from (spec.number_at 2 m.values)) (spec.stc_of m.code m.values))) (spec.heard_asking m.values (Setting (spec.cfg_of m.code m.values))) (spec.heard_asking m.values (Question (spec.inf_of m.code m.values))) brings m.code e in
     subst (λ p. P p (spec.heard_in m.code m.values)) (sym part) (subst (λ h. P (Value b.second (record { number = b.first; message = m })) h) (sym hears) tt)
 class_agrees m Noting e b late =
     let P : Role → spec.Heard → Type 0 = Agree in
-    let hears : spec.heard_in m.code m.values ≡ spec.Nothing = noting_hears (spec.asks m.values (Change (spec.state_from (spec.number_at 2 m.values)) (spec.stc_of m.code m.values))) (spec.asks m.values (Setting (spec.cfg_of m.code m.values))) (spec.asks m.values (Question (spec.inf_of m.code m.values))) (spec.Brings (spec.number_at 0 m.values) (spec.number_at 1 m.values) (spec.bytes_at 2 m.values)) m.code e (late refl) in
+    let hears : spec.heard_in m.code m.values ≡ spec.Nothing = noting_hears (spec.heard_asking m.values (Change (spec.state_from (spec.number_at 2 m.values)) (spec.stc_of m.code m.values))) (spec.heard_asking m.values (Setting (spec.cfg_of m.code m.values))) (spec.heard_asking m.values (Question (spec.inf_of m.code m.values))) (spec.Brings (spec.number_at 0 m.values) (spec.number_at 1 m.values) (spec.bytes_at 2 m.values)) m.code e (late refl) in
     subst (λ h. P Else h) (sym hears) tt
 
 -- ---- the table

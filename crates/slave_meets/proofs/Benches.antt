@@ -13,14 +13,14 @@ use Rattle.pdu_layout.specs.declared.messages.Inf.TheVariants as inf
 use Rattle.log_spec.specs.Messages.{Note, Role, Request, Answer, Value, Else}
 use Rattle.dcp_ends.specs.declared.entries.LogEntry.{LogEntry}
 use Rattle.dcp_ends.specs.declared.entries.LogEntry.TheVariants.{Sent, Got, Idle, Turn}
-use Rattle.log_spec.specs.Log.{Parties, same, role_heard, Decision}
+use Rattle.log_spec.specs.Log.{Parties, same, role_heard, DecidedRequest}
 use Rattle.log_spec.specs.Moves.{Move, Asks, Comes, Tells, Hears, Brings, Turns, Rests, Other, sent_move, got_move, move}
 use Rattle.lockstep_laws.specs.Steps as steps
 use Rattle.lockstep_laws.specs.Steps.{RowEvent, Told, told_by, told_of, event_asked, Bench, Idles, TakesOn, HasTurn}
 use Rattle.lockstep_laws.specs.Works.{Works, Performs}
-use Rattle.slave_states.specs.Transitions.{next_on, next_on_turn, row}
-use Rattle.slave_spec.specs.declared.words.Setup.{Setup}
-use Rattle.slave_spec.specs.declared.words.Request as req
+use Rattle.slave_states.specs.Transitions.{next_on, next_on_turn, transition_row}
+use Rattle.slave_spec.specs.declared.words.SlaveSetup.{SlaveSetup}
+use Rattle.slave_spec.specs.declared.words.SlaveRequest as req
 use Rattle.slave_spec.specs.declared.words.Asked.{Asked}
 use Rattle.slave_spec.specs.declared.words.Asked.TheVariants.{Change, Setting, Question}
 use Rattle.slave_spec.specs.declared.words.Session.{Session}
@@ -29,12 +29,12 @@ use Rattle.slave_spec.specs.declared.words.Fate.{Fate}
 use Rattle.slave_spec.specs.declared.words.Fate.TheVariants.{Dropped, Refused, Repeated, Taken}
 use Rattle.slave_spec.specs.Heard as spec
 use Rattle.slave_spec.specs.Transport as transport
-use Rattle.slave_spec.specs.Transport.{Machine, Slave, Answered}
+use Rattle.slave_spec.specs.Transport.{Machine, SlaveState, Answered}
 use Rattle.slave_spec.specs.Plants.{Plant}
-use Rattle.slave_spec.specs.Sound.{IsSound}
+use Rattle.slave_spec.specs.Sound.{IsSoundPlant}
 use Rattle.slave_spec.proofs.Soundness.{sound_after}
 use Rattle.slave_meets.proofs.Meets.{slave_is}
-use Rattle.slave_spec.specs.Requests.{refusal, accepted, answer, answered, answers, changed_to, set_to, state_or}
+use Rattle.slave_spec.specs.Requests.{refusal, accepted, answer, answered_plant, answers, changed_to, set_to, state_or}
 use Rattle.slave_spec.specs.Turns as turns
 use Rattle.slave_spec.specs.Turns.{Act, act, turned, is_listening}
 use Rattle.std.proofs.lemmas.Bool.Decides.{nat_tests}
@@ -44,12 +44,12 @@ use Rattle.seq_window.specs.Window as window
 use Rattle.slave_wiring.specs.Payloads.{brought}
 use Rattle.slave_spec.specs.Slaves.{machine}
 use Rattle.slave_meets.specs.Plants.{under_way, bench_of, event_wanted, reply_told, events_taken, is_error_state}
-use Rattle.slave_meets.specs.Desks.{answer_note, served_by, served_after, Both, got, ticked, sent_next, next, at, desk_at, events, Agree, ReadBack}
+use Rattle.slave_meets.specs.Desks.{answer_note, served_by, served_after, Both, got, ticked, sent_next, next, at, desk_at, events_of_slave, Agree, ReadsAnswersBack}
 use Rattle.slave_meets.specs.Benches.{events_by, events_got, events_tick, events_next, events_done, bench_at}
 use Rattle.slave_meets.proofs.Plants.{Sound, act_step, turn_goes, answer_goes, no_refusal, row_of_next}
 
 -- the answer as a note tells the same
-pub reply_is : (r : req.Request) (n : ℕ) (a : transport.Answer) → steps.reply_of (answer_note r n a) ≡ reply_told a
+pub reply_is : (r : req.SlaveRequest) (n : ℕ) (a : transport.SlaveAnswer) → steps.reply_of (answer_note r n a) ≡ reply_told a
 reply_is r n transport.Ack = refl
 reply_is r n (transport.Nack code) = refl
 reply_is r n (transport.StateAck state) = refl
@@ -73,7 +73,7 @@ error_next : (state : State) → is_error_state state ≡ true → is_error_stat
 unfolding next_on_turn
 error_next state h = grind arith
 
-pub turned_sound : (s : Setup) (p : Plant) (a : Act) → ((x : List ℤ) → a ≡ turns.Step x → p.state ≡ Computing) → Sound p → Sound (turned s p a).after
+pub turned_sound : (s : SlaveSetup) (p : Plant) (a : Act) → ((x : List ℤ) → a ≡ turns.Step x → p.state ≡ Computing) → Sound p → Sound (turned s p a).after
 turned_sound s p turns.Stay f h = h
 turned_sound s p (turns.Wait left) f h = same_sound p (turned s p (turns.Wait left)).after refl refl h
 turned_sound s p (turns.Fault code) f h = inr refl
@@ -86,10 +86,10 @@ turned_sound s p turns.Pass f (inl h) = inl h
 turned_sound s p turns.Pass f (inr h) = inr (error_next p.state h)
 
 -- a request that is taken leaves the fault as it is, and the error state but for the end of the session
-abbrev pub ends_or_sound : (asked : Asked) (a : transport.Answer) (p : Plant) → Type 0
+abbrev pub ends_or_sound : (asked : Asked) (a : transport.SlaveAnswer) (p : Plant) → Type 0
 ends_or_sound asked a p = (transport.is_last asked a ≡ true) ⊎ Sound p
 
-set_state : (s : Setup) (p : Plant) (body : Cfg) → ((set_to s p body).state ≡ p.state) × ((set_to s p body).fault ≡ p.fault)
+set_state : (s : SlaveSetup) (p : Plant) (body : Cfg) → ((set_to s p body).state ≡ p.state) × ((set_to s p body).fault ≡ p.fault)
 set_state s p (cfg.Parameter vr kind value) = (refl, refl)
 set_state s p (cfg.Logging category level mode) = (refl, refl)
 set_state s p cfg.Clear = (refl, refl)
@@ -103,7 +103,7 @@ set_state s p (cfg.Tunable a b c d) = (refl, refl)
 set_state s p (cfg.ParamNet a b c d) = (refl, refl)
 set_state s p (cfg.Scope a b) = (refl, refl)
 
-changed_fault : (s : Setup) (p : Plant) (request : Stc) (next' : State) → (changed_to s p request next').fault ≡ p.fault
+changed_fault : (s : SlaveSetup) (p : Plant) (request : Stc) (next' : State) → (changed_to s p request next').fault ≡ p.fault
 changed_fault s p stc.SendOutputs z = refl
 changed_fault s p (stc.DoStep k) z = refl
 changed_fault s p stc.Reset z = refl
@@ -116,16 +116,16 @@ changed_fault s p (stc.Run t) z = refl
 changed_fault s p stc.Stop z = refl
 
 -- in an error state there is a row for the end of the session alone
-error_row : (state next' : State) (request : Stc) (sent : Bool) → is_error_state state ≡ true → row request state sent ≡ Some next' → request ≡ stc.Deregister
+error_row : (state next' : State) (request : Stc) (sent : Bool) → is_error_state state ≡ true → transition_row request state sent ≡ Some next' → request ≡ stc.Deregister
 error_row state next' request sent h r = grind arith
 
-pub taken_sound : (s : Setup) (p : Plant) (asked : Asked) (o : Option ErrorCode) → refusal s p asked ≡ o → Sound p → ends_or_sound asked (answered s p asked o).answer (answered s p asked o).after
+pub taken_sound : (s : SlaveSetup) (p : Plant) (asked : Asked) (o : Option ErrorCode) → refusal s p asked ≡ o → Sound p → ends_or_sound asked (answered_plant s p asked o).answer (answered_plant s p asked o).after
 unfolding refusal accepted answer
-taken_sound s p asked (Some code) e h = inr (same_sound p (answered s p asked (Some code)).after refl refl h)
-taken_sound s p (Question inf.State) None e h = inr (same_sound p (answered s p (Question inf.State) None).after refl refl h)
-taken_sound s p (Question inf.Error) None e h = inr (same_sound p (answered s p (Question inf.Error) None).after refl refl h)
-taken_sound s p (Question (inf.Log category most)) None e h = inr (same_sound p (answered s p (Question (inf.Log category most)) None).after refl refl h)
-taken_sound s p (Setting body) None e h = let k = set_state s p body in inr (same_sound p (answered s p (Setting body) None).after k.0 k.1 h)
+taken_sound s p asked (Some code) e h = inr (same_sound p (answered_plant s p asked (Some code)).after refl refl h)
+taken_sound s p (Question inf.State) None e h = inr (same_sound p (answered_plant s p (Question inf.State) None).after refl refl h)
+taken_sound s p (Question inf.Error) None e h = inr (same_sound p (answered_plant s p (Question inf.Error) None).after refl refl h)
+taken_sound s p (Question (inf.Log category most)) None e h = inr (same_sound p (answered_plant s p (Question (inf.Log category most)) None).after refl refl h)
+taken_sound s p (Setting body) None e h = let k = set_state s p body in inr (same_sound p (answered_plant s p (Setting body) None).after k.0 k.1 h)
 taken_sound s p (Change named request) None e (inl h) = inr (inl (ap is_some (changed_fault s p request (state_or p.state (next_on p.state request named p.outputs_sent))) ∙ h))
 taken_sound s p (Change named request) None e (inr h) =
     let o = no_refusal p request (next_on p.state request named p.outputs_sent) e in
@@ -133,7 +133,7 @@ taken_sound s p (Change named request) None e (inr h) =
     let is = error_row p.state o.0 request p.outputs_sent h r in
     inl (ap (λ z. transport.is_last (Change named z) transport.Ack) is)
 
-fault_same : (s : Setup) (p : Plant) (asked : Asked) (o : Option ErrorCode) → (answered s p asked o).after.fault ≡ p.fault
+fault_same : (s : SlaveSetup) (p : Plant) (asked : Asked) (o : Option ErrorCode) → (answered_plant s p asked o).after.fault ≡ p.fault
 unfolding accepted
 fault_same s p asked (Some code) = refl
 fault_same s p (Question inf.State) None = refl
@@ -142,13 +142,13 @@ fault_same s p (Question (inf.Log category most)) None = refl
 fault_same s p (Setting body) None = (set_state s p body).1
 fault_same s p (Change named request) None = changed_fault s p request (state_or p.state (next_on p.state request named p.outputs_sent))
 
-ends_sound : (asked : Asked) (a : transport.Answer) (p : Plant) → ends_or_sound asked a p → (transport.is_last asked a ≡ true) ⊎ Sound p
+ends_sound : (asked : Asked) (a : transport.SlaveAnswer) (p : Plant) → ends_or_sound asked a p → (transport.is_last asked a ≡ true) ⊎ Sound p
 unfolding ends_or_sound
 ends_sound asked a p h = h
 
-module _ (setup : Setup) where
+module _ (setup : SlaveSetup) where
   -- ---- faults along a log
-  after_fits : (x : Slave Plant) (from : Address) (r : req.Request) (f : Fate) → FaultFits x.session x.inner → FaultFits (transport.after_request (machine setup) x from r f).session (transport.after_request (machine setup) x from r f).inner
+  after_fits : (x : SlaveState Plant) (from : Address) (r : req.SlaveRequest) (f : Fate) → FaultFits x.session x.inner → FaultFits (transport.after_request (machine setup) x from r f).session (transport.after_request (machine setup) x from r f).inner
   after_fits x from r Dropped h = h
   after_fits x from r (Refused code) h = h
   after_fits x from r Repeated h = h
@@ -181,7 +181,7 @@ module _ (setup : Setup) where
       by true = (refl, refl, refl, refl)
       by false = (refl, refl, refl, refl)
 
-  brings_fits : (x : Slave Plant) (from : Address) (number id : ℕ) (payload : List ℕ) → FaultFits x.session x.inner → FaultFits (transport.after_heard (machine setup) x from (spec.Brings number id payload)).session (transport.after_heard (machine setup) x from (spec.Brings number id payload)).inner
+  brings_fits : (x : SlaveState Plant) (from : Address) (number id : ℕ) (payload : List ℕ) → FaultFits x.session x.inner → FaultFits (transport.after_heard (machine setup) x from (spec.Brings number id payload)).session (transport.after_heard (machine setup) x from (spec.Brings number id payload)).inner
   brings_fits x from number id payload h = by (transport.is_open x.session)
     where
       k : ((turns.brings setup from number id payload x.inner).state ≡ x.inner.state) × ((turns.brings setup from number id payload x.inner).fault ≡ x.inner.fault) × ((turns.brings setup from number id payload x.inner).earlier ≡ x.inner.earlier) × ((turns.brings setup from number id payload x.inner).steps ≡ x.inner.steps)
@@ -191,7 +191,7 @@ module _ (setup : Setup) where
       by true = fits_same x.session x.inner (turns.brings setup from number id payload x.inner) k.0 k.1 h
       by false = h
 
-  heard_fits : (x : Slave Plant) (from : Address) (h : spec.Heard) → FaultFits x.session x.inner → FaultFits (transport.after_heard (machine setup) x from h).session (transport.after_heard (machine setup) x from h).inner
+  heard_fits : (x : SlaveState Plant) (from : Address) (h : spec.Heard) → FaultFits x.session x.inner → FaultFits (transport.after_heard (machine setup) x from h).session (transport.after_heard (machine setup) x from h).inner
   heard_fits x from (spec.Asks r) f = after_fits x from r (transport.fate (machine setup) x from r) f
   heard_fits x from (spec.Brings number id payload) f = brings_fits x from number id payload f
   heard_fits x from spec.Nothing f = f
@@ -201,7 +201,7 @@ module _ (setup : Setup) where
   tick_fits (During master id) quiet served inner h = turned_sound setup inner (act setup (transport.quieter quiet) inner) (act_step setup (transport.quieter quiet) inner) h
   tick_fits (After master id) quiet served inner h = tt
 
-  module _ (w : Parties) (s : ℕ) (read : ReadBack (machine setup) w s) where
+  module _ (w : Parties) (s : ℕ) (read : ReadsAnswersBack (machine setup) w s) where
     told_fits : (mv : Move) (x : Both Plant) → FaultFits x.slave.session x.slave.inner → FaultFits (sent_next (machine setup) w s mv x).slave.session (sent_next (machine setup) w s mv x).slave.inner
     told_fits (Asks n) x h = h
     told_fits (Comes from receiver n) x h = h
@@ -231,13 +231,13 @@ module _ (setup : Setup) where
     fits (e ∷ log) = next_fits e (at (machine setup) w s log) (fits log)
 
     -- ---- the row events
-    bench_by : Slave Plant → Address → req.Request → Fate → ℕ → Bench
+    bench_by : SlaveState Plant → Address → req.SlaveRequest → Fate → ℕ → Bench
     bench_by x from r f n = bench_of (events_by setup w s x r f n) (transport.after_request (machine setup) x from r f).inner
 
     -- a request in a session
-    takes : (x : Slave Plant) (es : List Decision) (from : Address) (k : Note) (r : req.Request) (n : ℕ) → event_asked k ≡ event_wanted r.asked → Sound x.inner → (f : Fate)
+    takes : (x : SlaveState Plant) (es : List DecidedRequest) (from : Address) (k : Note) (r : req.SlaveRequest) (n : ℕ) → event_asked k ≡ event_wanted r.asked → Sound x.inner → (f : Fate)
         → ((served_by (machine setup) x es k r f ≡ es) × Idles (bench_of n x.inner) (bench_of (events_by setup w s x r f n) (transport.after_request (machine setup) x from r f).inner))
-        ⊎ ((y : Decision) × (served_by (machine setup) x es k r f ≡ y ∷ es) × TakesOn (told_of y) (bench_of n x.inner) (bench_of (events_by setup w s x r f n) (transport.after_request (machine setup) x from r f).inner))
+        ⊎ ((y : DecidedRequest) × (served_by (machine setup) x es k r f ≡ y ∷ es) × TakesOn (told_of y) (bench_of n x.inner) (bench_of (events_by setup w s x r f n) (transport.after_request (machine setup) x from r f).inner))
     takes x es from k r n e sound Dropped = inl (refl, idle n x.inner)
     takes x es from k r n e sound (Refused code) = inl (refl, idle n x.inner)
     takes x es from k r n e sound Repeated = inl (refl, idle n x.inner)
@@ -248,17 +248,17 @@ module _ (setup : Setup) where
         let P : Told → Type 0 = λ t. TakesOn t (bench_of n x.inner) (bench_of (events_taken (event_wanted r.asked) (refusal setup x.inner r.asked) n) a.after) in
         inr (record { request = k; answer = answer_note r many a.answer }, refl, subst P (sym tells) (answer_goes setup x.inner r.asked n sound))
 
-    abbrev Takes : Slave Plant → List Decision → Address → Note → req.Request → ℕ → Fate → Type 0
+    abbrev Takes : SlaveState Plant → List DecidedRequest → Address → Note → req.SlaveRequest → ℕ → Fate → Type 0
     Takes x es from k r n f = ((served_by (machine setup) x es k r f ≡ es) × Idles (bench_of n x.inner) (bench_of (events_by setup w s x r f n) (transport.after_request (machine setup) x from r f).inner))
-        ⊎ ((y : Decision) × (served_by (machine setup) x es k r f ≡ y ∷ es) × TakesOn (told_of y) (bench_of n x.inner) (bench_of (events_by setup w s x r f n) (transport.after_request (machine setup) x from r f).inner))
+        ⊎ ((y : DecidedRequest) × (served_by (machine setup) x es k r f ≡ y ∷ es) × TakesOn (told_of y) (bench_of n x.inner) (bench_of (events_by setup w s x r f n) (transport.after_request (machine setup) x from r f).inner))
 
-    late : (x : Slave Plant) (es : List Decision) (from : Address) (k : Note) (r : req.Request) (n : ℕ) (q : seq.Place) → Takes x es from k r n (transport.placed_late q)
+    late : (x : SlaveState Plant) (es : List DecidedRequest) (from : Address) (k : Note) (r : req.SlaveRequest) (n : ℕ) (q : seq.Place) → Takes x es from k r n (transport.placed_late q)
     late x es from k r n places.Next = inl (refl, idle n x.inner)
     late x es from k r n places.Repeat = inl (refl, idle n x.inner)
     late x es from k r n places.Old = inl (refl, idle n x.inner)
     late x es from k r n places.Ahead = inl (refl, idle n x.inner)
 
-    takes_in : (x : Slave Plant) (es : List Decision) (from : Address) (k : Note) (r : req.Request) (n : ℕ) → event_asked k ≡ event_wanted r.asked → (session : Session) → FaultFits session x.inner → Takes x es from k r n (transport.fate_in (machine setup) session x.served from r)
+    takes_in : (x : SlaveState Plant) (es : List DecidedRequest) (from : Address) (k : Note) (r : req.SlaveRequest) (n : ℕ) → event_asked k ≡ event_wanted r.asked → (session : Session) → FaultFits session x.inner → Takes x es from k r n (transport.fate_in (machine setup) session x.served from r)
     takes_in x es from k r n e Before f = takes x es from k r n e (inl f) (transport.fate_in (machine setup) Before x.served from r)
     takes_in x es from k r n e (During master id) f = takes x es from k r n e f (transport.fate_in (machine setup) (During master id) x.served from r)
     takes_in x es from k r n e (After master id) f = by (transport.same_address from master && (r.receiver == id))
@@ -267,7 +267,7 @@ module _ (setup : Setup) where
         by true = late x es from k r n (window.place r.number (transport.expected x.served))
         by false = inl (refl, idle n x.inner)
 
-    brings_idles : (x : Slave Plant) (from : Address) (number id : ℕ) (payload : List ℕ) (n : ℕ) → Idles (bench_of n x.inner) (bench_of n (transport.after_heard (machine setup) x from (spec.Brings number id payload)).inner)
+    brings_idles : (x : SlaveState Plant) (from : Address) (number id : ℕ) (payload : List ℕ) (n : ℕ) → Idles (bench_of n x.inner) (bench_of n (transport.after_heard (machine setup) x from (spec.Brings number id payload)).inner)
     brings_idles x from number id payload n = by (transport.is_open x.session) (brings_keeps from number id payload x.inner)
       where
         by : (c : Bool) → let q = turns.brings setup from number id payload x.inner in (q.state ≡ x.inner.state) × (q.fault ≡ x.inner.fault) × (q.earlier ≡ x.inner.earlier) × (q.steps ≡ x.inner.steps) → Idles (bench_of n x.inner) (bench_of n (if c then record x { inner = q } else x).inner)
@@ -315,7 +315,7 @@ module _ (setup : Setup) where
     here_works at' from bytes (Value id k) h x n a f false e = let P : Move → Type 0 = λ mv. Works mv x.desk.served x.desk.served (bench_of n x.slave.inner) (bench_of n x.slave.inner) in subst P (sym (ap (λ c. if c then Brings from id k else Other) e)) refl
     here_works at' from bytes Else h x n a f false e = let P : Move → Type 0 = λ mv. Works mv x.desk.served x.desk.served (bench_of n x.slave.inner) (bench_of n x.slave.inner) in subst P (sym (ap (λ c. if c then Rests else Other) e)) refl
 
-    tick_works : (n : ℕ) (session : Session) (quiet : ℕ) (served : List transport.Exchange) (inner : Plant) → IsSound inner → let x : Slave Plant = record { session = session; served = served; quiet = quiet; inner = inner } in HasTurn (bench_of n inner) (bench_of (events_tick setup w s session x n) (transport.after_turn (machine setup) x).inner)
+    tick_works : (n : ℕ) (session : Session) (quiet : ℕ) (served : List transport.Exchange) (inner : Plant) → IsSoundPlant inner → let x : SlaveState Plant = record { session = session; served = served; quiet = quiet; inner = inner } in HasTurn (bench_of n inner) (bench_of (events_tick setup w s session x n) (transport.after_turn (machine setup) x).inner)
     tick_works n Before quiet served inner ok = inl (idle n inner)
     tick_works n (During master id) quiet served inner ok = turn_goes setup (transport.quieter quiet) inner n ok
     tick_works n (After master id) quiet served inner ok = inl (idle n inner)
@@ -344,12 +344,12 @@ module _ (setup : Setup) where
     choose_inner true y x = refl
     choose_inner false y x = refl
 
-    next_works : (e : LogEntry) (x : Both Plant) (n : ℕ) → IsSound x.slave.inner → FaultFits x.slave.session x.slave.inner → Works (move w s e) x.desk.served (next (machine setup) w s e x).desk.served (bench_of n x.slave.inner) (bench_of (events_next setup w s e x.slave n) (next (machine setup) w s e x).slave.inner)
+    next_works : (e : LogEntry) (x : Both Plant) (n : ℕ) → IsSoundPlant x.slave.inner → FaultFits x.slave.session x.slave.inner → Works (move w s e) x.desk.served (next (machine setup) w s e x).desk.served (bench_of n x.slave.inner) (bench_of (events_next setup w s e x.slave n) (next (machine setup) w s e x).slave.inner)
     next_works (Sent from to bytes) x n ok f = sent_works (move w s (Sent from to bytes)) x n (sent_comes from to bytes (role_heard w bytes)) (sent_turns from to bytes (role_heard w bytes))
     next_works (Got at' from bytes) x n ok f =
         let c = same at' (w.slave s) in
         let y = got (machine setup) w s from bytes x in
-        let P : List Decision → Plant → Type 0 = λ es p. Works (got_move w s at' from (role_heard w bytes)) x.desk.served es (bench_of n x.slave.inner) (bench_of (if c then events_got setup w s x.slave from (role_heard w bytes) (spec.heard bytes) n else n) p) in
+        let P : List DecidedRequest → Plant → Type 0 = λ es p. Works (got_move w s at' from (role_heard w bytes)) x.desk.served es (bench_of n x.slave.inner) (bench_of (if c then events_got setup w s x.slave from (role_heard w bytes) (spec.heard bytes) n else n) p) in
         subst (λ es. P es (if c then y else x).slave.inner) (sym (choose_served c y x)) (subst (λ p. P (if c then y.desk.served else x.desk.served) p) (sym (choose_inner c y x)) (here_works at' from bytes (role_heard w bytes) (spec.heard bytes) x n (read.agree bytes) f c refl))
     next_works (Idle at') x n ok f = by (same at' (w.slave s))
       where
@@ -362,10 +362,10 @@ module _ (setup : Setup) where
         by true = tick_works n x.slave.session x.slave.quiet x.slave.served x.slave.inner ok
         by false = refl
 
-sound : (setup : Setup) (w : Parties) (s : ℕ) (log : List LogEntry) → IsSound (at (machine setup) w s log).slave.inner
-sound setup w s log = let P : Slave Plant → Type 0 = λ x. IsSound x.inner in subst P (sym (slave_is (machine setup) w s log)) (sound_after setup (events w s log))
+sound : (setup : SlaveSetup) (w : Parties) (s : ℕ) (log : List LogEntry) → IsSoundPlant (at (machine setup) w s log).slave.inner
+sound setup w s log = let P : SlaveState Plant → Type 0 = λ x. IsSoundPlant x.inner in subst P (sym (slave_is (machine setup) w s log)) (sound_after setup (events_of_slave w s log))
 
-pub performs : (setup : Setup) (w : Parties) (s : ℕ) → ReadBack (machine setup) w s → Performs w s (desk_at (machine setup) w s) (bench_at setup w s)
+pub performs : (setup : SlaveSetup) (w : Parties) (s : ℕ) → ReadsAnswersBack (machine setup) w s → Performs w s (desk_at (machine setup) w s) (bench_at setup w s)
 performs setup w s read = record {
   begins = refl;
   goes = λ e log may. next_works setup w s read e (at (machine setup) w s log) (events_done setup w s log) (sound setup w s log) (fits setup w s read log);

@@ -11,27 +11,27 @@ use Rattle.dcp_types.specs.declared.fault_codes.FaultCode.TheVariants.{OutOfRang
 use Rattle.std.specs.Prelude.{ℤ}
 use Rattle.std.proofs.lemmas.Bool.{cond-true, cond-false}
 use Rattle.fixed_models.specs.Steps.{all_fit}
-use Rattle.slave_wiring.specs.Payloads.{inputs}
+use Rattle.slave_wiring.specs.Payloads.{wired_values}
 use Rattle.fixed_models.specs.Views.{step_of}
 use Rattle.pdu_layout.specs.declared.messages.Stc.{Stc}
 use Rattle.pdu_layout.specs.declared.messages.Stc.TheVariants as stc
 use Rattle.pdu_layout.specs.declared.messages.Cfg.{Cfg}
 use Rattle.pdu_layout.specs.declared.messages.Cfg.TheVariants as cfg
 use Rattle.pdu_layout.specs.declared.messages.Inf.TheVariants as inf
-use Rattle.slave_states.specs.Transitions.{next_on, next_on_turn, row, is_barred, is_same, or_wrong}
-use Rattle.lockstep_laws.specs.Steps.{RowEvent, Show, Step, Restart, Accepted, AtRest, Otherwise, is_on_its_way, Told, Nothing, told_by, Idles, Starts, TakesOn, HasTurn}
-use Rattle.slave_spec.specs.declared.words.Setup.{Setup}
+use Rattle.slave_states.specs.Transitions.{next_on, next_on_turn, transition_row, is_barred, is_same, or_wrong}
+use Rattle.lockstep_laws.specs.Steps.{RowEvent, Show, Step, Restart, Accepted, AtRest, Otherwise, is_on_its_way, Told, Nothing, told_by, Idles, BenchStarts, TakesOn, HasTurn}
+use Rattle.slave_spec.specs.declared.words.SlaveSetup.{SlaveSetup}
 use Rattle.slave_spec.specs.declared.words.Asked.{Asked}
 use Rattle.slave_spec.specs.declared.words.Asked.TheVariants.{Change, Setting, Question}
 use Rattle.slave_spec.specs.Plants.{Plant}
-use Rattle.slave_spec.specs.Sound.{IsSound}
-use Rattle.slave_spec.specs.Requests.{moved_refusal, refusal, state_or, changed_to, set_to, accepted, answer, answered, answers}
+use Rattle.slave_spec.specs.Sound.{IsSoundPlant}
+use Rattle.slave_spec.specs.Requests.{moved_refusal, refusal, state_or, changed_to, set_to, accepted, answer, answered_plant, answers}
 use Rattle.slave_spec.specs.Turns as turns
-use Rattle.slave_spec.specs.Turns.{Act, act, state_act, computing, step_act, is_sending, is_missed, turned}
+use Rattle.slave_spec.specs.Turns.{Act, act, state_act, computing, step_act, is_sending_state, is_missed, turned}
 use Rattle.slave_meets.specs.Plants.{under_way, bench_of, event_wanted, reply_told, events_taken, events_turned, is_error_state}
 
 -- ---- a turn
-step_in : (s : Setup) (p : Plant) (state : State) (x : List ℤ) → state_act s p state ≡ turns.Step x → state ≡ Computing
+step_in : (s : SlaveSetup) (p : Plant) (state : State) (x : List ℤ) → state_act s p state ≡ turns.Step x → state ≡ Computing
 step_in s p Initializing x h = absurd (by (all_fit p.model.types (turns.values p.model)) h)
   where
     by : (b : Bool) → (if b then turns.Pass else turns.Fault OutOfRange) ≡ turns.Step x → ⊥
@@ -60,8 +60,8 @@ no_pass : (r : Result (List ℤ) FaultCode) → step_act r ≡ turns.Pass → �
 no_pass (Ok y) e = cc
 no_pass (Err c) e = cc
 
-no_pass_computing : (s : Setup) (p : Plant) (left : ℕ) → computing s p left ≡ turns.Pass → ⊥
-no_pass_computing s p zero e = no_pass (step_of p.model (inputs s.desc p.wires) s.micro) e
+no_pass_computing : (s : SlaveSetup) (p : Plant) (left : ℕ) → computing s p left ≡ turns.Pass → ⊥
+no_pass_computing s p zero e = no_pass (step_of p.model (wired_values s.desc p.wires) s.micro) e
 no_pass_computing s p (suc left) e = cc
 
 if_fault : (b : Bool) (c : FaultCode) (a d : Act) → (if b then turns.Fault c else a) ≡ d → (d ≡ turns.Fault c) ⊎ (a ≡ d)
@@ -69,7 +69,7 @@ if_fault true c a d h = inl (sym h)
 if_fault false c a d h = inr h
 
 -- only a computing slave steps, and it never passes on
-pub act_step : (s : Setup) (quiet : ℕ) (p : Plant) (x : List ℤ) → act s quiet p ≡ turns.Step x → p.state ≡ Computing
+pub act_step : (s : SlaveSetup) (quiet : ℕ) (p : Plant) (x : List ℤ) → act s quiet p ≡ turns.Step x → p.state ≡ Computing
 unfolding act
 act_step s quiet p x h = by (if_fault (is_missed s.desc p.state quiet) HeartbeatMissed (state_act s p p.state) (turns.Step x) h)
   where
@@ -77,7 +77,7 @@ act_step s quiet p x h = by (if_fault (is_missed s.desc p.state quiet) Heartbeat
     by (inl e) = absurd cc
     by (inr e) = step_in s p p.state x e
 
-act_pass : (s : Setup) (quiet : ℕ) (p : Plant) → act s quiet p ≡ turns.Pass → p.state ≡ Computing → ⊥
+act_pass : (s : SlaveSetup) (quiet : ℕ) (p : Plant) → act s quiet p ≡ turns.Pass → p.state ≡ Computing → ⊥
 unfolding act
 act_pass s quiet p h c = by (if_fault (is_missed s.desc p.state quiet) HeartbeatMissed (state_act s p p.state) turns.Pass h)
   where
@@ -86,7 +86,7 @@ act_pass s quiet p h c = by (if_fault (is_missed s.desc p.state quiet) Heartbeat
     by (inr e) = no_pass_computing s p p.busy_left (ap (state_act s p) (sym c) ∙ e)
 
 -- what passing on does to the event under way
-pass_shows : (state : State) → (state ≡ Computing → ⊥) → ((is_sending state ≡ true) × (under_way state ≡ Some Show) × (under_way (next_on_turn state 0) ≡ None)) ⊎ ((is_sending state ≡ false) × (under_way (next_on_turn state 0) ≡ under_way state))
+pass_shows : (state : State) → (state ≡ Computing → ⊥) → ((is_sending_state state ≡ true) × (under_way state ≡ Some Show) × (under_way (next_on_turn state 0) ≡ None)) ⊎ ((is_sending_state state ≡ false) × (under_way (next_on_turn state 0) ≡ under_way state))
 unfolding next_on_turn
 pass_shows SendingI no' = inl (refl, refl, refl)
 pass_shows SendingD no' = inl (refl, refl, refl)
@@ -112,19 +112,19 @@ pass_shows ErrorResolved no' = inr (refl, refl)
 one_more_step : (steps : ℕ) → steps < 2 ^ 32 - 1 → turns.counted steps ≡ steps + 1
 one_more_step steps lt = omega (arith, lt)
 
-turned_goes : (s : Setup) (p : Plant) (n : ℕ) (a : Act) → (p.state ≡ Computing → p.steps < 2 ^ 32 - 1) → ((x : List ℤ) → a ≡ turns.Step x → p.state ≡ Computing) → (a ≡ turns.Pass → p.state ≡ Computing → ⊥) → HasTurn (bench_of n p) (bench_of (events_turned p.state a n) (turned s p a).after)
+turned_goes : (s : SlaveSetup) (p : Plant) (n : ℕ) (a : Act) → (p.state ≡ Computing → p.steps < 2 ^ 32 - 1) → ((x : List ℤ) → a ≡ turns.Step x → p.state ≡ Computing) → (a ≡ turns.Pass → p.state ≡ Computing → ⊥) → HasTurn (bench_of n p) (bench_of (events_turned p.state a n) (turned s p a).after)
 turned_goes s p n turns.Stay b f g = inl (record { events = refl; busy = refl; faulty = refl; resets = refl; steps = refl })
 turned_goes s p n (turns.Wait left) b f g = inl (record { events = refl; busy = refl; faulty = refl; resets = refl; steps = refl })
 turned_goes s p n (turns.Fault code) b f g = inr (inr (inr (record { events = refl; busy = refl; faulty = refl; resets = refl; steps = refl })))
 turned_goes s p n (turns.Step x) b f g = inr (inr (inl (record { under_way = ap under_way (f x refl); events = refl; busy = refl; faulty = refl; resets = refl; steps = one_more_step p.steps (b (f x refl)) })))
 turned_goes s p n turns.Pass b f g = by (pass_shows p.state (g refl))
   where
-    by : ((is_sending p.state ≡ true) × (under_way p.state ≡ Some Show) × (under_way (next_on_turn p.state 0) ≡ None)) ⊎ ((is_sending p.state ≡ false) × (under_way (next_on_turn p.state 0) ≡ under_way p.state)) → HasTurn (bench_of n p) (bench_of (events_turned p.state turns.Pass n) (turned s p turns.Pass).after)
-    by (inl h) = inr (inl (record { under_way = h.1; events = cond-true (is_sending p.state) (n + 1) n h.0; busy = h.2; faulty = refl; resets = refl; steps = refl }))
-    by (inr h) = inl (record { events = cond-false (is_sending p.state) (n + 1) n h.0; busy = h.1; faulty = refl; resets = refl; steps = refl })
+    by : ((is_sending_state p.state ≡ true) × (under_way p.state ≡ Some Show) × (under_way (next_on_turn p.state 0) ≡ None)) ⊎ ((is_sending_state p.state ≡ false) × (under_way (next_on_turn p.state 0) ≡ under_way p.state)) → HasTurn (bench_of n p) (bench_of (events_turned p.state turns.Pass n) (turned s p turns.Pass).after)
+    by (inl h) = inr (inl (record { under_way = h.1; events = cond-true (is_sending_state p.state) (n + 1) n h.0; busy = h.2; faulty = refl; resets = refl; steps = refl }))
+    by (inr h) = inl (record { events = cond-false (is_sending_state p.state) (n + 1) n h.0; busy = h.1; faulty = refl; resets = refl; steps = refl })
 
 -- a turn goes on with the row events
-pub turn_goes : (s : Setup) (quiet : ℕ) (p : Plant) (n : ℕ) → IsSound p → HasTurn (bench_of n p) (bench_of (events_turned p.state (act s quiet p) n) (turns.turns s quiet p).after)
+pub turn_goes : (s : SlaveSetup) (quiet : ℕ) (p : Plant) (n : ℕ) → IsSoundPlant p → HasTurn (bench_of n p) (bench_of (events_turned p.state (act s quiet p) n) (turns.turns s quiet p).after)
 turn_goes s quiet p n ok = turned_goes s p n (act s quiet p) (λ e. ok.below (ap (λ z. is_same z Computing) e)) (act_step s quiet p) (act_pass s quiet p)
 
 -- ---- a request
@@ -160,9 +160,9 @@ at_rest Stopping h = (refl, refl)
 at_rest Stopped h = (refl, refl)
 
 -- the states before and after a change
-pub row_of_next : (state next : State) (request : Stc) (named : State) (sent' : Bool) → next_on state request named sent' ≡ Ok next → row request state sent' ≡ Some next
+pub row_of_next : (state next : State) (request : Stc) (named : State) (sent' : Bool) → next_on state request named sent' ≡ Ok next → transition_row request state sent' ≡ Some next
 unfolding next_on
-row_of_next state next request named sent' h = by (is_barred state request) (is_same named state) (row request state sent') h
+row_of_next state next request named sent' h = by (is_barred state request) (is_same named state) (transition_row request state sent') h
   where
     by : (b c : Bool) (o : Option State) → (if b then Err error.InErrorState else (if c then or_wrong o else Err error.WrongState)) ≡ Ok next → o ≡ Some next
     by true c o e = absurd cc
@@ -170,16 +170,16 @@ row_of_next state next request named sent' h = by (is_barred state request) (is_
     by false true (Some z) e = let q : z ≡ next = cc in ap (λ (y : State). Some y) q
     by false false o e = absurd cc
 
-shows_from : (state next : State) → row stc.SendOutputs state false ≡ Some next → (under_way state ≡ None) × (is_error_state state ≡ false) × (under_way next ≡ Some Show)
+shows_from : (state next : State) → transition_row stc.SendOutputs state false ≡ Some next → (under_way state ≡ None) × (is_error_state state ≡ false) × (under_way next ≡ Some Show)
 shows_from state next h = grind arith
 
-steps_from : (state next : State) (k : ℕ) → row (stc.DoStep k) state false ≡ Some next → (under_way state ≡ None) × (is_error_state state ≡ false) × (under_way next ≡ Some Step)
+steps_from : (state next : State) (k : ℕ) → transition_row (stc.DoStep k) state false ≡ Some next → (under_way state ≡ None) × (is_error_state state ≡ false) × (under_way next ≡ Some Step)
 steps_from state next k h = grind arith
 
-restarts_from : (state next : State) → row stc.Reset state false ≡ Some next → (under_way state ≡ None) × (is_error_state state ≡ false) × (under_way next ≡ None)
+restarts_from : (state next : State) → transition_row stc.Reset state false ≡ Some next → (under_way state ≡ None) × (is_error_state state ≡ false) × (under_way next ≡ None)
 restarts_from state next h = grind arith
 
-idles_from : (request : Stc) (named : State) (state next : State) (sent' : Bool) → event_wanted (Change named request) ≡ None → row request state sent' ≡ Some next → under_way next ≡ under_way state
+idles_from : (request : Stc) (named : State) (state next : State) (sent' : Bool) → event_wanted (Change named request) ≡ None → transition_row request state sent' ≡ Some next → under_way next ≡ under_way state
 idles_from request named state next sent' q h = grind arith
 
 -- ---- what an answered request makes of the row events
@@ -209,14 +209,14 @@ with_told n k p q t t' e h = let P : Told → Type 0 = λ z. Answers n p z k q i
 with_events : (n k k' : ℕ) (p q : Plant) (t : Told) → k ≡ k' → Answers n p t k' q → Answers n p t k q
 with_events n k k' p q t e h = let P : ℕ → Type 0 = λ z. Answers n p t z q in subst P (sym e) h
 
-refused_goes : (s : Setup) (p : Plant) (asked : Asked) (n : ℕ) (code : ErrorCode) → Answers n p (told_by (event_wanted asked) (reply_told (answered s p asked (Some code)).answer)) (events_taken (event_wanted asked) (Some code) n) (answered s p asked (Some code)).after
+refused_goes : (s : SlaveSetup) (p : Plant) (asked : Asked) (n : ℕ) (code : ErrorCode) → Answers n p (told_by (event_wanted asked) (reply_told (answered_plant s p asked (Some code)).answer)) (events_taken (event_wanted asked) (Some code) n) (answered_plant s p asked (Some code)).after
 refused_goes s p asked n code =
-    let q = (answered s p asked (Some code)).after in
+    let q = (answered_plant s p asked (Some code)).after in
     with_told n (events_taken (event_wanted asked) (Some code) n) p q (told_by (event_wanted asked) Otherwise) Nothing (refused_tells (event_wanted asked))
     (with_events n (events_taken (event_wanted asked) (Some code) n) n p q Nothing (refused_events (event_wanted asked) code n) (same_bench n p q refl refl refl refl))
 
 -- a setting and a question
-set_idles : (s : Setup) (p : Plant) (body : Cfg) (n : ℕ) → Idles (bench_of n p) (bench_of n (set_to s p body))
+set_idles : (s : SlaveSetup) (p : Plant) (body : Cfg) (n : ℕ) → Idles (bench_of n p) (bench_of n (set_to s p body))
 set_idles s p (cfg.Parameter vr kind value) n = same_bench n p (set_to s p (cfg.Parameter vr kind value)) refl refl refl refl
 set_idles s p (cfg.Logging category level mode) n = same_bench n p (set_to s p (cfg.Logging category level mode)) refl refl refl refl
 set_idles s p cfg.Clear n = same_bench n p (set_to s p cfg.Clear) refl refl refl refl
@@ -242,11 +242,11 @@ no_refusal p request (Err code) h = absurd cc
 pub state_is : (before next : State) (r : Result State ErrorCode) → r ≡ Ok next → state_or before r ≡ next
 state_is before next r e = ap (state_or before) e
 
-starts : (k : RowEvent) (p q : Plant) (n : ℕ) (next : State) → Sound p → under_way p.state ≡ None → is_error_state p.state ≡ false → under_way next ≡ Some k → q.state ≡ next → is_some q.fault ≡ is_some p.fault → length q.earlier ≡ length p.earlier → q.steps ≡ p.steps → Starts k (bench_of n p) (bench_of n q)
+starts : (k : RowEvent) (p q : Plant) (n : ℕ) (next : State) → Sound p → under_way p.state ≡ None → is_error_state p.state ≡ false → under_way next ≡ Some k → q.state ≡ next → is_some q.fault ≡ is_some p.fault → length q.earlier ≡ length p.earlier → q.steps ≡ p.steps → BenchStarts k (bench_of n p) (bench_of n q)
 starts k p q n next sound free fine busy a e f g = record { free = free; sound = not_faulty p sound fine; events = refl; busy = ap under_way a ∙ busy; faulty = e ∙ not_faulty p sound fine; resets = f; steps = g }
 
 -- what a change leaves, the log apart
-change_goes : (s : Setup) (p : Plant) (named : State) (request : Stc) (n : ℕ) (next : State) (q : Plant) → Sound p → row request p.state p.outputs_sent ≡ Some next
+change_goes : (s : SlaveSetup) (p : Plant) (named : State) (request : Stc) (n : ℕ) (next : State) (q : Plant) → Sound p → transition_row request p.state p.outputs_sent ≡ Some next
     → let c = changed_to s p request next in q.state ≡ c.state → q.fault ≡ c.fault → q.earlier ≡ c.earlier → q.steps ≡ c.steps
     → Answers n p (told_by (event_wanted (Change named request)) Accepted) (events_taken (event_wanted (Change named request)) None n) q
 change_goes s p named stc.SendOutputs n next q sound r a b c d =
@@ -266,22 +266,22 @@ change_goes s p named stc.Initialize n next q sound r a b c d = same_bench n p q
 change_goes s p named (stc.Run start_time) n next q sound r a b c d = same_bench n p q (ap under_way a ∙ idles_from (stc.Run start_time) named p.state next p.outputs_sent refl r) (ap is_some b) (ap length c) d
 change_goes s p named stc.Stop n next q sound r a b c d = same_bench n p q (ap under_way a ∙ idles_from stc.Stop named p.state next p.outputs_sent refl r) (ap is_some b) (ap length c) d
 
-accepted_goes : (s : Setup) (p : Plant) (asked : Asked) (n : ℕ) → Sound p → refusal s p asked ≡ None → Answers n p (told_by (event_wanted asked) (reply_told (answer p asked))) (events_taken (event_wanted asked) None n) (answered s p asked None).after
+accepted_goes : (s : SlaveSetup) (p : Plant) (asked : Asked) (n : ℕ) → Sound p → refusal s p asked ≡ None → Answers n p (told_by (event_wanted asked) (reply_told (answer p asked))) (events_taken (event_wanted asked) None n) (answered_plant s p asked None).after
 unfolding refusal accepted answer
-accepted_goes s p (Question inf.State) n sound h = rest_goes p (answered s p (Question inf.State) None).after n sound refl refl refl refl (is_on_its_way (state_code p.state)) refl
-accepted_goes s p (Question inf.Error) n sound h = same_bench n p (answered s p (Question inf.Error) None).after refl refl refl refl
-accepted_goes s p (Question (inf.Log category most)) n sound h = same_bench n p (answered s p (Question (inf.Log category most)) None).after refl refl refl refl
+accepted_goes s p (Question inf.State) n sound h = rest_goes p (answered_plant s p (Question inf.State) None).after n sound refl refl refl refl (is_on_its_way (state_code p.state)) refl
+accepted_goes s p (Question inf.Error) n sound h = same_bench n p (answered_plant s p (Question inf.Error) None).after refl refl refl refl
+accepted_goes s p (Question (inf.Log category most)) n sound h = same_bench n p (answered_plant s p (Question (inf.Log category most)) None).after refl refl refl refl
 accepted_goes s p (Setting body) n sound h = let i = set_idles s p body n in record { events = i.events; busy = i.busy; faulty = i.faulty; resets = i.resets; steps = i.steps }
 accepted_goes s p (Change named request) n sound h =
     let o = no_refusal p request (next_on p.state request named p.outputs_sent) h in
     let r = row_of_next p.state o.0 request named p.outputs_sent o.1 in
     let same = ap (changed_to s p request) (state_is p.state o.0 (next_on p.state request named p.outputs_sent) o.1) in
-    change_goes s p named request n o.0 (answered s p (Change named request) None).after sound r (ap (λ z. z.state) same) (ap (λ z. z.fault) same) (ap (λ z. z.earlier) same) (ap (λ z. z.steps) same)
+    change_goes s p named request n o.0 (answered_plant s p (Change named request) None).after sound r (ap (λ z. z.state) same) (ap (λ z. z.fault) same) (ap (λ z. z.earlier) same) (ap (λ z. z.steps) same)
 
 -- a request that is taken goes on with the row events
-pub answer_goes : (s : Setup) (p : Plant) (asked : Asked) (n : ℕ) → Sound p → Answers n p (told_by (event_wanted asked) (reply_told (answers s asked p).answer)) (events_taken (event_wanted asked) (refusal s p asked) n) (answers s asked p).after
+pub answer_goes : (s : SlaveSetup) (p : Plant) (asked : Asked) (n : ℕ) → Sound p → Answers n p (told_by (event_wanted asked) (reply_told (answers s asked p).answer)) (events_taken (event_wanted asked) (refusal s p asked) n) (answers s asked p).after
 answer_goes s p asked n sound = by (refusal s p asked) refl
   where
-    by : (o : Option ErrorCode) → refusal s p asked ≡ o → Answers n p (told_by (event_wanted asked) (reply_told (answered s p asked o).answer)) (events_taken (event_wanted asked) o n) (answered s p asked o).after
+    by : (o : Option ErrorCode) → refusal s p asked ≡ o → Answers n p (told_by (event_wanted asked) (reply_told (answered_plant s p asked o).answer)) (events_taken (event_wanted asked) o n) (answered_plant s p asked o).after
     by (Some code) e = refused_goes s p asked n code
     by None e = accepted_goes s p asked n sound e

@@ -6,15 +6,15 @@ use Rattle.dcp_ends.specs.Events.{Event, Gram, Tick, Send}
 use Rattle.log_spec.specs.Messages.{Note, Role, Request, Answer, Value, Else}
 use Rattle.dcp_ends.specs.declared.entries.LogEntry.{LogEntry}
 use Rattle.dcp_ends.specs.declared.entries.LogEntry.TheVariants.{Sent, Got, Idle, Turn}
-use Rattle.log_spec.specs.Log.{Parties, same, role_heard, Decision}
+use Rattle.log_spec.specs.Log.{Parties, same, role_heard, DecidedRequest}
 use Rattle.log_spec.specs.Moves.{Move, Asks, Comes, Tells, Hears, Brings, Turns, Rests, Other, move}
 use Rattle.lockstep_laws.specs.Slaves.{Post, Desk, tail}
 use Rattle.lockstep_laws.specs.Steps.{event_asked}
 use Rattle.slave_meets.specs.Plants.{event_wanted}
 use Rattle.slave_spec.specs.Heard as spec
 use Rattle.slave_spec.specs.Transport as transport
-use Rattle.slave_spec.specs.Transport.{Machine, Slave, Answered, Turned}
-use Rattle.slave_spec.specs.declared.words.Request as req
+use Rattle.slave_spec.specs.Transport.{Machine, SlaveState, Answered, Turned}
+use Rattle.slave_spec.specs.declared.words.SlaveRequest as req
 use Rattle.slave_spec.specs.declared.words.Asked as ask
 use Rattle.slave_spec.specs.declared.words.Session.TheVariants.{During}
 use Rattle.slave_spec.specs.declared.words.Fate.{Fate}
@@ -24,25 +24,25 @@ abbrev pub post : Send → Post
 post p = record { to = p.to; bytes = p.bytes }
 
 -- the answer to a request as a numbered message
-abbrev pub answer_note : req.Request → ℕ → transport.Answer → Note
+abbrev pub answer_note : req.SlaveRequest → ℕ → transport.SlaveAnswer → Note
 answer_note r next a = record { number = r.number; message = transport.answer_message r next a }
 
-abbrev pub served_with : {S : Type 0} → Slave S → List Decision → Note → req.Request → Answered S → List Decision
+abbrev pub served_with : {S : Type 0} → SlaveState S → List DecidedRequest → Note → req.SlaveRequest → Answered S → List DecidedRequest
 served_with x es n r a = record { request = n; answer = answer_note r (transport.expected (record { request = r; answer = a.answer } ∷ x.served)) a.answer } ∷ es
 
-abbrev pub served_by : {S : Type 0} → Machine S → Slave S → List Decision → Note → req.Request → Fate → List Decision
+abbrev pub served_by : {S : Type 0} → Machine S → SlaveState S → List DecidedRequest → Note → req.SlaveRequest → Fate → List DecidedRequest
 served_by m x es n r Taken = served_with x es n r (m.answers r.asked x.inner)
 served_by m x es n r Dropped = es
 served_by m x es n r (Refused code) = es
 served_by m x es n r Repeated = es
 
-abbrev pub served_after : {S : Type 0} → Machine S → Slave S → List Decision → Address → Role → spec.Heard → List Decision
+abbrev pub served_after : {S : Type 0} → Machine S → SlaveState S → List DecidedRequest → Address → Role → spec.Heard → List DecidedRequest
 served_after m x es from (Request receiver n) (spec.Asks r) = served_by m x es n r (transport.fate m x from r)
 served_after m x es from _ _ = es
 
 -- the slave of the definition, and its desk
 pub record Both (S : Type 0) : Type 0 where
-  pub slave : Slave S
+  pub slave : SlaveState S
   pub desk : Desk
 
 module _ {S : Type 0} (m : Machine S) (w : Parties) (s : ℕ) where
@@ -92,8 +92,8 @@ accepts_heard m (spec.Asks r) = accepts_asked m r.number r.asked (m.refuses r.as
 accepts_heard m (spec.Brings number id payload) = false
 accepts_heard m spec.Nothing = false
 
-abbrev pub accepts : {S : Type 0} → Machine S → Note → Bool
-accepts m n = accepts_heard m (spec.heard_as (Some n.message))
+abbrev pub accepts_note : {S : Type 0} → Machine S → Note → Bool
+accepts_note m n = accepts_heard m (spec.heard_as (Some n.message))
 
 -- ---- what is wanted of messages and their bytes
 
@@ -115,19 +115,19 @@ abbrev pub AreElse : Parties → List Send → Type 0
 AreElse w [] = Unit {0}
 AreElse w (p ∷ ps) = (role_heard w p.bytes ≡ Else) × AreElse w ps
 
-abbrev pub IsAnswer : Parties → Address → req.Request → ℕ → transport.Answer → Type 0
+abbrev pub IsAnswer : Parties → Address → req.SlaveRequest → ℕ → transport.SlaveAnswer → Type 0
 IsAnswer w to r next a = role_heard w (transport.send to (transport.answer_message r next a)).bytes ≡ Answer r.receiver (answer_note r next a)
 
-abbrev pub IsKept : Parties → Address → List transport.Exchange → Type 0
-IsKept w to [] = Unit {0}
-IsKept w to (e ∷ served) = IsAnswer w to e.request (transport.expected (e ∷ served)) e.answer
+abbrev pub AreAnswersKept : Parties → Address → List transport.Exchange → Type 0
+AreAnswersKept w to [] = Unit {0}
+AreAnswersKept w to (e ∷ served) = IsAnswer w to e.request (transport.expected (e ∷ served)) e.answer
 
 -- what this slave sends at its next event is read as it was meant: answers as answers, data as data, and notices as neither
-pub record IsReadBack {S : Type 0} (m : Machine S) (w : Parties) (x : Slave S) : Type 0 where
-  pub answer : (bytes : List ℕ) (r : req.Request) → spec.heard bytes ≡ spec.Asks r → (to : Address)
+pub record IsReadBack {S : Type 0} (m : Machine S) (w : Parties) (x : SlaveState S) : Type 0 where
+  pub answer : (bytes : List ℕ) (r : req.SlaveRequest) → spec.heard bytes ≡ spec.Asks r → (to : Address)
       → IsAnswer w to r (transport.expected (record { request = r; answer = (m.answers r.asked x.inner).answer } ∷ x.served)) (m.answers r.asked x.inner).answer × AreElse w (transport.notice_sends to r.receiver (m.answers r.asked x.inner).notices)
-  pub refusal : (bytes : List ℕ) (r : req.Request) → spec.heard bytes ≡ spec.Asks r → (to : Address) (code : ErrorCode) → IsAnswer w to r (transport.expected x.served) (transport.Nack code)
-  pub again : (to : Address) → IsKept w to x.served
+  pub refusal : (bytes : List ℕ) (r : req.SlaveRequest) → spec.heard bytes ≡ spec.Asks r → (to : Address) (code : ErrorCode) → IsAnswer w to r (transport.expected x.served) (transport.Nack code)
+  pub again : (to : Address) → AreAnswersKept w to x.served
   pub turn : (master : Address) (id : ℕ) → x.session ≡ During master id
       → AreData w (m.turns (transport.quieter x.quiet) x.inner).parcels × AreElse w (transport.notice_sends master id (m.turns (transport.quieter x.quiet) x.inner).notices)
 
@@ -138,11 +138,11 @@ event_of w s (Got at from bytes) = if same at (w.slave s) then Gram from bytes �
 event_of w s (Idle at) = []
 event_of w s (Turn at) = if same at (w.slave s) then Tick ∷ [] else []
 
-abbrev pub events : Parties → ℕ → List LogEntry → List Event
-events w s [] = []
-events w s (e ∷ log) = events w s log ++ event_of w s e
+abbrev pub events_of_slave : Parties → ℕ → List LogEntry → List Event
+events_of_slave w s [] = []
+events_of_slave w s (e ∷ log) = events_of_slave w s log ++ event_of w s e
 
 -- both readings of each datagram agree, and what the slave sends is read back, wherever it stands
-pub record ReadBack {S : Type 0} (m : Machine S) (w : Parties) (s : ℕ) : Type 0 where
+pub record ReadsAnswersBack {S : Type 0} (m : Machine S) (w : Parties) (s : ℕ) : Type 0 where
   pub agree : (bytes : List ℕ) → Agree (role_heard w bytes) (spec.heard bytes)
   pub sends : (log : List LogEntry) → IsReadBack m w (at m w s log).slave

@@ -12,7 +12,7 @@ use Rattle.slave_spec.specs.declared.words.Asked.TheVariants.{Change}
 use Rattle.slave_spec.specs.Transport as transport
 use Rattle.slave_spec.specs.Plants.{Plant}
 use Rattle.slave_spec.specs.Turns as turns
-use Rattle.slave_spec.specs.Turns.{Act, is_sending}
+use Rattle.slave_spec.specs.Turns.{Act, is_sending_state}
 
 -- the event that is under way in a state
 abbrev pub under_way : State → Option RowEvent
@@ -31,7 +31,7 @@ event_wanted (Change named (stc.DoStep steps)) = Some Step
 event_wanted (Change named stc.Reset) = Some Restart
 event_wanted asked = None
 
-abbrev pub reply_told : transport.Answer → Reply
+abbrev pub reply_told : transport.SlaveAnswer → Reply
 reply_told transport.Ack = Accepted
 reply_told (transport.Nack code) = Otherwise
 reply_told (transport.StateAck state) = if is_on_its_way (state_code state) then Otherwise else AtRest
@@ -48,7 +48,7 @@ events_turned state turns.Stay n = n
 events_turned state (turns.Wait left) n = n
 events_turned state (turns.Fault code) n = n
 events_turned state (turns.Step x) n = n + 1
-events_turned state turns.Pass n = if is_sending state then n + 1 else n
+events_turned state turns.Pass n = if is_sending_state state then n + 1 else n
 
 -- a slave with a fault is in an error state as long as its session lasts
 abbrev pub is_error_state : State → Bool

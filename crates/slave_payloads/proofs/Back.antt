@@ -14,7 +14,7 @@ use Rattle.pdu_layout.specs.Reading.{number, value_in}
 use Rattle.slave_desc.specs.declared.ports.Port.{Port}
 use Rattle.slave_wiring.specs.Changes.{output, entries}
 use Rattle.slave_wiring.specs.Refusals.{port_with}
-use Rattle.slave_wiring.specs.Payloads.{kind_of, cut, output_value}
+use Rattle.slave_wiring.specs.Payloads.{port_type, cut_values, output_value}
 use Rattle.slave_sends.proofs.Bytes.{digits_length}
 use Rattle.slave_payloads.specs.Back.{PayloadsReadBack}
 
@@ -31,7 +31,7 @@ pub value_back : (kind : DataType) (z : ℤ) → fits kind z ≡ true → value_
 value_back kind z h = ap (value_of kind) (number-digits (width kind) (residue (width kind) z) (residue_below kind z h)) ∙ value_of-residue kind z h
 
 -- ---- values one behind the other
-pub cut_back : (K : ℕ → DataType) (V : ℕ → ℤ) → ((vr : ℕ) → fits (K vr) (V vr) ≡ true) → (vrs : List ℕ) → cut (map K vrs) (flat_map (λ vr. value_bytes (K vr) (V vr)) vrs) ≡ map V vrs
+pub cut_back : (K : ℕ → DataType) (V : ℕ → ℤ) → ((vr : ℕ) → fits (K vr) (V vr) ≡ true) → (vrs : List ℕ) → cut_values (map K vrs) (flat_map (λ vr. value_bytes (K vr) (V vr)) vrs) ≡ map V vrs
 cut_back K V f [] = refl
 cut_back K V f (vr ∷ vrs) =
     let k = K vr in
@@ -40,9 +40,9 @@ cut_back K V f (vr ∷ vrs) =
     let size : length own ≡ width k = digits_length (width k) (residue (width k) (V vr)) in
     let head : take (width k) (own ++ rest) ≡ own = ap (λ n. take n (own ++ rest)) (sym size) ∙ take-append_seam own rest in
     let more : drop (width k) (own ++ rest) ≡ rest = ap (λ n. drop n (own ++ rest)) (sym size) ∙ drop-append_seam own rest in
-    ap (λ l. value_in k l ∷ cut (map K vrs) (drop (width k) (own ++ rest))) head
-    ∙ ap (λ z. z ∷ cut (map K vrs) (drop (width k) (own ++ rest))) (value_back k (V vr) (f vr))
-    ∙ ap (λ l. V vr ∷ cut (map K vrs) l) more
+    ap (λ l. value_in k l ∷ cut_values (map K vrs) (drop (width k) (own ++ rest))) head
+    ∙ ap (λ z. z ∷ cut_values (map K vrs) (drop (width k) (own ++ rest))) (value_back k (V vr) (f vr))
+    ∙ ap (λ l. V vr ∷ cut_values (map K vrs) l) more
     ∙ ap (λ l. V vr ∷ l) (cut_back K V f vrs)
 
 -- ---- outputs by their references
@@ -57,17 +57,17 @@ zero_fits I32 = refl
 zero_fits I64 = refl
 
 -- the value of a reference lies in its port's type
-pub output_fits : (ports : List Port) (vs : List ℤ) → all_fit (map (λ p. p.kind) ports) vs ≡ true → (vr : ℕ) → fits (kind_of (port_with vr ports)) (output_value vr ports vs) ≡ true
+pub output_fits : (ports : List Port) (vs : List ℤ) → all_fit (map (λ p. p.kind) ports) vs ≡ true → (vr : ℕ) → fits (port_type (port_with vr ports)) (output_value vr ports vs) ≡ true
 output_fits [] vs h vr = zero_fits I64
-output_fits (p ∷ ports) [] h vr = zero_fits (kind_of (port_with vr (p ∷ ports)))
+output_fits (p ∷ ports) [] h vr = zero_fits (port_type (port_with vr (p ∷ ports)))
 output_fits (p ∷ ports) (v ∷ vs) h vr = by (output_fits ports vs a.1 vr) (p.vr == vr)
   where
     a : (fits p.kind v ≡ true) × (all_fit (map (λ q. q.kind) ports) vs ≡ true)
     a = and_parts (fits p.kind v) (all_fit (map (λ q. q.kind) ports) vs) h
 
-    by : fits (kind_of (port_with vr ports)) (output_value vr ports vs) ≡ true → (b : Bool) → fits (kind_of (if b then Some p else port_with vr ports)) (if b then v else output_value vr ports vs) ≡ true
+    by : fits (port_type (port_with vr ports)) (output_value vr ports vs) ≡ true → (b : Bool) → fits (port_type (if b then Some p else port_with vr ports)) (if b then v else output_value vr ports vs) ≡ true
     by g true = a.0
     by g false = g
 
 pub read_back : PayloadsReadBack
-read_back d id changes vs h = cut_back (λ vr. kind_of (port_with vr d.outputs)) (λ vr. output_value vr d.outputs vs) (output_fits d.outputs vs h) (reverse (entries output id changes))
+read_back d id changes vs h = cut_back (λ vr. port_type (port_with vr d.outputs)) (λ vr. output_value vr d.outputs vs) (output_fits d.outputs vs h) (reverse (entries output id changes))

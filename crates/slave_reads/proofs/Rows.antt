@@ -14,20 +14,20 @@ use Rattle.plan_laws.specs.Taking as plans
 use Rattle.log_spec.specs.Log.{Parties, IsSlaveOf}
 use Rattle.lockstep_laws.specs.Steps.{Bench}
 use Rattle.model_laws.specs.Ordinals.{row_of_ordinal}
-use Rattle.model_laws.specs.Machines.{KeptNote, step_at, carried, IsRight, IsAskedInOrder}
+use Rattle.model_laws.specs.Machines.{KeptNote, step_at, carried, IsRightNote, IsAskedInOrder}
 use Rattle.model_laws.specs.Scenarios.{slave_numbered}
 use Rattle.model_laws.proofs.EachQth.{row_is}
 use Rattle.model_laws.proofs.Exists.{run_of_place}
 use Rattle.slave_wiring.specs.Changes.{input, has_id}
 use Rattle.slave_wiring.specs.Payloads as wired
 use Rattle.slave_wiring.specs.Payloads.{Kept, kept_under, payload}
-use Rattle.slave_spec.specs.declared.words.Setup.{Setup}
+use Rattle.slave_spec.specs.declared.words.SlaveSetup.{SlaveSetup}
 use Rattle.slave_spec.specs.Plants.{Plant}
 use Rattle.slave_spec.specs.Slaves.{machine}
 use Rattle.slave_meets.specs.Desks.{at}
 use Rattle.slave_meets.specs.Benches.{bench_at}
 use Rattle.slave_holds.specs.Models.{plant_at}
-use Rattle.slave_course.specs.Wired.{planned_changes, restarted, is_past, is_during}
+use Rattle.slave_course.specs.Wired.{planned_changes, changes_restarted, is_past, is_during}
 use Rattle.slave_course.proofs.Courses.{is_planned, is_counted}
 use Rattle.slave_links.specs.Links.{interval_of, sender_of}
 use Rattle.slave_data.specs.Made.{setup_at, parties, slaves, kept_note, machines}
@@ -59,7 +59,7 @@ kept_as f (Some kept) k e = (kept, refl, cc)
 
 module _ (sc : Scenario) (other : SlaveDesc) (ok : IsScenario sc) (s : ℕ) (is : IsSlaveOf (parties sc other) s) (log : List LogEntry) (order : IsAskedInOrder (parties sc other) (slaves sc other) s log)
     (computing : (plant_at (setup_at sc other s) (parties sc other) s log).state ≡ Computing) (rows : List (List ℤ)) (each : EachRow sc rows) (few : length rows ≤ sc.runs * (sc.steps + 1)) (right : KeepsRight sc other s rows log) where
-  abbrev X : Setup
+  abbrev X : SlaveSetup
   X = setup_at sc other s
 
   abbrev W : Parties
@@ -71,7 +71,7 @@ module _ (sc : Scenario) (other : SlaveDesc) (ok : IsScenario sc) (s : ℕ) (is 
   abbrev b : Bench
   b = bench_at X W s log
 
-  of : plans.IsSlaveOf sc s X.desc
+  of : plans.IsScenarioSlave sc s X.desc
   of = of_scenario sc other ok s is
 
   during : is_during (at (machine X) W s log).slave.session ≡ true
@@ -80,7 +80,7 @@ module _ (sc : Scenario) (other : SlaveDesc) (ok : IsScenario sc) (s : ℕ) (is 
   most : b.steps ≤ sc.steps
   most = (is_counted sc s X W of (reads sc other) log order.asked during).most
 
-  wiring : p.wires.changes ≡ restarted sc.steps (planned_changes sc s X.desc) (length p.earlier)
+  wiring : p.wires.changes ≡ changes_restarted sc.steps (planned_changes sc s X.desc) (length p.earlier)
   wiring = is_planned sc s X W of (reads sc other) log order.asked during (ap is_past computing)
 
   -- ---- under one id
@@ -97,7 +97,7 @@ module _ (sc : Scenario) (other : SlaveDesc) (ok : IsScenario sc) (s : ℕ) (is 
     abbrev m : ℕ
     m = sent_step sc id b.steps
 
-    sends : plans.IsSlaveOf sc a c
+    sends : plans.IsScenarioSlave sc a c
     sends = let f = fed_by_slaves sc ok s X.desc id feeds in let g = f.0 in of_scenario sc other ok a (omega (arith, g), f.1)
 
     m_within : m ≤ sc.steps
@@ -106,7 +106,7 @@ module _ (sc : Scenario) (other : SlaveDesc) (ok : IsScenario sc) (s : ℕ) (is 
         let e : q * (b.steps / q) ≡ b.steps / q * q = omega arith in
         omega (arith, whole, e, most)
 
-    module _ (k : KeptNote) (ordinal : k.ordinal ≡ b.resets * (sc.steps / q + 1) + b.steps / q) (r : IsRight (slaves_asked sc other) (machines sc other) rows id k.ordinal k.note) where
+    module _ (k : KeptNote) (ordinal : k.ordinal ≡ b.resets * (sc.steps / q + 1) + b.steps / q) (r : IsRightNote (slaves_asked sc other) (machines sc other) rows id k.ordinal k.note) where
       row_here : row_of_ordinal sc.steps q k.ordinal ≡ b.resets * (sc.steps + 1) + m
       row_here = ap (row_of_ordinal sc.steps q) ordinal ∙ row_is sc.steps q b.resets b.steps (some_interval sc ok id) most
 
@@ -147,7 +147,7 @@ module _ (sc : Scenario) (other : SlaveDesc) (ok : IsScenario sc) (s : ℕ) (is 
         let k = kept_as (kept_note sc other p id) (kept_under id p.wires.kept) f.0 f.1 in
         (k.0, k.1, shown_by f.0 f.2 (right id feeds f.0 f.1) k.0 k.2)
 
-  inputs_are : wired.inputs X.desc p.wires ≡ reference.inputs sc rows s X.desc (b.resets + 1) b.steps
+  inputs_are : wired.wired_values X.desc p.wires ≡ reference.inputs sc rows s X.desc (b.resets + 1) b.steps
   inputs_are = read_rows sc s X.desc of rows each (b.resets + 1) b.steps p.wires (length p.earlier) wiring (λ id f. feed id f)
 
 pub reads_rows : SlavesReadRows

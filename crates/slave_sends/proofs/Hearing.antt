@@ -16,8 +16,8 @@ use Rattle.pdu_layout.specs.Reading.{message_in}
 use Rattle.pdu_codec.proofs.Told.{read_as_spelled}
 use Rattle.slave_spec.specs.declared.words.Asked.{Asked}
 use Rattle.slave_spec.specs.declared.words.Asked.TheVariants.{Change, Setting, Question}
-use Rattle.slave_spec.specs.declared.words.Request.{Request}
-use Rattle.slave_spec.specs.Heard.{Asks, Brings, Nothing, number_at, state_from, stc_of, cfg_of, inf_of, asks, heard_in, heard_as, heard, bytes_at}
+use Rattle.slave_spec.specs.declared.words.SlaveRequest.{SlaveRequest}
+use Rattle.slave_spec.specs.Heard.{Asks, Brings, Nothing, number_at, state_from, stc_of, cfg_of, inf_of, heard_asking, heard_in, heard_as, heard, bytes_at}
 use Rattle.slave_sends.specs.Ranges.{RequestFits, AskedFits}
 
 -- ---- each request begins with its number and its receiver
@@ -70,7 +70,7 @@ starts (U16 ∷ U8 ∷ ks) [] h f = absurd f
 starts _ vs h f = absurd cc
 
 -- ---- what the slave makes of it
-pub record Told (code : ℕ) (vs : List FieldValue) (r : Request) : Type 0 where
+pub record Told (code : ℕ) (vs : List FieldValue) (r : SlaveRequest) : Type 0 where
   pub early : nat_lt code 176 ≡ true
   pub number : r.number ≡ number_at 0 vs
   pub receiver : r.receiver ≡ number_at 1 vs
@@ -82,13 +82,13 @@ late code h = grind (arith, nat_tests)
 later : (code : ℕ) → nat_lt code 128 ≡ true → nat_lt code 176 ≡ true
 later code h = grind (arith, nat_tests)
 
-told_by : (code : ℕ) (vs : List FieldValue) (a : Asked) (r : Request) → nat_lt code 176 ≡ true → ((body : Cfg) → a ≡ Setting body → body ≡ cfg_of code vs) → asks vs a ≡ Asks r → Told code vs r
+told_by : (code : ℕ) (vs : List FieldValue) (a : Asked) (r : SlaveRequest) → nat_lt code 176 ≡ true → ((body : Cfg) → a ≡ Setting body → body ≡ cfg_of code vs) → heard_asking vs a ≡ Asks r → Told code vs r
 told_by code vs a r lt f h =
     let same : record { number = number_at 0 vs; receiver = number_at 1 vs; asked = a } ≡ r = cc in
-    let P : Request → Type 0 = Told code vs in
+    let P : SlaveRequest → Type 0 = Told code vs in
     subst P same (record { early = lt; number = refl; receiver = refl; asked = f })
 
-told : (code : ℕ) (vs : List FieldValue) (r : Request) → heard_in code vs ≡ Asks r → Told code vs r
+told : (code : ℕ) (vs : List FieldValue) (r : SlaveRequest) → heard_in code vs ≡ Asks r → Told code vs r
 told code vs r h = by (nat_lt code 32) (nat_lt code 128) (nat_lt code 176) (code == 240) refl refl refl h
   where
     change : Asked
@@ -104,7 +104,7 @@ told code vs r h = by (nat_lt code 32) (nat_lt code 128) (nat_lt code 176) (code
     no' body e = absurd cc
 
     by : (a b c d : Bool) → nat_lt code 32 ≡ a → nat_lt code 128 ≡ b → nat_lt code 176 ≡ c
-        → (if a then asks vs change else (if b then asks vs (Setting (cfg_of code vs)) else (if c then asks vs (Question (inf_of code vs)) else (if d then Brings (number_at 0 vs) (number_at 1 vs) (bytes_at 2 vs) else Nothing)))) ≡ Asks r → Told code vs r
+        → (if a then heard_asking vs change else (if b then heard_asking vs (Setting (cfg_of code vs)) else (if c then heard_asking vs (Question (inf_of code vs)) else (if d then Brings (number_at 0 vs) (number_at 1 vs) (bytes_at 2 vs) else Nothing)))) ≡ Asks r → Told code vs r
     by true b c d e f g k = told_by code vs change r (late code e) none k
     by false true c d e f g k = told_by code vs (Setting (cfg_of code vs)) r (later code f) setting k
     by false false true d e f g k = told_by code vs (Question (inf_of code vs)) r g no' k
@@ -150,14 +150,14 @@ asked_fits m b s (Setting (cfg.Scope x y)) f = tt
 asked_fits m b s (Change named request) f = tt
 asked_fits m b s (Question q) f = tt
 
-message_fits : (m : Message) (b : List ℕ) (r : Request) → Spells m b → heard_in m.code m.values ≡ Asks r → RequestFits r × AskedFits r.asked
+message_fits : (m : Message) (b : List ℕ) (r : SlaveRequest) → Spells m b → heard_in m.code m.values ≡ Asks r → RequestFits r × AskedFits r.asked
 message_fits m b r s h =
     let t = told m.code m.values r h in
     let st = starts s.kinds m.values (asks_in table m.code s.kinds all_ask s.listed t.early) s.fits in
     (record { number = omega (arith, st.number, t.number); receiver = omega (arith, st.receiver, t.receiver) }, asked_fits m b s r.asked t.asked)
 
 -- a request that is heard
-pub asks_fit : (b : List ℕ) (r : Request) → heard b ≡ Asks r → RequestFits r × AskedFits r.asked
+pub asks_fit : (b : List ℕ) (r : SlaveRequest) → heard b ≡ Asks r → RequestFits r × AskedFits r.asked
 unfolding heard
 asks_fit b r h = by (message_in b) refl h
   where

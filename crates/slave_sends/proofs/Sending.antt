@@ -5,19 +5,19 @@ use Rattle.dcp_ends.specs.Events.{Event, Gram, Tick}
 use Rattle.dcp_ends.specs.declared.entries.LogEntry.{LogEntry}
 use Rattle.log_spec.specs.Messages.{role_read}
 use Rattle.log_spec.specs.Log.{Parties, role_heard}
-use Rattle.slave_spec.specs.declared.words.Setup.{Setup}
-use Rattle.slave_spec.specs.declared.words.Request.{Request}
+use Rattle.slave_spec.specs.declared.words.SlaveSetup.{SlaveSetup}
+use Rattle.slave_spec.specs.declared.words.SlaveRequest.{SlaveRequest}
 use Rattle.slave_spec.specs.declared.words.Session.{Session}
 use Rattle.slave_spec.specs.declared.words.Session.TheVariants.{Before, During, After}
 use Rattle.slave_spec.specs.declared.words.Fate.{Fate}
 use Rattle.slave_spec.specs.declared.words.Fate.TheVariants.{Dropped, Refused, Repeated, Taken}
 use Rattle.slave_spec.specs.Heard.{Heard, Asks, Brings, Nothing, heard}
-use Rattle.slave_spec.specs.Transport.{Slave, Exchange, Answer, Nack, fate, session_after, is_last, is_open, quieter, expected, after_request, after_heard, after, after_all, fresh}
+use Rattle.slave_spec.specs.Transport.{SlaveState, Exchange, SlaveAnswer, Nack, fate, session_after, is_last, is_open, quieter, expected, after_request, after_heard, after, after_all, fresh}
 use Rattle.slave_spec.specs.Plants.{Plant}
 use Rattle.slave_spec.specs.Requests.{answers}
 use Rattle.slave_spec.specs.Turns.{turns, brings}
 use Rattle.slave_spec.specs.Slaves.{machine}
-use Rattle.slave_meets.specs.Desks.{at, events, Agree, IsKept, IsReadBack, ReadBack}
+use Rattle.slave_meets.specs.Desks.{at, events_of_slave, Agree, AreAnswersKept, IsReadBack, ReadsAnswersBack}
 use Rattle.slave_meets.proofs.Meets.{converses, slave_is}
 use Rattle.slave_meets.proofs.Benches.{performs}
 use Rattle.slave_meets.proofs.Agreeing.{readings_agree}
@@ -28,7 +28,7 @@ use Rattle.slave_sends.proofs.Hearing.{asks_fit}
 use Rattle.slave_sends.proofs.Standing.{answers_else, answers_answer, answers_stay, turns_else, turns_data, turns_stay, brings_stay}
 
 -- ---- one event
-module _ (s : Setup) where
+module _ (s : SlaveSetup) where
   begun : PlantFits (machine s).start
   begun = record {
     log = record { first = record { lines = tt; few = omega arith }; second = record { lines = tt; few = omega arith }; third = record { lines = tt; few = omega arith } };
@@ -36,7 +36,7 @@ module _ (s : Setup) where
     payloads = λ id. omega arith;
   }
 
-  session_fits : (session : Session) (from : Address) (r : Request) (a : Answer) → r.receiver < 256 → SessionHasId session → SessionHasId (session_after session from r a)
+  session_fits : (session : Session) (from : Address) (r : SlaveRequest) (a : SlaveAnswer) → r.receiver < 256 → SessionHasId session → SessionHasId (session_after session from r a)
   session_fits Before from r a lt h = lt
   session_fits (During master id) from r a lt h = by (is_last r.asked a)
     where
@@ -45,7 +45,7 @@ module _ (s : Setup) where
       by false = h
   session_fits (After master id) from r a lt h = h
 
-  at_request : (x : Slave Plant) (from : Address) (r : Request) (f : Fate) → RequestFits r → AskedFits r.asked → SlaveFits x → SlaveFits (after_request (machine s) x from r f)
+  at_request : (x : SlaveState Plant) (from : Address) (r : SlaveRequest) (f : Fate) → RequestFits r → AskedFits r.asked → SlaveFits x → SlaveFits (after_request (machine s) x from r f)
   at_request x from r Dropped a b h = h
   at_request x from r (Refused code) a b h = h
   at_request x from r Repeated a b h = h
@@ -55,24 +55,24 @@ module _ (s : Setup) where
     served = ((a, answers_answer s r.asked x.inner h.inner), h.served);
   }
 
-  at_data : (x : Slave Plant) (b : Bool) (y : Plant) → PlantFits y → SlaveFits x → SlaveFits (if b then record x { inner = y } else x)
+  at_data : (x : SlaveState Plant) (b : Bool) (y : Plant) → PlantFits y → SlaveFits x → SlaveFits (if b then record x { inner = y } else x)
   at_data x true y k h = record { inner = k; session = h.session; served = h.served }
   at_data x false y k h = h
 
-  at_turn : (x : Slave Plant) (b : Bool) (quiet : ℕ) (y : Plant) → PlantFits y → SlaveFits x → SlaveFits (if b then record x { quiet = quiet; inner = y } else x)
+  at_turn : (x : SlaveState Plant) (b : Bool) (quiet : ℕ) (y : Plant) → PlantFits y → SlaveFits x → SlaveFits (if b then record x { quiet = quiet; inner = y } else x)
   at_turn x true quiet y k h = record { inner = k; session = h.session; served = h.served }
   at_turn x false quiet y k h = h
 
-  at_heard : (x : Slave Plant) (from : Address) (bytes : List ℕ) (k : Heard) → heard bytes ≡ k → SlaveFits x → SlaveFits (after_heard (machine s) x from k)
+  at_heard : (x : SlaveState Plant) (from : Address) (bytes : List ℕ) (k : Heard) → heard bytes ≡ k → SlaveFits x → SlaveFits (after_heard (machine s) x from k)
   at_heard x from bytes (Asks r) e h = let f = asks_fit bytes r e in at_request x from r (fate (machine s) x from r) f.0 f.1 h
   at_heard x from bytes (Brings number id payload) e h = at_data x (is_open x.session) (brings s from number id payload x.inner) (brings_stay s from number id payload x.inner h.inner) h
   at_heard x from bytes Nothing e h = h
 
-  at_event : (x : Slave Plant) (e : Event) → SlaveFits x → SlaveFits (after (machine s) x e)
+  at_event : (x : SlaveState Plant) (e : Event) → SlaveFits x → SlaveFits (after (machine s) x e)
   at_event x (Gram from bytes) h = at_heard x from bytes (heard bytes) refl h
   at_event x Tick h = at_turn x (is_open x.session) (quieter x.quiet) (turns s (quieter x.quiet) x.inner).after (turns_stay s (quieter x.quiet) x.inner h.inner) h
 
-  at_all : (x : Slave Plant) (es : List Event) → SlaveFits x → SlaveFits (after_all (machine s) x es)
+  at_all : (x : SlaveState Plant) (es : List Event) → SlaveFits x → SlaveFits (after_all (machine s) x es)
   at_all x [] h = h
   at_all x (e ∷ es) h = at_all (after (machine s) x e) es (at_event x e h)
 
@@ -80,15 +80,15 @@ pub in_range : StaysInRange
 in_range s es = at_all s (fresh (machine s)) es (record { inner = begun s; session = tt; served = tt })
 
 -- ---- what it sends
-module _ (s : Setup) (w : Parties) (rd : ReadsMessages w) where
-  kept : (to : Address) (served : List Exchange) → ServedFits served → IsKept w to served
+module _ (s : SlaveSetup) (w : Parties) (rd : ReadsMessages w) where
+  kept : (to : Address) (served : List Exchange) → ServedFits served → AreAnswersKept w to served
   kept to [] h = tt
   kept to (e ∷ served) h = answer_is w rd to e.request (expected (e ∷ served)) e.answer (h.0).0 (omega arith) (h.0).1
 
   session_id : (session : Session) (master : Address) (id : ℕ) → session ≡ During master id → SessionHasId session → id < 256
   session_id session master id e h = let P : Session → Type 0 = SessionHasId in subst P e h
 
-  read_back : (x : Slave Plant) → SlaveFits x → IsReadBack (machine s) w x
+  read_back : (x : SlaveState Plant) → SlaveFits x → IsReadBack (machine s) w x
   read_back x h = record {
     answer = λ bytes r e to.
         let f = asks_fit bytes r e in
@@ -103,9 +103,9 @@ module _ (s : Setup) (w : Parties) (rd : ReadsMessages w) where
   agree bytes = let P : _ → Type 0 = λ o. Agree (role_read o) (heard bytes) in subst P (sym (rd bytes)) (readings_agree bytes)
 
   fits_at : (n : ℕ) (log : List LogEntry) → SlaveFits (at (machine s) w n log).slave
-  fits_at n log = let P : Slave Plant → Type 0 = SlaveFits in subst P (sym (slave_is (machine s) w n log)) (in_range s (events w n log))
+  fits_at n log = let P : SlaveState Plant → Type 0 = SlaveFits in subst P (sym (slave_is (machine s) w n log)) (in_range s (events_of_slave w n log))
 
-  back : (n : ℕ) → ReadBack (machine s) w n
+  back : (n : ℕ) → ReadsAnswersBack (machine s) w n
   back n = record { agree = agree; sends = λ log. read_back (at (machine s) w n log).slave (fits_at n log) }
 
 pub sends_back : SendsReadBack

@@ -3,7 +3,7 @@ use Rattle.std.proofs.Common.{◌≡◌, ℕ, zero, suc, ◌-◌, ◌*◌, ◌<�
 use Rattle.std.proofs.lemmas.List.{length-append, length-drop, length-take}
 use Rattle.dcp_types.specs.Values.{digits}
 use Rattle.slave_log.specs.declared.lines.LogLine.{LogLine}
-use Rattle.slave_log.specs.Shelves.{Shelf, Log, shelf, with_shelf, set_to, configured, newest, line, is_noted, counted, put, noted, to_send, fetched, left, entry_bytes, entries_bytes, notice_bytes}
+use Rattle.slave_log.specs.Shelves.{Shelf, Log, shelf, with_shelf, shelf_set_to, log_configured, newest, line, is_noted, shelf_counted, put, noted, to_send, fetched, left, entry_bytes, entries_bytes, notice_bytes}
 use Rattle.slave_sends.specs.Ranges.{AreBytes, LineFits, LinesFit, ShelfFits, LogFits}
 use Rattle.slave_sends.proofs.Bytes.{bytes_joined}
 
@@ -26,7 +26,7 @@ lines_before (suc n) (x ∷ xs) h = (h.0, lines_before n xs h.1)
 put_fits : (s : Shelf) (e : LogLine) → LineFits e → ShelfFits s → ShelfFits (put s e)
 put_fits s e f h = by (s.mode == 1)
   where
-    by : (b : Bool) → ShelfFits (if b then counted s else record (counted s) { kept = newest 64 (s.kept ++ e ∷ []) })
+    by : (b : Bool) → ShelfFits (if b then shelf_counted s else record (shelf_counted s) { kept = newest 64 (s.kept ++ e ∷ []) })
     by true = record { lines = h.lines; few = h.few }
     by false = record {
       lines = lines_after (length (s.kept ++ e ∷ []) - 64) (s.kept ++ e ∷ []) (lines_joined s.kept (e ∷ []) h.lines (f, tt));
@@ -59,15 +59,15 @@ noted_fits log category level code step a b c h = by (is_noted (shelf log catego
     by true = with_fits log category (put (shelf log category) e) (put_fits (shelf log category) e (record { category = a; level = b; code = c }) (shelf_fits log category h)) h
     by false = h
 
-set_fits : (level mode : ℕ) (s : Shelf) → ShelfFits s → ShelfFits (set_to level mode s)
+set_fits : (level mode : ℕ) (s : Shelf) → ShelfFits s → ShelfFits (shelf_set_to level mode s)
 set_fits level mode s h = record { lines = h.lines; few = h.few }
 
-pub configured_fits : (log : Log) (category level mode : ℕ) → LogFits log → LogFits (configured log category level mode)
+pub configured_fits : (log : Log) (category level mode : ℕ) → LogFits log → LogFits (log_configured log category level mode)
 configured_fits log category level mode h = by (category == 0)
   where
-    by : (b : Bool) → LogFits (if b then record { first = set_to level mode log.first; second = set_to level mode log.second; third = set_to level mode log.third } else with_shelf log category (set_to level mode (shelf log category)))
+    by : (b : Bool) → LogFits (if b then record { first = shelf_set_to level mode log.first; second = shelf_set_to level mode log.second; third = shelf_set_to level mode log.third } else with_shelf log category (shelf_set_to level mode (shelf log category)))
     by true = record { first = set_fits level mode log.first h.first; second = set_fits level mode log.second h.second; third = set_fits level mode log.third h.third }
-    by false = with_fits log category (set_to level mode (shelf log category)) (set_fits level mode (shelf log category) (shelf_fits log category h)) h
+    by false = with_fits log category (shelf_set_to level mode (shelf log category)) (set_fits level mode (shelf log category) (shelf_fits log category h)) h
 
 pub left_fits : (log : Log) (category most : ℕ) → LogFits log → LogFits (left log category most)
 left_fits log category most h =

@@ -18,7 +18,7 @@ use Rattle.log_spec.specs.Log.{Parties, role_heard}
 use Rattle.slave_log.specs.declared.lines.LogLine.{LogLine}
 use Rattle.slave_log.specs.Shelves.{notice_bytes}
 use Rattle.slave_wiring.specs.Payloads.{data_message}
-use Rattle.slave_spec.specs.declared.words.Request.{Request}
+use Rattle.slave_spec.specs.declared.words.SlaveRequest.{SlaveRequest}
 use Rattle.slave_spec.specs.Transport as transport
 use Rattle.slave_spec.specs.Transport.{answer_message, notice_message, Notice, Changed, Noted}
 use Rattle.slave_meets.specs.Desks.{answer_note, IsAnswer}
@@ -45,7 +45,7 @@ reads m ks k f le = (read_as_spelled m (spelling m)).1 (has_spelling m (m.code �
 rest_length : (xs : List ℕ) (few most : ℕ) → length xs ≤ most → few + length (xs ++ []) ≤ few + most
 rest_length xs few most le = omega (arith, length-append xs [])
 
-answer_reads : (r : Request) (next : ℕ) (a : transport.Answer) → RequestFits r → next < 65536 → AnswerFits a → message_in (spelling (answer_message r next a)) ≡ Some (answer_message r next a)
+answer_reads : (r : SlaveRequest) (next : ℕ) (a : transport.SlaveAnswer) → RequestFits r → next < 65536 → AnswerFits a → message_in (spelling (answer_message r next a)) ≡ Some (answer_message r next a)
 unfolding digits
 answer_reads r next transport.Ack f n g = reads (answer_message r next transport.Ack) (U16 ∷ U8 ∷ []) refl (f.number, (f.receiver, tt)) (omega arith)
 answer_reads r next (transport.Nack code) f n g = reads (answer_message r next (transport.Nack code)) (U16 ∷ U8 ∷ U16 ∷ U16 ∷ []) refl (f.number, (f.receiver, (n, (omega (arith, error_small code), tt)))) (omega arith)
@@ -68,7 +68,7 @@ data_reads number id payload a b c le = reads (data_message number id payload) (
 heard_as : (w : Parties) → ReadsMessages w → (m : Message) (k : Role) → message_in (spelling m) ≡ Some m → role_of m ≡ k → role_heard w (spelling m) ≡ k
 heard_as w rd m k e f = ap role_read (rd (spelling m) ∙ e) ∙ f
 
-answer_role : (r : Request) (next : ℕ) (a : transport.Answer) → role_of (answer_message r next a) ≡ Answer r.receiver (answer_note r next a)
+answer_role : (r : SlaveRequest) (next : ℕ) (a : transport.SlaveAnswer) → role_of (answer_message r next a) ≡ Answer r.receiver (answer_note r next a)
 answer_role r next transport.Ack = refl
 answer_role r next (transport.Nack code) = refl
 answer_role r next (transport.StateAck state) = refl
@@ -80,7 +80,7 @@ notice_role id (Changed state) = refl
 notice_role id (Noted e) = refl
 
 module _ (w : Parties) (rd : ReadsMessages w) where
-  pub answer_is : (to : _) (r : Request) (next : ℕ) (a : transport.Answer) → RequestFits r → next < 65536 → AnswerFits a → IsAnswer w to r next a
+  pub answer_is : (to : _) (r : SlaveRequest) (next : ℕ) (a : transport.SlaveAnswer) → RequestFits r → next < 65536 → AnswerFits a → IsAnswer w to r next a
   answer_is to r next a f n g = heard_as w rd (answer_message r next a) (Answer r.receiver (answer_note r next a)) (answer_reads r next a f n g) (answer_role r next a)
 
   pub notice_is : (id : ℕ) (n : Notice) → id < 256 → ((e : LogLine) → n ≡ Noted e → LineFits e) → role_heard w (spelling (notice_message id n)) ≡ Else

@@ -13,8 +13,8 @@ use Rattle.slave_desc.specs.declared.ports.Port.{Port}
 use Rattle.slave_desc.specs.declared.descriptions.SlaveDesc.{SlaveDesc}
 use Rattle.slave_wiring.specs.Changes.{Change, Set, Restart, Entry, output, entries, put_ascending, ascending, ids, target, ordinal, is_due}
 use Rattle.slave_wiring.specs.Refusals as wiring
-use Rattle.slave_wiring.specs.Refusals.{port_with, output_refusal, unless, is_full}
-use Rattle.slave_wiring.specs.Payloads.{kind_of, output_value, bytes_for, payload, data_message}
+use Rattle.slave_wiring.specs.Refusals.{port_with, output_refusal, refused_unless, is_full}
+use Rattle.slave_wiring.specs.Payloads.{port_type, output_value, bytes_for, payload, data_message}
 use Rattle.slave_spec.specs.Turns.{parcel, data_parcels}
 use Rattle.slave_meets.specs.Desks.{AreData}
 use Rattle.slave_sends.specs.Ranges.{AreBytes, SettingFits, SettingsFit, PayloadsFit}
@@ -30,8 +30,8 @@ no_refusal false true (Some port) h = refl
 no_refusal false false (Some port) h = absurd cc
 
 -- an entry comes behind those that are there, of which there are seven at most
-output_taken : (d : SlaveDesc) (changes : List Change) (id position vr : ℕ) → wiring.refusal d changes (cfg.Output id position vr) ≡ None → (position ≡ length (entries output id changes)) × (position < 8)
-unfolding wiring.refusal
+output_taken : (d : SlaveDesc) (changes : List Change) (id position vr : ℕ) → wiring.refusal_of_setting d changes (cfg.Output id position vr) ≡ None → (position ≡ length (entries output id changes)) × (position < 8)
+unfolding wiring.refusal_of_setting
 output_taken d changes id position vr h =
     let c = no_refusal (is_full id changes) ((position == length (entries output id changes)) && nat_lt position 8) (port_with vr d.outputs) h in
     let a = and_parts (position == length (entries output id changes)) (nat_lt position 8) c in
@@ -44,7 +44,7 @@ output_more changes id position vr e lt h i = by (id == i) refl
     by true k = let same : id ≡ i = eqb-true id i k in let n : length (entries output id changes) ≡ length (entries output i changes) = ap (λ j. length (entries output j changes)) same in omega (arith, n, e, lt)
     by false k = h i
 
-pub set_payloads : (d : SlaveDesc) (changes : List Change) (body : Cfg) → wiring.refusal d changes body ≡ None → PayloadsFit changes → PayloadsFit (Set body ∷ changes)
+pub set_payloads : (d : SlaveDesc) (changes : List Change) (body : Cfg) → wiring.refusal_of_setting d changes body ≡ None → PayloadsFit changes → PayloadsFit (Set body ∷ changes)
 set_payloads d changes (cfg.Output id position vr) r h = let o = output_taken d changes id position vr r in output_more changes id position vr o.0 o.1 h
 set_payloads d changes (cfg.Parameter vr kind value) r h = h
 set_payloads d changes (cfg.Logging category level mode) r h = h
@@ -109,7 +109,7 @@ payload_are d id changes vs = parts_are (bytes_for d.outputs vs) (reverse (entri
 
 payload_length : (d : SlaveDesc) (id : ℕ) (changes : List Change) (vs : List ℤ) → PayloadsFit changes → length (payload d id changes vs) ≤ 64
 payload_length d id changes vs h =
-    let all = parts_length (bytes_for d.outputs vs) 8 (reverse (entries output id changes)) (λ vr. value_length (kind_of (port_with vr d.outputs)) (output_value vr d.outputs vs)) in
+    let all = parts_length (bytes_for d.outputs vs) 8 (reverse (entries output id changes)) (λ vr. value_length (port_type (port_with vr d.outputs)) (output_value vr d.outputs vs)) in
     omega (arith, all, length-reverse (entries output id changes), h id)
 
 -- ---- the data messages of a turn are data

@@ -6,10 +6,10 @@ use Rattle.slave_log.specs.Shelves.{Shelf, Log}
 use Rattle.slave_wiring.specs.Changes.{Change, Set, output, entries}
 use Rattle.slave_spec.specs.declared.words.Asked.{Asked}
 use Rattle.slave_spec.specs.declared.words.Asked.TheVariants.{Setting}
-use Rattle.slave_spec.specs.declared.words.Request.{Request}
+use Rattle.slave_spec.specs.declared.words.SlaveRequest.{SlaveRequest}
 use Rattle.slave_spec.specs.declared.words.Session.{Session}
 use Rattle.slave_spec.specs.declared.words.Session.TheVariants.{Before, During, After}
-use Rattle.slave_spec.specs.Transport.{Answer, ErrorAck, LogAck, Exchange, Slave}
+use Rattle.slave_spec.specs.Transport.{SlaveAnswer, ErrorAck, LogAck, Exchange, SlaveState}
 use Rattle.slave_spec.specs.Plants.{Plant}
 
 abbrev pub AreBytes : List ℕ → Type 0
@@ -17,7 +17,7 @@ AreBytes [] = Unit {0}
 AreBytes (b ∷ bytes) = (b < 256) × AreBytes bytes
 
 -- a request is numbered by sixteen bits, and its receiver by eight
-pub record RequestFits (r : Request) : Type 0 where
+pub record RequestFits (r : SlaveRequest) : Type 0 where
   pub number : r.number < 65536
   pub receiver : r.receiver < 256
 
@@ -31,7 +31,7 @@ AskedFits (Setting body) = SettingFits (Set body)
 AskedFits asked = Unit {0}
 
 -- 64 entries of 11 bytes are the most that an answer tells
-abbrev pub AnswerFits : Answer → Type 0
+abbrev pub AnswerFits : SlaveAnswer → Type 0
 AnswerFits (ErrorAck code) = code < 65536
 AnswerFits (LogAck bytes) = AreBytes bytes × (length bytes ≤ 704)
 AnswerFits answer = Unit {0}
@@ -76,7 +76,7 @@ abbrev pub ServedFits : List Exchange → Type 0
 ServedFits [] = Unit {0}
 ServedFits (e ∷ served) = (RequestFits e.request × AnswerFits e.answer) × ServedFits served
 
-pub record SlaveFits (x : Slave Plant) : Type 0 where
+pub record SlaveFits (x : SlaveState Plant) : Type 0 where
   pub inner : PlantFits x.inner
   pub session : SessionHasId x.session
   pub served : ServedFits x.served

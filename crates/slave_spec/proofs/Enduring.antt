@@ -5,8 +5,8 @@ use Rattle.dcp_types.specs.declared.addresses.Address.{Address}
 use Rattle.dcp_types.specs.declared.error_codes.ErrorCode.{ErrorCode}
 use Rattle.dcp_ends.specs.Events.{Event, Gram, Tick}
 use Rattle.seq_window.specs.declared.places.Place.{Place}
-use Rattle.slave_spec.specs.Heard.{Asked, Request, Heard, Asks, Brings, Nothing, heard}
-use Rattle.slave_spec.specs.Transport.{Machine, Slave, Session, Before, During, After, Fate, Dropped, Refused, Repeated, Taken, Exchange, Answered, is_register, admitted, is_last, session_after, fate_in, fate, is_open, quieter, taken_with, after_request, after_heard, after_turn, after, after_all, fresh, slave}
+use Rattle.slave_spec.specs.Heard.{Asked, SlaveRequest, Heard, Asks, Brings, Nothing, heard}
+use Rattle.slave_spec.specs.Transport.{Machine, SlaveState, Session, Before, During, After, Fate, Dropped, Refused, Repeated, Taken, Exchange, Answered, is_register, admitted, is_last, session_after, fate_in, fate, is_open, quieter, taken_with, after_request, after_heard, after_turn, after, after_all, fresh, slave}
 
 pub record Endures {S : Type 0} (m : Machine S) (P : S → Type 0) : Type 0 where
   pub first : (asked : Asked) → is_register asked ≡ true → m.refuses asked ≡ None → P (m.answers asked m.start).after
@@ -25,7 +25,7 @@ module _ {S : Type 0} (m : Machine S) (P : S → Type 0) (k : Endures m P) where
   lasts_or_ends master id x true f = tt
   lasts_or_ends master id x false f = f refl
 
-  begins : (r : Request) (o : Option ErrorCode) → admitted o ≡ Taken → o ≡ None
+  begins : (r : SlaveRequest) (o : Option ErrorCode) → admitted o ≡ Taken → o ≡ None
   begins r None e = refl
   begins r (Some code) e = absurd cc
 
@@ -33,7 +33,7 @@ module _ {S : Type 0} (m : Machine S) (P : S → Type 0) (k : Endures m P) where
   chosen true f e = (refl, e)
   chosen false f e = absurd cc
 
-  at_taken : (session : Session) (served : List Exchange) (x : S) (from : Address) (r : Request) → Through m P session x → fate_in m session served from r ≡ Taken
+  at_taken : (session : Session) (served : List Exchange) (x : S) (from : Address) (r : SlaveRequest) → Through m P session x → fate_in m session served from r ≡ Taken
       → Through m P (session_after session from r (m.answers r.asked x).answer) (m.answers r.asked x).after
   at_taken Before served x from r h e =
       let c = chosen (is_register r.asked && (r.number == 0)) (admitted (m.refuses r.asked)) e in
@@ -43,10 +43,10 @@ module _ {S : Type 0} (m : Machine S) (P : S → Type 0) (k : Endures m P) where
       lasts_or_ends master id (m.answers r.asked x).after (is_last r.asked (m.answers r.asked x).answer) (λ f. k.answers r.asked x h f)
   at_taken (After master id) served x from r h e = tt
 
-  abbrev Stays : Slave S → Type 0
+  abbrev Stays : SlaveState S → Type 0
   Stays x = Through m P x.session x.inner
 
-  at_request : (x : Slave S) (from : Address) (r : Request) (f : Fate) → fate m x from r ≡ f → Stays x → Stays (after_request m x from r f)
+  at_request : (x : SlaveState S) (from : Address) (r : SlaveRequest) (f : Fate) → fate m x from r ≡ f → Stays x → Stays (after_request m x from r f)
   at_request x from r Dropped e h = h
   at_request x from r (Refused code) e h = h
   at_request x from r Repeated e h = h
@@ -57,24 +57,24 @@ module _ {S : Type 0} (m : Machine S) (P : S → Type 0) (k : Endures m P) where
   opened (During master id) x y e f h = f h
   opened (After master id) x y e f h = absurd cc
 
-  at_data : (x : Slave S) (b : Bool) (y : S) → is_open x.session ≡ b → (P x.inner → P y) → Stays x → Stays (if b then record x { inner = y } else x)
+  at_data : (x : SlaveState S) (b : Bool) (y : S) → is_open x.session ≡ b → (P x.inner → P y) → Stays x → Stays (if b then record x { inner = y } else x)
   at_data x true y e f h = opened x.session x.inner y e f h
   at_data x false y e f h = h
 
-  at_heard : (x : Slave S) (from : Address) (h : Heard) → Stays x → Stays (after_heard m x from h)
+  at_heard : (x : SlaveState S) (from : Address) (h : Heard) → Stays x → Stays (after_heard m x from h)
   at_heard x from (Asks r) h = at_request x from r (fate m x from r) refl h
   at_heard x from (Brings number id payload) h = at_data x (is_open x.session) (m.brings from number id payload x.inner) refl (λ p. k.brings from number id payload x.inner p) h
   at_heard x from Nothing h = h
 
-  at_turn : (x : Slave S) (b : Bool) (quiet : ℕ) (y : S) → is_open x.session ≡ b → (P x.inner → P y) → Stays x → Stays (if b then record x { quiet = quiet; inner = y } else x)
+  at_turn : (x : SlaveState S) (b : Bool) (quiet : ℕ) (y : S) → is_open x.session ≡ b → (P x.inner → P y) → Stays x → Stays (if b then record x { quiet = quiet; inner = y } else x)
   at_turn x true quiet y e f h = opened x.session x.inner y e f h
   at_turn x false quiet y e f h = h
 
-  at_event : (x : Slave S) (e : Event) → Stays x → Stays (after m x e)
+  at_event : (x : SlaveState S) (e : Event) → Stays x → Stays (after m x e)
   at_event x (Gram from bytes) h = at_heard x from (heard bytes) h
   at_event x Tick h = at_turn x (is_open x.session) (quieter x.quiet) (m.turns (quieter x.quiet) x.inner).after refl (λ p. k.turns (quieter x.quiet) x.inner p) h
 
-  at_all : (x : Slave S) (events : List Event) → Stays x → Stays (after_all m x events)
+  at_all : (x : SlaveState S) (events : List Event) → Stays x → Stays (after_all m x events)
   at_all x [] h = h
   at_all x (e ∷ events) h = at_all (after m x e) events (at_event x e h)
 

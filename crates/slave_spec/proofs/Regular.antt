@@ -18,15 +18,15 @@ use Rattle.pdu_layout.specs.declared.messages.Inf.TheVariants as inf
 use Rattle.fixed_models.specs.Steps.{all_fit, outputs, and_then, micro_steps}
 use Rattle.fixed_models.specs.Views.{View, moved}
 use Rattle.slave_states.specs.Transitions as states
-use Rattle.slave_states.specs.Transitions.{row, next_on, next_on_turn, is_barred, is_same, or_wrong}
-use Rattle.slave_wiring.specs.Payloads.{Wires, inputs, brought}
+use Rattle.slave_states.specs.Transitions.{transition_row, next_on, next_on_turn, is_barred, is_same, or_wrong}
+use Rattle.slave_wiring.specs.Payloads.{WiringState, wired_values, brought}
 use Rattle.slave_spec.specs.Heard.{Asked, Change, Setting, Question}
 use Rattle.slave_spec.specs.Transport.{Session, Before, During, After, Ack, is_register, is_last}
-use Rattle.slave_spec.specs.Plants.{Setup, Plant, start}
-use Rattle.slave_spec.specs.Requests.{first_true, register_refusal, refusal, moved_refusal, setting_refusal, body_refusal, is_error, is_left_out, accepted, answer, changed_to, set_to, asked_of, state_or, answered, answers}
+use Rattle.slave_spec.specs.Plants.{SlaveSetup, Plant, start_plant}
+use Rattle.slave_spec.specs.Requests.{first_true, register_refusal, refusal, moved_refusal, setting_refusal, body_refusal, is_in_error, is_left_out, accepted, answer, changed_to, set_to, asked_of, state_or, answered_plant, answers}
 use Rattle.slave_spec.specs.Turns.{Act, Stay, Wait, Fault, Step, Pass, act, step_act, computing, state_act, is_missed, sent_after, turned, turns, values, brings, is_listening}
 use Rattle.slave_spec.specs.Slaves.{machine, slave_after}
-use Rattle.slave_spec.specs.Begun.{is_begun, is_early, IsRegular, IsRegularIn}
+use Rattle.slave_spec.specs.Begun.{is_model_begun, is_early, IsRegular, IsRegularIn}
 use Rattle.slave_spec.proofs.Enduring.{Endures, Through, enduring}
 
 never : {A : Type 0} → false ≡ true → A
@@ -40,7 +40,7 @@ clash b e f = never (sym e ∙ f)
 -- where a request leads that neither begins nor ends a session or a run
 abbrev Moves : State → Bool → Option State → Type 0
 Moves s sent None = Unit {0}
-Moves s sent (Some t) = (is_begun t sent ≡ true → is_begun s sent ≡ true) × (is_early t ≡ true → is_early s ≡ true) × (is_same t Alive ≡ false)
+Moves s sent (Some t) = (is_model_begun t sent ≡ true → is_model_begun s sent ≡ true) × (is_early t ≡ true → is_early s ≡ true) × (is_same t Alive ≡ false)
 
 from_registered : (s : State) (sent : Bool) → is_same s Alive ≡ false → Moves s sent (states.registered s)
 from_registered Alive sent e = absurd cc
@@ -81,7 +81,7 @@ from_stopped _ sent = tt
 -- where a reset leads
 abbrev Resets : Option State → Type 0
 Resets None = Unit {0}
-Resets (Some t) = (is_begun t false ≡ false) × (is_same t Alive ≡ false)
+Resets (Some t) = (is_model_begun t false ≡ false) × (is_same t Alive ≡ false)
 
 from_reset : (s : State) → Resets (states.reset s)
 from_reset Stopped = (refl, refl)
@@ -92,7 +92,7 @@ Leads stc.Deregister s sent o = Unit {0}
 Leads stc.Reset s sent o = Resets o
 Leads request s sent o = Moves s sent o
 
-leads : (request : Stc) (s : State) (sent : Bool) → is_same s Alive ≡ false → Leads request s sent (row request s sent)
+leads : (request : Stc) (s : State) (sent : Bool) → is_same s Alive ≡ false → Leads request s sent (transition_row request s sent)
 leads (stc.Register uuid op_mode major minor) s sent e = from_registered s sent e
 leads stc.Deregister s sent e = tt
 leads stc.Prepare s sent e = from_prepared s sent
@@ -117,9 +117,9 @@ at_result Q x y false true (Some t) q = q
 reached_on : (request : Stc) (s named : State) (sent : Bool) → is_same s Alive ≡ false → AtResult (Leads request s sent) (next_on s request named sent)
 unfolding next_on
 reached_on request s named sent e =
-    at_result (Leads request s sent) InErrorState WrongState (is_barred s request) (is_same named s) (row request s sent) (leads request s sent e)
+    at_result (Leads request s sent) InErrorState WrongState (is_barred s request) (is_same named s) (transition_row request s sent) (leads request s sent e)
 
-moved_on : (s : Setup) (p : Plant) (named : State) (request : Stc) (t : State) → IsRegular p → Leads request p.state p.outputs_sent (Some t) → is_last (Change named request) Ack ≡ false
+moved_on : (s : SlaveSetup) (p : Plant) (named : State) (request : Stc) (t : State) → IsRegular p → Leads request p.state p.outputs_sent (Some t) → is_last (Change named request) Ack ≡ false
     → IsRegular (changed_to s p request t)
 moved_on s p named stc.Deregister t h l e = absurd cc
 moved_on s p named stc.Reset t h l e = record { fit = λ f. clash _ l.0 f; unsent = λ f. refl; registered = l.1 }
@@ -132,14 +132,14 @@ moved_on s p named (stc.Run start_time) t h l e = record { fit = λ f. h.fit (l.
 moved_on s p named stc.SendOutputs t h l e = record { fit = λ f. h.fit (l.0 f); unsent = λ f. h.unsent (l.1 f); registered = l.2 }
 moved_on s p named stc.Stop t h l e = record { fit = λ f. h.fit (l.0 f); unsent = λ f. h.unsent (l.1 f); registered = l.2 }
 
-moved_by : (s : Setup) (p : Plant) (named : State) (request : Stc) (r : Result State ErrorCode) → IsRegular p → AtResult (Leads request p.state p.outputs_sent) r
+moved_by : (s : SlaveSetup) (p : Plant) (named : State) (request : Stc) (r : Result State ErrorCode) → IsRegular p → AtResult (Leads request p.state p.outputs_sent) r
     → moved_refusal p request r ≡ None → is_last (Change named request) Ack ≡ false → IsRegular (changed_to s p request (state_or p.state r))
 moved_by s p named request (Err code) h l n e = absurd cc
 moved_by s p named request (Ok t) h l n e = moved_on s p named request t h l e
 
 -- ---- settings and questions
 
-elsewhere : (t : State) (sent : Bool) → is_begun t sent ≡ true → is_same t Configuration ≡ false
+elsewhere : (t : State) (sent : Bool) → is_model_begun t sent ≡ true → is_same t Configuration ≡ false
 elsewhere Configuration sent f = never f
 elsewhere _ sent f = refl
 
@@ -152,12 +152,12 @@ unset false false false r f n = absurd cc
 
 same_fields : (p q : Plant) → IsRegular p → q.state ≡ p.state → q.outputs_sent ≡ p.outputs_sent → q.model ≡ p.model → IsRegular q
 same_fields p q h a b c = record {
-  fit = λ f. subst (λ (m : View). all_fit m.types (values m) ≡ true) (sym c) (h.fit (ap (λ (t : State). is_begun t p.outputs_sent) (sym a) ∙ ap (λ (x : Bool). is_begun q.state x) (sym b) ∙ f));
+  fit = λ f. subst (λ (m : View). all_fit m.types (values m) ≡ true) (sym c) (h.fit (ap (λ (t : State). is_model_begun t p.outputs_sent) (sym a) ∙ ap (λ (x : Bool). is_model_begun q.state x) (sym b) ∙ f));
   unsent = λ f. b ∙ h.unsent (ap is_early (sym a) ∙ f);
   registered = ap (λ (t : State). is_same t Alive) a ∙ h.registered;
 }
 
-set_on : (s : Setup) (p : Plant) (body : Cfg) → IsRegular p → setting_refusal s p body ≡ None → IsRegular (set_to s p body)
+set_on : (s : SlaveSetup) (p : Plant) (body : Cfg) → IsRegular p → setting_refusal s p body ≡ None → IsRegular (set_to s p body)
 set_on s p (cfg.TimeRes a b) h e = same_fields p _ h refl refl refl
 set_on s p (cfg.Steps a b) h e = same_fields p _ h refl refl refl
 set_on s p (cfg.Input a b c kind) h e = same_fields p _ h refl refl refl
@@ -169,12 +169,12 @@ set_on s p (cfg.ParamNet a b c d) h e = same_fields p _ h refl refl refl
 set_on s p (cfg.Logging a b c) h e = same_fields p _ h refl refl refl
 set_on s p (cfg.Scope a b) h e = same_fields p _ h refl refl refl
 set_on s p cfg.Clear h e = record {
-  fit = λ f. unset (is_error p.state) (is_left_out cfg.Clear) (is_same p.state Configuration) (body_refusal s p cfg.Clear) (elsewhere p.state p.outputs_sent f) e;
+  fit = λ f. unset (is_in_error p.state) (is_left_out cfg.Clear) (is_same p.state Configuration) (body_refusal s p cfg.Clear) (elsewhere p.state p.outputs_sent f) e;
   unsent = h.unsent;
   registered = h.registered;
 }
 set_on s p (cfg.Parameter vr kind value) h e = record {
-  fit = λ f. unset (is_error p.state) (is_left_out (cfg.Parameter vr kind value)) (is_same p.state Configuration) (body_refusal s p (cfg.Parameter vr kind value)) (elsewhere p.state p.outputs_sent f) e;
+  fit = λ f. unset (is_in_error p.state) (is_left_out (cfg.Parameter vr kind value)) (is_same p.state Configuration) (body_refusal s p (cfg.Parameter vr kind value)) (elsewhere p.state p.outputs_sent f) e;
   unsent = h.unsent;
   registered = h.registered;
 }
@@ -186,15 +186,15 @@ asked_on p (inf.Log category most) h = same_fields p _ h refl refl refl
 
 -- ---- a request that was taken
 
-accepted_on : (s : Setup) (asked : Asked) (p : Plant) → IsRegular p → refusal s p asked ≡ None → is_last asked (answer p asked) ≡ false → IsRegular (accepted s p asked)
+accepted_on : (s : SlaveSetup) (asked : Asked) (p : Plant) → IsRegular p → refusal s p asked ≡ None → is_last asked (answer p asked) ≡ false → IsRegular (accepted s p asked)
 unfolding refusal accepted answer
 accepted_on s (Change named request) p h n e =
     moved_by s p named request (next_on p.state request named p.outputs_sent) h (reached_on request p.state named p.outputs_sent h.registered) n e
 accepted_on s (Setting body) p h n e = set_on s p body h n
 accepted_on s (Question q) p h n e = asked_on p q h
 
-answered_by : (s : Setup) (asked : Asked) (p : Plant) (r : Option ErrorCode) → refusal s p asked ≡ r → IsRegular p → is_last asked (answered s p asked r).answer ≡ false
-    → IsRegular (answered s p asked r).after
+answered_by : (s : SlaveSetup) (asked : Asked) (p : Plant) (r : Option ErrorCode) → refusal s p asked ≡ r → IsRegular p → is_last asked (answered_plant s p asked r).answer ≡ false
+    → IsRegular (answered_plant s p asked r).after
 answered_by s asked p (Some code) n h e = same_fields p _ h refl refl refl
 answered_by s asked p None n h e = same_fields (accepted s p asked) _ (accepted_on s asked p h n e) refl refl refl
 
@@ -209,22 +209,22 @@ first_holds : (b : Bool) (more : List (Bool × ErrorCode)) → first_true ((not 
 first_holds true more e = refl
 first_holds false more e = absurd cc
 
-first_by : (s : Setup) (asked : Asked) (r : Option ErrorCode) → r ≡ None → IsRegular (accepted s (start s) asked) → IsRegular (answered s (start s) asked r).after
-first_by s asked None e k = same_fields (accepted s (start s) asked) _ k refl refl refl
+first_by : (s : SlaveSetup) (asked : Asked) (r : Option ErrorCode) → r ≡ None → IsRegular (accepted s (start_plant s) asked) → IsRegular (answered_plant s (start_plant s) asked r).after
+first_by s asked None e k = same_fields (accepted s (start_plant s) asked) _ k refl refl refl
 first_by s asked (Some code) e k = absurd cc
 
-none_refused : (s : Setup) (uuid op_mode major minor : ℕ) (named : State) → is_same named Alive ≡ true → refusal s (start s) (Change named (stc.Register uuid op_mode major minor)) ≡ None
+none_refused : (s : SlaveSetup) (uuid op_mode major minor : ℕ) (named : State) → is_same named Alive ≡ true → refusal s (start_plant s) (Change named (stc.Register uuid op_mode major minor)) ≡ None
 unfolding refusal
 none_refused s uuid op_mode major minor named e =
-    ap (λ (r : Result State ErrorCode). moved_refusal (start s) (stc.Register uuid op_mode major minor) r) (named_alive uuid op_mode major minor named e)
+    ap (λ (r : Result State ErrorCode). moved_refusal (start_plant s) (stc.Register uuid op_mode major minor) r) (named_alive uuid op_mode major minor named e)
 
-register_accepted : (s : Setup) (uuid op_mode major minor : ℕ) (named : State) → is_same named Alive ≡ true → IsRegular (accepted s (start s) (Change named (stc.Register uuid op_mode major minor)))
+register_accepted : (s : SlaveSetup) (uuid op_mode major minor : ℕ) (named : State) → is_same named Alive ≡ true → IsRegular (accepted s (start_plant s) (Change named (stc.Register uuid op_mode major minor)))
 unfolding accepted
 register_accepted s uuid op_mode major minor named e =
-    subst (λ (r : Result State ErrorCode). IsRegular (changed_to s (start s) (stc.Register uuid op_mode major minor) (state_or Alive r)))
+    subst (λ (r : Result State ErrorCode). IsRegular (changed_to s (start_plant s) (stc.Register uuid op_mode major minor) (state_or Alive r)))
     (sym (named_alive uuid op_mode major minor named e)) (record { fit = λ f. never f; unsent = λ f. refl; registered = refl })
 
-first_on : (s : Setup) (asked : Asked) → is_register asked ≡ true → register_refusal s.desc.uuid asked ≡ None → IsRegular (answers s asked (start s)).after
+first_on : (s : SlaveSetup) (asked : Asked) → is_register asked ≡ true → register_refusal s.desc.uuid asked ≡ None → IsRegular (answers s asked (start_plant s)).after
 first_on s (Change named (stc.Register uuid op_mode major minor)) e n =
     let alive = first_holds (is_same named Alive)
     ((not (uuid == s.desc.uuid), UuidMismatch) ∷ (not ((major == 1) && (minor == 0)), Version) ∷ (not (op_mode == 2), OpMode) ∷ []) n in
@@ -238,7 +238,7 @@ first_on s (Question q) e n = never e
 abbrev Acted : Plant → State → Bool → Act → Type 0
 Acted p t sent (Step state) = all_fit p.model.types (values (moved p.model state)) ≡ true
 Acted p t sent Pass =
-    (is_begun (next_on_turn t 0) (sent_after t sent) ≡ true → all_fit p.model.types (values p.model) ≡ true)
+    (is_model_begun (next_on_turn t 0) (sent_after t sent) ≡ true → all_fit p.model.types (values p.model) ≡ true)
     × (is_early (next_on_turn t 0) ≡ true → sent_after t sent ≡ false)
     × (is_same (next_on_turn t 0) Alive ≡ false)
 Acted p t sent Stay = Unit {0}
@@ -254,16 +254,16 @@ stepped_by : (p : Plant) (t : State) (sent : Bool) (r : Result (List ℤ) FaultC
 stepped_by p t sent (Err code) = tt
 stepped_by p t sent (Ok x) = stepped_within p t sent x (all_fit p.model.types (outputs p.model.kind p.model.parameters x)) refl
 
-computed_by : (s : Setup) (p : Plant) (t : State) (sent : Bool) (left : ℕ) → Acted p t sent (computing s p left)
+computed_by : (s : SlaveSetup) (p : Plant) (t : State) (sent : Bool) (left : ℕ) → Acted p t sent (computing s p left)
 computed_by s p t sent (suc left) = tt
-computed_by s p t sent zero = stepped_by p t sent (micro_steps s.micro p.model.kind p.model.parameters p.model.state (inputs s.desc p.wires))
+computed_by s p t sent zero = stepped_by p t sent (micro_steps s.micro p.model.kind p.model.parameters p.model.state (wired_values s.desc p.wires))
 
 initialized_by : (p : Plant) (sent b : Bool) → all_fit p.model.types (values p.model) ≡ b → Acted p Initializing sent (if b then Pass else Fault OutOfRange)
 unfolding next_on_turn
 initialized_by p sent true e = (λ f. e, λ f. never f, refl)
 initialized_by p sent false e = tt
 
-state_acted : (s : Setup) (p : Plant) (t : State) (sent : Bool) → (is_begun t sent ≡ true → all_fit p.model.types (values p.model) ≡ true) → (is_early t ≡ true → sent ≡ false)
+state_acted : (s : SlaveSetup) (p : Plant) (t : State) (sent : Bool) → (is_model_begun t sent ≡ true → all_fit p.model.types (values p.model) ≡ true) → (is_early t ≡ true → sent ≡ false)
     → Acted p t sent (state_act s p t)
 unfolding next_on_turn
 state_acted s p Initializing sent fit early = initialized_by p sent (all_fit p.model.types (values p.model)) refl
@@ -281,22 +281,22 @@ missed_or : (p : Plant) (t : State) (sent b : Bool) (code : FaultCode) (a : Act)
 missed_or p t sent true code a h = tt
 missed_or p t sent false code a h = h
 
-acted : (s : Setup) (quiet : ℕ) (p : Plant) → IsRegular p → Acted p p.state p.outputs_sent (act s quiet p)
+acted : (s : SlaveSetup) (quiet : ℕ) (p : Plant) → IsRegular p → Acted p p.state p.outputs_sent (act s quiet p)
 unfolding act
 acted s quiet p h = missed_or p p.state p.outputs_sent (is_missed s.desc p.state quiet) _ (state_act s p p.state) (state_acted s p p.state p.outputs_sent h.fit h.unsent)
 
-turned_by : (s : Setup) (p : Plant) (a : Act) → Acted p p.state p.outputs_sent a → IsRegular p → IsRegular (turned s p a).after
+turned_by : (s : SlaveSetup) (p : Plant) (a : Act) → Acted p p.state p.outputs_sent a → IsRegular p → IsRegular (turned s p a).after
 turned_by s p Stay k h = h
 turned_by s p (Wait left) k h = same_fields p _ h refl refl refl
 turned_by s p (Fault code) k h = record { fit = λ f. never f; unsent = λ f. never f; registered = refl }
 turned_by s p (Step state) k h = record { fit = λ f. k; unsent = λ f. never f; registered = refl }
 turned_by s p Pass k h = record { fit = k.0; unsent = k.1; registered = k.2 }
 
-heeded : (p : Plant) (b : Bool) (w : Wires) → IsRegular p → IsRegular (if b then record p { wires = w } else p)
+heeded : (p : Plant) (b : Bool) (w : WiringState) → IsRegular p → IsRegular (if b then record p { wires = w } else p)
 heeded p true w h = same_fields p _ h refl refl refl
 heeded p false w h = h
 
-regular_endures : (s : Setup) → Endures (machine s) IsRegular
+regular_endures : (s : SlaveSetup) → Endures (machine s) IsRegular
 regular_endures s = record {
   first = first_on s;
   answers = λ asked p h e. answered_by s asked p (refusal s p asked) refl h e;
@@ -304,10 +304,10 @@ regular_endures s = record {
   brings = λ from number id payload p h. heeded p (is_listening p.state) (brought s.desc p.wires from number id payload p.steps) h;
 }
 
-through_is : (s : Setup) (session : Session) (p : Plant) → Through (machine s) IsRegular session p → IsRegularIn s session p
+through_is : (s : SlaveSetup) (session : Session) (p : Plant) → Through (machine s) IsRegular session p → IsRegularIn s session p
 through_is s Before p h = h
 through_is s (During master id) p h = h
 through_is s (After master id) p h = tt
 
-pub regular_after : (s : Setup) (events : List Event) → IsRegularIn s (slave_after s events).session (slave_after s events).inner
+pub regular_after : (s : SlaveSetup) (events : List Event) → IsRegularIn s (slave_after s events).session (slave_after s events).inner
 regular_after s events = through_is s (slave_after s events).session (slave_after s events).inner (enduring (machine s) IsRegular (regular_endures s) events)

@@ -21,14 +21,14 @@ use Rattle.fixed_models.specs.declared.kinds.Kind.{Kind}
 use Rattle.fixed_models.specs.Steps.{all_fit, outputs, and_then, micro_steps}
 use Rattle.fixed_models.specs.Views.{View, moved, step_of}
 use Rattle.slave_states.specs.Transitions as states
-use Rattle.slave_states.specs.Transitions.{row, next_on, next_on_turn, is_passing, is_barred, is_same, or_wrong}
-use Rattle.slave_wiring.specs.Payloads.{Wires, inputs, brought, ready}
+use Rattle.slave_states.specs.Transitions.{transition_row, next_on, next_on_turn, is_passing, is_barred, is_same, or_wrong}
+use Rattle.slave_wiring.specs.Payloads.{WiringState, wired_values, brought, ready}
 use Rattle.slave_spec.specs.Heard.{Asked, Change, Setting, Question}
-use Rattle.slave_spec.specs.Plants.{Setup, Plant}
-use Rattle.slave_spec.specs.Requests.{first_true, refusal, moved_refusal, change_refusal, setting_refusal, body_refusal, is_error, is_left_out, accepted, changed_to, set_to, asked_of, state_or, answered, answers}
+use Rattle.slave_spec.specs.Plants.{SlaveSetup, Plant}
+use Rattle.slave_spec.specs.Requests.{first_true, refusal, moved_refusal, change_refusal, setting_refusal, body_refusal, is_in_error, is_left_out, accepted, changed_to, set_to, asked_of, state_or, answered_plant, answers}
 use Rattle.slave_spec.specs.Turns.{Act, Stay, Wait, Fault, Step, Pass, act, step_act, computing, state_act, is_missed, turned, turns, values, brings, is_listening, counted}
 use Rattle.slave_spec.specs.Slaves.{machine, slave_after}
-use Rattle.slave_spec.specs.Sound.{IsSound, has_outputs}
+use Rattle.slave_spec.specs.Sound.{IsSoundPlant, has_outputs}
 use Rattle.slave_spec.proofs.Lasting.{Keeps, lasting}
 
 never : {A : Type 0} → false ≡ true → A
@@ -87,7 +87,7 @@ from_reset : (s : State) → Leads s (states.reset s)
 from_reset Stopped = λ e. never e
 from_reset _ = tt
 
-leads : (request : Stc) (s : State) (b : Bool) → Leads s (row request s b)
+leads : (request : Stc) (s : State) (b : Bool) → Leads s (transition_row request s b)
 leads (stc.Register uuid op_mode major minor) s b = from_registered s
 leads stc.Deregister s b = from_deregistered s
 leads stc.Prepare s b = from_prepared s
@@ -158,7 +158,7 @@ Idle (stc.DoStep steps) o = Unit {0}
 Idle stc.Reset o = Bare o
 Idle request o = NotComputing o
 
-idle : (request : Stc) (s : State) (b : Bool) → Idle request (row request s b)
+idle : (request : Stc) (s : State) (b : Bool) → Idle request (transition_row request s b)
 idle (stc.Register uuid op_mode major minor) s b = idle_registered s
 idle stc.Deregister s b = idle_deregistered s
 idle stc.Prepare s b = idle_prepared s
@@ -185,7 +185,7 @@ reached_by request s x y false true (Some t) l i = (l, i)
 reached_on : (request : Stc) (s named : State) (b : Bool) → Reached request s (next_on s request named b)
 unfolding next_on
 reached_on request s named b =
-    reached_by request s InErrorState WrongState (is_barred s request) (is_same named s) (row request s b) (leads request s b) (idle request s b)
+    reached_by request s InErrorState WrongState (is_barred s request) (is_same named s) (transition_row request s b) (leads request s b) (idle request s b)
 
 -- a step that is not refused is counted
 not_bad : (n steps : ℕ) (more : List (Bool × ErrorCode)) → first_true ((not ((n == 1) && nat_lt steps (2 ^ 32 - 1)), BadSteps) ∷ more) ≡ None → steps < 2 ^ 32 - 1
@@ -198,8 +198,8 @@ not_bad n steps more e = ltb-true steps (2 ^ 32 - 1) (and_parts (n == 1) (nat_lt
 clash : {A : Type 0} (b : Bool) → b ≡ false → b ≡ true → A
 clash b e f = never (sym e ∙ f)
 
-moved_on : (s : Setup) (p : Plant) (request : Stc) (t : State) → IsSound p → Leads p.state (Some t) → Idle request (Some t) → change_refusal p request ≡ None
-    → IsSound (changed_to s p request t)
+moved_on : (s : SlaveSetup) (p : Plant) (request : Stc) (t : State) → IsSoundPlant p → Leads p.state (Some t) → Idle request (Some t) → change_refusal p request ≡ None
+    → IsSoundPlant (changed_to s p request t)
 moved_on s p (stc.DoStep n) t h l i e = record { fit = λ f. h.fit (l f); below = λ f. not_bad n p.steps ((not (ready p.wires p.steps), InputsMissing) ∷ []) e }
 moved_on s p stc.Reset t h l i e = record { fit = λ f. clash _ i.0 f; below = λ f. clash _ i.1 f }
 moved_on s p (stc.Register uuid op_mode major minor) t h l i e = record { fit = λ f. h.fit (l f); below = λ f. clash _ i f }
@@ -211,14 +211,14 @@ moved_on s p (stc.Run start_time) t h l i e = record { fit = λ f. h.fit (l f); 
 moved_on s p stc.SendOutputs t h l i e = record { fit = λ f. h.fit (l f); below = λ f. clash _ i f }
 moved_on s p stc.Stop t h l i e = record { fit = λ f. h.fit (l f); below = λ f. clash _ i f }
 
-moved_by : (s : Setup) (p : Plant) (request : Stc) (r : Result State ErrorCode) → IsSound p → Reached request p.state r → moved_refusal p request r ≡ None
-    → IsSound (changed_to s p request (state_or p.state r))
+moved_by : (s : SlaveSetup) (p : Plant) (request : Stc) (r : Result State ErrorCode) → IsSoundPlant p → Reached request p.state r → moved_refusal p request r ≡ None
+    → IsSoundPlant (changed_to s p request (state_or p.state r))
 moved_by s p request (Err code) h l e = absurd cc
 moved_by s p request (Ok t) h l e = moved_on s p request t h l.0 l.1 e
 
 -- a setting is accepted in CONFIGURATION alone
 unset : {A : Type 0} (t : State) (b : Bool) (r : Option ErrorCode) → has_outputs t ≡ true
-    → (if is_error t then Some InErrorState else (if b then Some NotSupported else (if is_same t Configuration then r else Some WrongState))) ≡ None → A
+    → (if is_in_error t then Some InErrorState else (if b then Some NotSupported else (if is_same t Configuration then r else Some WrongState))) ≡ None → A
 unset Initialized true r f e = absurd cc
 unset Initialized false r f e = absurd cc
 unset SendingI true r f e = absurd cc
@@ -229,7 +229,7 @@ unset SendingD true r f e = absurd cc
 unset SendingD false r f e = absurd cc
 unset _ b r f e = never f
 
-set_on : (s : Setup) (p : Plant) (body : Cfg) → IsSound p → setting_refusal s p body ≡ None → IsSound (set_to s p body)
+set_on : (s : SlaveSetup) (p : Plant) (body : Cfg) → IsSoundPlant p → setting_refusal s p body ≡ None → IsSoundPlant (set_to s p body)
 set_on s p (cfg.TimeRes a b) h e = record { fit = h.fit; below = h.below }
 set_on s p (cfg.Steps a b) h e = record { fit = h.fit; below = h.below }
 set_on s p (cfg.Input a b c kind) h e = record { fit = h.fit; below = h.below }
@@ -244,21 +244,21 @@ set_on s p cfg.Clear h e = record { fit = λ f. unset p.state (is_left_out cfg.C
 set_on s p (cfg.Parameter vr kind value) h e =
     record { fit = λ f. unset p.state (is_left_out (cfg.Parameter vr kind value)) (body_refusal s p (cfg.Parameter vr kind value)) f e; below = h.below }
 
-asked_on : (p : Plant) (q : Inf) → IsSound p → IsSound (asked_of p q)
+asked_on : (p : Plant) (q : Inf) → IsSoundPlant p → IsSoundPlant (asked_of p q)
 asked_on p inf.State h = h
 asked_on p inf.Error h = h
 asked_on p (inf.Log category most) h = record { fit = h.fit; below = h.below }
 
-accepted_on : (s : Setup) (asked : Asked) (p : Plant) → IsSound p → refusal s p asked ≡ None → IsSound (accepted s p asked)
+accepted_on : (s : SlaveSetup) (asked : Asked) (p : Plant) → IsSoundPlant p → refusal s p asked ≡ None → IsSoundPlant (accepted s p asked)
 unfolding refusal accepted
 accepted_on s (Change named request) p h e =
     moved_by s p request (next_on p.state request named p.outputs_sent) h (reached_on request p.state named p.outputs_sent) e
 accepted_on s (Setting body) p h e = set_on s p body h e
 accepted_on s (Question q) p h e = asked_on p q h
 
-answered_by : (s : Setup) (asked : Asked) (p : Plant) (r : Option ErrorCode) → refusal s p asked ≡ r → IsSound p → IsSound (answered s p asked r).after
+answered_by : (s : SlaveSetup) (asked : Asked) (p : Plant) (r : Option ErrorCode) → refusal s p asked ≡ r → IsSoundPlant p → IsSoundPlant (answered_plant s p asked r).after
 answered_by s asked p (Some code) e h = record { fit = h.fit; below = h.below }
-answered_by s asked p None e h = let k : IsSound (accepted s p asked) = accepted_on s asked p h e in record { fit = k.fit; below = k.below }
+answered_by s asked p None e h = let k : IsSoundPlant (accepted s p asked) = accepted_on s asked p h e in record { fit = k.fit; below = k.below }
 
 -- what a turn does leaves outputs that fit, where outputs are to be sent
 abbrev Acted : Plant → State → Act → Type 0
@@ -277,16 +277,16 @@ stepped_by : (p : Plant) (t : State) (r : Result (List ℤ) FaultCode)
 stepped_by p t (Err code) = tt
 stepped_by p t (Ok x) = stepped_within p t x (all_fit p.model.types (outputs p.model.kind p.model.parameters x)) refl
 
-computed_by : (s : Setup) (p : Plant) (t : State) (left : ℕ) → Acted p t (computing s p left)
+computed_by : (s : SlaveSetup) (p : Plant) (t : State) (left : ℕ) → Acted p t (computing s p left)
 computed_by s p t (suc left) = tt
-computed_by s p t zero = stepped_by p t (micro_steps s.micro p.model.kind p.model.parameters p.model.state (inputs s.desc p.wires))
+computed_by s p t zero = stepped_by p t (micro_steps s.micro p.model.kind p.model.parameters p.model.state (wired_values s.desc p.wires))
 
 initialized_by : (p : Plant) (b : Bool) → all_fit p.model.types (values p.model) ≡ b → Acted p Initializing (if b then Pass else Fault OutOfRange)
 unfolding next_on_turn
 initialized_by p true e = (λ f. e, refl)
 initialized_by p false e = tt
 
-state_acted : (s : Setup) (p : Plant) (t : State) → Acted p t (state_act s p t)
+state_acted : (s : SlaveSetup) (p : Plant) (t : State) → Acted p t (state_act s p t)
 unfolding next_on_turn
 state_acted s p Initializing = initialized_by p (all_fit p.model.types (values p.model)) refl
 state_acted s p Computing = computed_by s p Computing p.busy_left
@@ -312,22 +312,22 @@ missed_or : (p : Plant) (t : State) (b : Bool) (code : FaultCode) (a : Act) → 
 missed_or p t true code a h = tt
 missed_or p t false code a h = h
 
-acted : (s : Setup) (quiet : ℕ) (p : Plant) → Acted p p.state (act s quiet p)
+acted : (s : SlaveSetup) (quiet : ℕ) (p : Plant) → Acted p p.state (act s quiet p)
 unfolding act
 acted s quiet p = missed_or p p.state (is_missed s.desc p.state quiet) _ (state_act s p p.state) (state_acted s p p.state)
 
-turned_by : (s : Setup) (p : Plant) (a : Act) → Acted p p.state a → IsSound p → IsSound (turned s p a).after
+turned_by : (s : SlaveSetup) (p : Plant) (a : Act) → Acted p p.state a → IsSoundPlant p → IsSoundPlant (turned s p a).after
 turned_by s p Stay k h = h
 turned_by s p (Wait left) k h = record { fit = h.fit; below = h.below }
 turned_by s p (Fault code) k h = record { fit = λ f. never f; below = λ f. never f }
 turned_by s p (Step state) k h = record { fit = λ f. k; below = λ f. never f }
 turned_by s p Pass k h = record { fit = k.0; below = λ f. clash _ k.1 f }
 
-heeded : (p : Plant) (b : Bool) (w : Wires) → IsSound p → IsSound (if b then record p { wires = w } else p)
+heeded : (p : Plant) (b : Bool) (w : WiringState) → IsSoundPlant p → IsSoundPlant (if b then record p { wires = w } else p)
 heeded p true w h = record { fit = h.fit; below = h.below }
 heeded p false w h = h
 
-sound_keeps : (s : Setup) → Keeps (machine s) IsSound
+sound_keeps : (s : SlaveSetup) → Keeps (machine s) IsSoundPlant
 sound_keeps s = record {
   start = record { fit = λ f. never f; below = λ f. never f };
   answers = λ asked p h. answered_by s asked p (refusal s p asked) refl h;
@@ -335,5 +335,5 @@ sound_keeps s = record {
   brings = λ from number id payload p h. heeded p (is_listening p.state) (brought s.desc p.wires from number id payload p.steps) h;
 }
 
-pub sound_after : (s : Setup) (events : List Event) → IsSound (slave_after s events).inner
-sound_after s events = lasting (machine s) IsSound (sound_keeps s) events
+pub sound_after : (s : SlaveSetup) (events : List Event) → IsSoundPlant (slave_after s events).inner
+sound_after s events = lasting (machine s) IsSoundPlant (sound_keeps s) events

@@ -15,11 +15,11 @@ use Rattle.pdu_layout.specs.Message.{Message}
 use Rattle.pdu_layout.specs.Reading.{message_in}
 pub use Rattle.slave_spec.specs.declared.words.Asked.{Asked}
 pub use Rattle.slave_spec.specs.declared.words.Asked.TheVariants.{Change, Setting, Question}
-pub use Rattle.slave_spec.specs.declared.words.Request.{Request}
+pub use Rattle.slave_spec.specs.declared.words.SlaveRequest.{SlaveRequest}
 
 -- a request, a data message, or nothing that a slave heeds
 pub data Heard : Type 0 where
-  Asks : Request → Heard
+  Asks : SlaveRequest → Heard
   Brings : (number id : ℕ) → List ℕ → Heard
   Nothing : Heard
 
@@ -38,9 +38,9 @@ abbrev pub signed_of : FieldValue → ℤ
 signed_of (Signed z) = z
 signed_of v = pos 0
 
-abbrev pub bytes_of : FieldValue → List ℕ
-bytes_of (Bytes bytes) = bytes
-bytes_of v = []
+abbrev pub field_payload : FieldValue → List ℕ
+field_payload (Bytes bytes) = bytes
+field_payload v = []
 
 abbrev pub number_at : ℕ → List FieldValue → ℕ
 number_at i values = number_of (slice_index_or values i (Number 0))
@@ -49,7 +49,7 @@ abbrev pub signed_at : ℕ → List FieldValue → ℤ
 signed_at i values = signed_of (slice_index_or values i (Number 0))
 
 abbrev pub bytes_at : ℕ → List FieldValue → List ℕ
-bytes_at i values = bytes_of (slice_index_or values i (Number 0))
+bytes_at i values = field_payload (slice_index_or values i (Number 0))
 
 -- the state request with a code from 1 to 10, of the fields after the state
 abbrev pub stc_of : ℕ → List FieldValue → Stc
@@ -91,14 +91,14 @@ inf_of code vs =
     else (if code == 129 then inf.Error
     else inf.Log (number_at 2 vs) (number_at 3 vs))
 
-abbrev pub asks : List FieldValue → Asked → Heard
-asks vs asked = Asks (record { number = number_at 0 vs; receiver = number_at 1 vs; asked = asked })
+abbrev pub heard_asking : List FieldValue → Asked → Heard
+heard_asking vs asked = Asks (record { number = number_at 0 vs; receiver = number_at 1 vs; asked = asked })
 
 abbrev pub heard_in : ℕ → List FieldValue → Heard
 heard_in code vs =
-    if nat_lt code 32 then asks vs (Change (state_from (number_at 2 vs)) (stc_of code vs))
-    else (if nat_lt code 128 then asks vs (Setting (cfg_of code vs))
-    else (if nat_lt code 176 then asks vs (Question (inf_of code vs))
+    if nat_lt code 32 then heard_asking vs (Change (state_from (number_at 2 vs)) (stc_of code vs))
+    else (if nat_lt code 128 then heard_asking vs (Setting (cfg_of code vs))
+    else (if nat_lt code 176 then heard_asking vs (Question (inf_of code vs))
     else (if code == 240 then Brings (number_at 0 vs) (number_at 1 vs) (bytes_at 2 vs)
     else Nothing)))
 

@@ -17,6 +17,6 @@ has_outputs _ = false
 
 -- The outputs that are sent lie in the types of their ports. While a step is computed the count of steps is below its last number,
 -- so it counts on by one.
-pub record IsSound (p : Plant) : Type 0 where
+pub record IsSoundPlant (p : Plant) : Type 0 where
   pub fit : has_outputs p.state ≡ true → all_fit p.model.types (values p.model) ≡ true
   pub below : is_same p.state Computing ≡ true → p.steps < 2 ^ 32 - 1

@@ -20,20 +20,20 @@ pub use Rattle.slave_spec.specs.declared.words.Session.{Session}
 pub use Rattle.slave_spec.specs.declared.words.Session.TheVariants.{Before, During, After}
 pub use Rattle.slave_spec.specs.declared.words.Fate.{Fate}
 pub use Rattle.slave_spec.specs.declared.words.Fate.TheVariants.{Dropped, Refused, Repeated, Taken}
-use Rattle.slave_spec.specs.Heard.{Asked, Change, Setting, Question, Request, Heard, Asks, Brings, Nothing, heard}
+use Rattle.slave_spec.specs.Heard.{Asked, Change, Setting, Question, SlaveRequest, Heard, Asks, Brings, Nothing, heard}
 
 -- what an answer says; a fault is told by its code, and entries by their bytes
-pub data Answer : Type 0 where
-  Ack : Answer
-  Nack : ErrorCode → Answer
-  StateAck : State → Answer
-  ErrorAck : ℕ → Answer
-  LogAck : List ℕ → Answer
+pub data SlaveAnswer : Type 0 where
+  Ack : SlaveAnswer
+  Nack : ErrorCode → SlaveAnswer
+  StateAck : State → SlaveAnswer
+  ErrorAck : ℕ → SlaveAnswer
+  LogAck : List ℕ → SlaveAnswer
 
 -- a request that was taken, and the answer to it
 pub record Exchange : Type 0 where
-  pub request : Request
-  pub answer : Answer
+  pub request : SlaveRequest
+  pub answer : SlaveAnswer
 
 -- what a slave tells on its own
 pub data Notice : Type 0 where
@@ -47,7 +47,7 @@ pub record Parcel : Type 0 where
 
 -- what a request makes of a machine, and what a turn makes of it
 pub record Answered (S : Type 0) : Type 0 where
-  pub answer : Answer
+  pub answer : SlaveAnswer
   pub notices : List Notice
   pub after : S
 
@@ -66,13 +66,13 @@ pub record Machine (S : Type 0) : Type 0 where
   pub brings : Address → (number id : ℕ) → List ℕ → S → S
 
 -- the requests that were taken, each with its answer, the newest first; and the turns since the last of them
-pub record Slave (S : Type 0) : Type 0 where
+pub record SlaveState (S : Type 0) : Type 0 where
   pub session : Session
   pub served : List Exchange
   pub quiet : ℕ
   pub inner : S
 
-abbrev pub fresh : {S : Type 0} → Machine S → Slave S
+abbrev pub fresh : {S : Type 0} → Machine S → SlaveState S
 fresh m = record { session = Before; served = []; quiet = 0; inner = m.start }
 
 -- the number of the next request, of sixteen bits
@@ -100,26 +100,26 @@ placed_late p = Dropped
 abbrev pub same_address : Address → Address → Bool
 same_address a b = (a.ip == b.ip) && (a.port == b.port)
 
-abbrev pub fate_in : {S : Type 0} → Machine S → Session → List Exchange → Address → Request → Fate
+abbrev pub fate_in : {S : Type 0} → Machine S → Session → List Exchange → Address → SlaveRequest → Fate
 fate_in m Before served from r = if is_register r.asked && (r.number == 0) then admitted (m.refuses r.asked) else Dropped
 fate_in m (During master id) served from r =
     if same_address from master && (r.receiver == id) then placed (place r.number (expected served)) else Dropped
 fate_in m (After master id) served from r =
     if same_address from master && (r.receiver == id) then placed_late (place r.number (expected served)) else Dropped
 
-abbrev pub fate : {S : Type 0} → Machine S → Slave S → Address → Request → Fate
+abbrev pub fate : {S : Type 0} → Machine S → SlaveState S → Address → SlaveRequest → Fate
 fate m x from r = fate_in m x.session x.served from r
 
-abbrev pub is_last : Asked → Answer → Bool
+abbrev pub is_last : Asked → SlaveAnswer → Bool
 is_last (Change named stc.Deregister) Ack = true
 is_last asked answer = false
 
-abbrev pub session_after : Session → Address → Request → Answer → Session
+abbrev pub session_after : Session → Address → SlaveRequest → SlaveAnswer → Session
 session_after Before from r answer = During from r.receiver
 session_after (During master id) from r answer = if is_last r.asked answer then After master id else During master id
 session_after (After master id) from r answer = After master id
 
-abbrev pub taken_with : {S : Type 0} → Slave S → Address → Request → Answered S → Slave S
+abbrev pub taken_with : {S : Type 0} → SlaveState S → Address → SlaveRequest → Answered S → SlaveState S
 taken_with x from r a = record {
   session = session_after x.session from r a.answer;
   served = record { request = r; answer = a.answer } ∷ x.served;
@@ -127,7 +127,7 @@ taken_with x from r a = record {
   inner = a.after;
 }
 
-abbrev pub after_request : {S : Type 0} → Machine S → Slave S → Address → Request → Fate → Slave S
+abbrev pub after_request : {S : Type 0} → Machine S → SlaveState S → Address → SlaveRequest → Fate → SlaveState S
 after_request m x from r Dropped = x
 after_request m x from r (Refused code) = x
 after_request m x from r Repeated = x
@@ -138,7 +138,7 @@ is_open Before = false
 is_open (During master id) = true
 is_open (After master id) = false
 
-abbrev pub after_heard : {S : Type 0} → Machine S → Slave S → Address → Heard → Slave S
+abbrev pub after_heard : {S : Type 0} → Machine S → SlaveState S → Address → Heard → SlaveState S
 after_heard m x from (Asks r) = after_request m x from r (fate m x from r)
 after_heard m x from (Brings number id payload) = if is_open x.session then record x { inner = m.brings from number id payload x.inner } else x
 after_heard m x from Nothing = x
@@ -147,29 +147,29 @@ after_heard m x from Nothing = x
 abbrev pub quieter : ℕ → ℕ
 quieter quiet = min (quiet + 1) (2 ^ 32 - 1)
 
-abbrev pub after_turn : {S : Type 0} → Machine S → Slave S → Slave S
+abbrev pub after_turn : {S : Type 0} → Machine S → SlaveState S → SlaveState S
 after_turn m x = if is_open x.session then record x { quiet = quieter x.quiet; inner = (m.turns (quieter x.quiet) x.inner).after } else x
 
 -- one event
-abbrev pub after : {S : Type 0} → Machine S → Slave S → Event → Slave S
+abbrev pub after : {S : Type 0} → Machine S → SlaveState S → Event → SlaveState S
 after m x (Gram from bytes) = after_heard m x from (heard bytes)
 after m x Tick = after_turn m x
 
 -- all events, the oldest first
-abbrev pub after_all : {S : Type 0} → Machine S → Slave S → List Event → Slave S
+abbrev pub after_all : {S : Type 0} → Machine S → SlaveState S → List Event → SlaveState S
 after_all m x [] = x
 after_all m x (event ∷ events) = after_all m (after m x event) events
 
 -- where a slave stands after its whole list of events
-abbrev pub slave : {S : Type 0} → Machine S → List Event → Slave S
+abbrev pub slave : {S : Type 0} → Machine S → List Event → SlaveState S
 slave m events = after_all m (fresh m) events
 
 -- the requests that it took, the newest first
-abbrev pub taken : {S : Type 0} → Machine S → List Event → List Request
+abbrev pub taken : {S : Type 0} → Machine S → List Event → List SlaveRequest
 taken m events = map (λ e. e.request) (slave m events).served
 
 -- The messages. An answer has the number of its request, and its receiver as the sender.
-abbrev pub answer_message : Request → (next : ℕ) → Answer → Message
+abbrev pub answer_message : SlaveRequest → (next : ℕ) → SlaveAnswer → Message
 answer_message r next Ack = record { code = 176; values = Number r.number ∷ Number r.receiver ∷ [] }
 answer_message r next (Nack code) = record { code = 177; values = Number r.number ∷ Number r.receiver ∷ Number next ∷ Number (error_code code) ∷ [] }
 answer_message r next (StateAck state) = record { code = 178; values = Number r.number ∷ Number r.receiver ∷ Number (state_code state) ∷ [] }
@@ -195,17 +195,17 @@ again to [] = []
 again to (e ∷ served) = send to (answer_message e.request (expected (e ∷ served)) e.answer) ∷ []
 
 -- what is sent for a taken request: the answer, in which the next number is already the one after it, and then what is told besides
-abbrev pub answer_sends : {S : Type 0} → Slave S → Address → Request → Answered S → List Send
+abbrev pub answer_sends : {S : Type 0} → SlaveState S → Address → SlaveRequest → Answered S → List Send
 answer_sends x from r a =
     send from (answer_message r (expected (record { request = r; answer = a.answer } ∷ x.served)) a.answer) ∷ notice_sends from r.receiver a.notices
 
-abbrev pub request_sends : {S : Type 0} → Machine S → Slave S → Address → Request → Fate → List Send
+abbrev pub request_sends : {S : Type 0} → Machine S → SlaveState S → Address → SlaveRequest → Fate → List Send
 request_sends m x from r Dropped = []
 request_sends m x from r (Refused code) = send from (answer_message r (expected x.served) (Nack code)) ∷ []
 request_sends m x from r Repeated = again from x.served
 request_sends m x from r Taken = answer_sends x from r (m.answers r.asked x.inner)
 
-abbrev pub heard_sends : {S : Type 0} → Machine S → Slave S → Address → Heard → List Send
+abbrev pub heard_sends : {S : Type 0} → Machine S → SlaveState S → Address → Heard → List Send
 heard_sends m x from (Asks r) = request_sends m x from r (fate m x from r)
 heard_sends m x from (Brings number id payload) = []
 heard_sends m x from Nothing = []
@@ -214,12 +214,12 @@ heard_sends m x from Nothing = []
 abbrev pub turned_sends : {S : Type 0} → Address → (id : ℕ) → Turned S → List Send
 turned_sends master id t = map parcel_send t.parcels ++ notice_sends master id t.notices
 
-abbrev pub turn_sends : {S : Type 0} → Machine S → Session → Slave S → List Send
+abbrev pub turn_sends : {S : Type 0} → Machine S → Session → SlaveState S → List Send
 turn_sends m Before x = []
 turn_sends m (During master id) x = turned_sends master id (m.turns (quieter x.quiet) x.inner)
 turn_sends m (After master id) x = []
 
 -- what a slave sends at an event
-abbrev pub sends : {S : Type 0} → Machine S → Slave S → Event → List Send
+abbrev pub sends : {S : Type 0} → Machine S → SlaveState S → Event → List Send
 sends m x (Gram from bytes) = heard_sends m x from (heard bytes)
 sends m x Tick = turn_sends m x.session x

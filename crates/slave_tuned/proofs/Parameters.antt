@@ -13,21 +13,21 @@ use Rattle.pdu_layout.specs.declared.messages.Inf.TheVariants as inf
 use Rattle.scenario.specs.declared.scenarios.Scenario.{Scenario}
 use Rattle.scenario.specs.Settings.{parameters}
 use Rattle.log_spec.specs.Messages.{Note}
-use Rattle.log_spec.specs.Log.{Decision}
-use Rattle.plan_laws.specs.Taking.{IsSlaveOf, after_all}
+use Rattle.log_spec.specs.Log.{DecidedRequest}
+use Rattle.plan_laws.specs.Taking.{IsScenarioSlave, plant_after_all}
 use Rattle.plan_laws.specs.Runs.{after_amid, lists_until}
 use Rattle.plan_laws.proofs.Machines.{after_append}
 use Rattle.plan_laws.proofs.Running.{runs_set}
 use Rattle.slave_states.specs.Transitions.{next_on}
 use Rattle.slave_wiring.specs.Payloads.{brought}
-use Rattle.slave_spec.specs.declared.words.Setup.{Setup}
-use Rattle.slave_spec.specs.declared.words.Request as req
+use Rattle.slave_spec.specs.declared.words.SlaveSetup.{SlaveSetup}
+use Rattle.slave_spec.specs.declared.words.SlaveRequest as req
 use Rattle.slave_spec.specs.declared.words.Asked.{Asked}
 use Rattle.slave_spec.specs.declared.words.Asked.TheVariants.{Change, Setting, Question}
 use Rattle.slave_spec.specs.Heard as spec
 use Rattle.slave_spec.specs.Transport as transport
-use Rattle.slave_spec.specs.Plants.{Plant, start}
-use Rattle.slave_spec.specs.Requests.{refusal, state_or, changed_to, set_to, accepted, answer, answered, answers}
+use Rattle.slave_spec.specs.Plants.{Plant, start_plant}
+use Rattle.slave_spec.specs.Requests.{refusal, state_or, changed_to, set_to, accepted, answer, answered_plant, answers}
 use Rattle.slave_spec.specs.Turns.{Act, Stay, Wait, Fault, Step, Pass, act, turned, is_listening, brings}
 use Rattle.slave_meets.specs.Desks.{answer_note}
 use Rattle.slave_sends.proofs.Sending.{sends_back}
@@ -38,14 +38,14 @@ use Rattle.slave_tuned.specs.Tuned.{TunedHaveParameters, served_at}
 use Rattle.slave_tuned.proofs.Alike.{settings_are}
 
 -- ---- an answer that acknowledges
-abbrev pub acknowledges : transport.Answer → Bool
+abbrev pub acknowledges : transport.SlaveAnswer → Bool
 acknowledges transport.Ack = true
 acknowledges (transport.Nack code) = false
 acknowledges (transport.StateAck state) = false
 acknowledges (transport.ErrorAck code) = false
 acknowledges (transport.LogAck entries) = false
 
-pub acknowledged : (r : req.Request) (next : ℕ) (a : transport.Answer) → is_acknowledged (answer_note r next a) ≡ acknowledges a
+pub acknowledged : (r : req.SlaveRequest) (next : ℕ) (a : transport.SlaveAnswer) → is_acknowledged (answer_note r next a) ≡ acknowledges a
 acknowledged r next transport.Ack = refl
 acknowledged r next (transport.Nack code) = refl
 acknowledged r next (transport.StateAck state) = refl
@@ -58,9 +58,9 @@ not_taken (Setting body) rest = refl
 not_taken (Question q) rest = refl
 
 -- ---- settings one behind the other
-module _ (s : Setup) where
+module _ (s : SlaveSetup) where
   given : List Cfg → List ℤ
-  given settings = (after_all s (start s) (reverse settings)).model.parameters
+  given settings = (plant_after_all s (start_plant s) (reverse settings)).model.parameters
 
   set_alike : (p q : Plant) (body : Cfg) → p.model.parameters ≡ q.model.parameters → (set_to s p body).model.parameters ≡ (accepted s q (Setting body)).model.parameters
   unfolding accepted
@@ -80,9 +80,9 @@ module _ (s : Setup) where
   one_more : (p : Plant) (body : Cfg) (settings : List Cfg) → p.model.parameters ≡ given settings → (set_to s p body).model.parameters ≡ given (body ∷ settings)
   unfolding given
   one_more p body settings e =
-      let q = after_all s (start s) (reverse settings) in
+      let q = plant_after_all s (start_plant s) (reverse settings) in
       let turn : reverse (body ∷ settings) ≡ reverse settings ++ body ∷ [] = reverse-append (body ∷ []) settings in
-      set_alike p q body e ∙ sym (ap (λ z. z.model.parameters) (ap (after_all s (start s)) turn ∙ after_append s (start s) (reverse settings) (body ∷ [])))
+      set_alike p q body e ∙ sym (ap (λ z. z.model.parameters) (ap (plant_after_all s (start_plant s)) turn ∙ after_append s (start_plant s) (reverse settings) (body ∷ [])))
 
   change_same : (p : Plant) (request : Stc) (t : State) → (changed_to s p request t).model.parameters ≡ p.model.parameters
   change_same p (stc.Register a b c d) t = refl
@@ -107,11 +107,11 @@ module _ (s : Setup) where
   accepted_given p (Question inf.Error) settings e = e
   accepted_given p (Question (inf.Log category most)) settings e = e
 
-  answered_given : (p : Plant) (asked : Asked) (settings : List Cfg) (o : Option ErrorCode) → Given p settings → (answered s p asked o).after.model.parameters ≡ given (setting_taken (Some asked) (acknowledges (answered s p asked o).answer) settings)
+  answered_given : (p : Plant) (asked : Asked) (settings : List Cfg) (o : Option ErrorCode) → Given p settings → (answered_plant s p asked o).after.model.parameters ≡ given (setting_taken (Some asked) (acknowledges (answered_plant s p asked o).answer) settings)
   answered_given p asked settings (Some code) e = e ∙ sym (ap given (not_taken asked settings))
   answered_given p asked settings None e = accepted_given p asked settings e
 
-  exchanged_given : (p : Plant) (es : List Decision) (r : req.Request) (n : Note) (next' : ℕ) → spec.heard_as (Some n.message) ≡ spec.Asks r → Given p (settings_taken es) → Given (answers s r.asked p).after (settings_taken (exchanged s p r n next' ∷ es))
+  exchanged_given : (p : Plant) (es : List DecidedRequest) (r : req.SlaveRequest) (n : Note) (next' : ℕ) → spec.heard_as (Some n.message) ≡ spec.Asks r → Given p (settings_taken es) → Given (answers s r.asked p).after (settings_taken (exchanged s p r n next' ∷ es))
   exchanged_given p es r n next' h e =
       let a = (answers s r.asked p).answer in
       let here : setting_taken (asked_in n) (is_acknowledged (answer_note r next' a)) (settings_taken es) ≡ setting_taken (Some r.asked) (acknowledges a) (settings_taken es)
@@ -137,23 +137,23 @@ module _ (s : Setup) where
   given_lasts = record {
     less = λ d es a. tt;
     start = refl;
-    first = λ from r n next' es h ev reg a e. exchanged_given (start s) es r n next' h e;
+    first = λ from r n next' es h ev reg a e. exchanged_given (start_plant s) es r n next' h e;
     taken = λ master from id r n next' p es h ev reg a e. exchanged_given p es r n next' h e;
     brings = λ master from id number i payload p es a e. brings_same from number i payload p ∙ e;
     turns = λ master id quiet p es r r' ok a e. turned_same p (act s quiet p) ∙ e;
   }
 
   -- ---- the lists of the plan
-  nothing_between : (p : Plant) (i : ℕ) (bodies : List Cfg) → after_amid s p (λ i. []) i bodies ≡ after_all s p bodies
+  nothing_between : (p : Plant) (i : ℕ) (bodies : List Cfg) → after_amid s p (λ i. []) i bodies ≡ plant_after_all s p bodies
   nothing_between p i [] = refl
   nothing_between p i (body ∷ bodies) = nothing_between (accepted s p (Setting body)) (i + 1) bodies
 
-  planned : (sc : Scenario) (n r : ℕ) → IsSlaveOf sc n s.desc → given (reverse (lists_until sc n s.desc r)) ≡ parameters sc n s.desc (r + 1)
+  planned : (sc : Scenario) (n r : ℕ) → IsScenarioSlave sc n s.desc → given (reverse (lists_until sc n s.desc r)) ≡ parameters sc n s.desc (r + 1)
   unfolding given
   planned sc n r ok =
-      ap (λ l. (after_all s (start s) l).model.parameters) (reverse-reverse (lists_until sc n s.desc r))
-      ∙ sym (ap (λ p. p.model.parameters) (nothing_between (start s) 0 (lists_until sc n s.desc r)))
-      ∙ runs_set sc n s (start s) (λ i. []) r ok
+      ap (λ l. (plant_after_all s (start_plant s) l).model.parameters) (reverse-reverse (lists_until sc n s.desc r))
+      ∙ sym (ap (λ p. p.model.parameters) (nothing_between (start_plant s) 0 (lists_until sc n s.desc r)))
+      ∙ runs_set sc n s (start_plant s) (λ i. []) r ok
 
 pub have_parameters : TunedHaveParameters
 have_parameters sc n s w ok rd log t =

@@ -4,9 +4,9 @@ use Rattle.dcp_ends.specs.declared.entries.LogEntry.{LogEntry}
 use Rattle.scenario.specs.declared.scenarios.Scenario.{Scenario}
 use Rattle.scenario.specs.Settings.{parameters}
 use Rattle.lockstep.specs.Lockstep.{shown_at}
-use Rattle.log_spec.specs.Log.{Parties, Decision}
-use Rattle.plan_laws.specs.Taking.{IsSlaveOf}
-use Rattle.slave_spec.specs.declared.words.Setup.{Setup}
+use Rattle.log_spec.specs.Log.{Parties, DecidedRequest}
+use Rattle.plan_laws.specs.Taking.{IsScenarioSlave}
+use Rattle.slave_spec.specs.declared.words.SlaveSetup.{SlaveSetup}
 use Rattle.slave_spec.specs.Slaves.{machine}
 use Rattle.slave_meets.specs.Desks.{desk_at}
 use Rattle.slave_meets.specs.Benches.{bench_at}
@@ -15,18 +15,18 @@ use Rattle.slave_holds.specs.Models.{plant_at}
 use Rattle.course_spec.specs.Courses.{tuned, opened}
 
 -- the requests that slave s took, each with the answer given
-abbrev pub served_at : Setup → Parties → ℕ → List LogEntry → List Decision
+abbrev pub served_at : SlaveSetup → Parties → ℕ → List LogEntry → List DecidedRequest
 served_at x w s log = (desk_at (machine x) w s log).served
 
 -- the run that comes after the resets
-abbrev pub run_here : Setup → Parties → ℕ → List LogEntry → ℕ
+abbrev pub run_here : SlaveSetup → Parties → ℕ → List LogEntry → ℕ
 run_here x w s log = (bench_at x w s log).resets + 1
 
 abbrev pub TunedHaveParameters : Type 0
-TunedHaveParameters = (sc : Scenario) (s : ℕ) (x : Setup) (w : Parties) → IsSlaveOf sc s x.desc → ReadsMessages w → (log : List LogEntry)
+TunedHaveParameters = (sc : Scenario) (s : ℕ) (x : SlaveSetup) (w : Parties) → IsScenarioSlave sc s x.desc → ReadsMessages w → (log : List LogEntry)
     → tuned sc s x.desc (run_here x w s log) (served_at x w s log) ≡ true → (plant_at x w s log).model.parameters ≡ parameters sc s x.desc (run_here x w s log)
 
 abbrev pub OpenedOutputsFit : Type 0
-OpenedOutputsFit = (sc : Scenario) (s : ℕ) (x : Setup) (w : Parties) → IsSlaveOf sc s x.desc → ReadsMessages w → (log : List LogEntry)
+OpenedOutputsFit = (sc : Scenario) (s : ℕ) (x : SlaveSetup) (w : Parties) → IsScenarioSlave sc s x.desc → ReadsMessages w → (log : List LogEntry)
     → opened sc s x.desc (run_here x w s log) (served_at x w s log) ≡ true
     → (vs : List ℤ) × (shown_at sc s x.desc (run_here x w s log) (Ok (plant_at x w s log).model.state) ≡ Ok vs)

@@ -7,7 +7,7 @@ use Rattle.std.proofs.lemmas.Int.{int_wrap-add_left}
 use Rattle.std.proofs.lemmas.List.Sums.{fold-append}
 use Rattle.slave_desc.specs.declared.descriptions.SlaveDesc.{SlaveDesc}
 use Rattle.run_text.specs.Tables.{first_rows, outputs_of, ports_of}
-use Rattle.soaks.specs.Sums.{plus, sum_of, values_of}
+use Rattle.soaks.specs.Sums.{plus, sum_of, row_values}
 
 -- to wrap on the way changes nothing
 wrapped : (a : ℤ) (values : List ℤ) → fold plus (int_wrap w128 a) values ≡ int_wrap w128 (fold (λ x y. x +ℤ y) a values)
@@ -52,11 +52,11 @@ slave_more sum value ds j d e =
     ∙ ap (λ (m : ℕ). fold plus sum (outputs_of value 1 (take m ds))) next
 
 -- one row more
-pub row_more : (sum : ℤ) (row : ℕ → List ℤ) (n : ℕ) → fold plus (fold plus sum (values_of (first_rows row n))) (row n) ≡ fold plus sum (values_of (first_rows row (n + 1)))
+pub row_more : (sum : ℤ) (row : ℕ → List ℤ) (n : ℕ) → fold plus (fold plus sum (row_values (first_rows row n))) (row n) ≡ fold plus sum (row_values (first_rows row (n + 1)))
 row_more sum row n =
     let next : suc n ≡ n + 1 = omega arith in
-    let whole : values_of (first_rows row n ++ row n ∷ []) ≡ values_of (first_rows row n) ++ row n =
-    flat_map-append (λ (r : List ℤ). r) (first_rows row n) (row n ∷ []) ∙ ap (λ (l : List ℤ). values_of (first_rows row n) ++ l) (append-nil (row n)) in
-    sym (fold-append plus sum (values_of (first_rows row n)) (row n))
+    let whole : row_values (first_rows row n ++ row n ∷ []) ≡ row_values (first_rows row n) ++ row n =
+    flat_map-append (λ (r : List ℤ). r) (first_rows row n) (row n ∷ []) ∙ ap (λ (l : List ℤ). row_values (first_rows row n) ++ l) (append-nil (row n)) in
+    sym (fold-append plus sum (row_values (first_rows row n)) (row n))
     ∙ ap (λ (l : List ℤ). fold plus sum l) (sym whole)
-    ∙ ap (λ (m : ℕ). fold plus sum (values_of (first_rows row m))) next
+    ∙ ap (λ (m : ℕ). fold plus sum (row_values (first_rows row m))) next

@@ -7,12 +7,12 @@ abbrev pub sum_of : List ℤ → ℤ
 sum_of values = fold (λ a b. a +ℤ b) (pos 0) values
 
 -- the values of all rows, one behind the other
-abbrev pub values_of : List (List ℤ) → List ℤ
-values_of rows = flat_map (λ row. row) rows
+abbrev pub row_values : List (List ℤ) → List ℤ
+row_values rows = flat_map (λ row. row) rows
 
 -- their sum, as the whole number that it is
 abbrev pub whole_sum : List (List ℤ) → ℤ
-whole_sum rows = sum_of (values_of rows)
+whole_sum rows = sum_of (row_values rows)
 
 -- The sum in two's complement of 128 bits.
 abbrev pub sum_of_rows : List (List ℤ) → ℤ
@@ -26,7 +26,7 @@ pub record IsWord (value : ℤ) : Type 0 where
 -- rows of fewer than 2 ^ 63 values, each of 64 bits
 pub record AreSummable (rows : List (List ℤ)) : Type 0 where
   pub words : All (λ row. All IsWord row) rows
-  pub few : length (values_of rows) < 2 ^ 63
+  pub few : length (row_values rows) < 2 ^ 63
 
 -- the code's own bookkeeping: a sum of 128 bits, and one value more
 abbrev pub plus : ℤ → ℤ → ℤ

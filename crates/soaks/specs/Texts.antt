@@ -19,8 +19,8 @@ abbrev pub name_word : (s : ℕ) → List ℕ
 name_word s = codes "s" ++ decimal s
 
 -- the words of its first lines: its name, its identity and its address
-abbrev pub head_words : (s : ℕ) → List (List (List ℕ))
-head_words s =
+abbrev pub slave_head_words : (s : ℕ) → List (List (List ℕ))
+slave_head_words s =
     (codes "slave" ∷ name_word s ∷ [])
     ∷ (codes "uuid" ∷ identity_word s ∷ [])
     ∷ (codes "address" ∷ codes "127.0.0.1" ∷ decimal (9000 + s) ∷ [])
@@ -37,7 +37,7 @@ abbrev pub counting_words : List (List ℕ)
 counting_words = codes "model" ∷ codes "counter" ∷ codes "1000" ∷ []
 
 abbrev pub counter_words : List (List (List ℕ))
-counter_words = head_words 1 ++ counting_words ∷ output_words ∷ []
+counter_words = slave_head_words 1 ++ counting_words ∷ output_words ∷ []
 
 -- the model by the first two draws
 abbrev pub model_words : (a b : ℕ) → List (List ℕ)
@@ -49,7 +49,7 @@ model_words a b =
 
 -- a slave behind the first
 abbrev pub drawn_words : (s a b : ℕ) → List (List (List ℕ))
-drawn_words s a b = head_words s ++ model_words a b ∷ input_words ∷ output_words ∷ []
+drawn_words s a b = slave_head_words s ++ model_words a b ∷ input_words ∷ output_words ∷ []
 
 -- its wire by the third draw, from any slave, also from itself
 abbrev pub wire_words : (slaves s c : ℕ) → List (List ℕ)
@@ -64,8 +64,8 @@ wired_at number slaves place = wire_words slaves (place + 2) (drawn number place
 abbrev pub master_words : List (List ℕ)
 master_words = codes "master" ∷ codes "127.0.0.1" ∷ codes "9000" ∷ []
 
-abbrev pub first_words : (steps : ℕ) → List (List (List ℕ))
-first_words steps = (codes "steps" ∷ decimal steps ∷ []) ∷ master_words ∷ []
+abbrev pub opening_words : (steps : ℕ) → List (List (List ℕ))
+opening_words steps = (codes "steps" ∷ decimal steps ∷ []) ∷ master_words ∷ []
 
 -- no message is lost, one in ten comes twice, and one in ten is held
 abbrev pub chaos_words : (number : ℕ) → List (List ℕ)
@@ -74,7 +74,7 @@ chaos_words number = codes "chaos" ∷ decimal number ∷ codes "0" ∷ codes "1
 -- the words of each line: the head, the slaves, the wires, and the network
 abbrev pub soak_words : (number : ℕ) → List (List (List ℕ))
 soak_words number =
-    first_words (step_count number)
+    opening_words (step_count number)
     ++ counter_words
     ++ flat_map (drawn_at number) (range_with_len 0 (1 + number % 15))
     ++ map (wired_at number (slave_count number)) (range_with_len 0 (1 + number % 15))

@@ -3,7 +3,7 @@
 ghost use Rattle.std.specs.Prelude.{◌≡◌, ◌≤◌, ◌++◌, ◌∷◌, [], codes, decimal, OnOk, string_bytes};
 ghost use Rattle.std.specs.List.{flat_map};
 ghost use Rattle.text_lines.specs.Printed.{line_of};
-ghost use Rattle.soaks.specs.Texts.{counter_words, counting_words, drawn_words, head_words, input_words, model_words, output_words, wire_words};
+ghost use Rattle.soaks.specs.Texts.{counter_words, counting_words, drawn_words, slave_head_words, input_words, model_words, output_words, wire_words};
 
 use std::alloc::AllocError;
 use uuid::Uuid;
@@ -24,7 +24,7 @@ fn put_names(text: &mut String, s: u32, identity: &str, port: u32) -> Result<(),
 /// Puts the first lines of slave s, whose identity is its number and whose port follows from it.
 fn put_head(text: &mut String, s: u32) -> Result<(), AllocError>
     requires { s ≤ 16 }
-    ensures { OnOk result (string_bytes text.new ≡ string_bytes text.old ++ flat_map line_of (head_words s)) }
+    ensures { OnOk result (string_bytes text.new ≡ string_bytes text.old ++ flat_map line_of (slave_head_words s)) }
 {
     let mut buffer = Uuid::encode_buffer();
     let identity = Uuid::from_u128(u128::from(s))

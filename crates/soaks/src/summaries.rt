@@ -4,7 +4,7 @@ ghost use Rattle.std.specs.Prelude.{◌≡◌, ◌≤◌, List, length, reverse}
 ghost use Rattle.byte_spool.specs.Outputs.{Delivers};
 ghost use Rattle.dcp_ends.specs.Events.{Event};
 ghost use Rattle.scenario.specs.Sound.{IsScenario};
-ghost use Rattle.master_core.specs.Standing.{StandsAfter, setup_of};
+ghost use Rattle.master_core.specs.Standing.{StandsAfter, core_setup};
 ghost use Rattle.report_text.specs.Closings.{named};
 ghost use Rattle.report_text.specs.Puts.{Puts};
 ghost use Rattle.run_text.specs.Tables.{table_after};
@@ -61,7 +61,7 @@ pub fn write_summary<K: Sink>(
 ) -> Delivery
     requires { IsScenario scenario.now }
     ensures { (events : List Event) → StandsAfter master.now events → Delivers (K.written out.old) (K.written out.new) (K.faults out.old) (K.faults out.new)
-        (summary number report (table_after scenario.now (setup_of master.now) (reverse events))) result }
+        (summary number report (table_after scenario.now (core_setup master.now) (reverse events))) result }
 {
     let sum = sum_of_rows(scenario, master);
     let mut spool = Spool::new();

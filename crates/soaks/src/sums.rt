@@ -3,7 +3,7 @@
 ghost use Rattle.std.specs.Prelude.{◌≡◌, ◌+◌, fold, List, reverse, option_to_list};
 ghost use Rattle.dcp_ends.specs.Events.{Event};
 ghost use Rattle.scenario.specs.Sound.{IsScenario};
-ghost use Rattle.master_core.specs.Standing.{StandsAfter, setup_of};
+ghost use Rattle.master_core.specs.Standing.{StandsAfter, core_setup};
 ghost use Rattle.run_text.specs.Tables.{ports_of, row_after, table_after, value_after};
 ghost use Rattle.soaks.specs.Sums.{plus, sum_of_rows};
 
@@ -22,7 +22,7 @@ fn plus(sum: i128, value: Option<i128>) -> i128
 
 /// The sum with the first ports of a slave in row k.
 fn plus_slave(sum: i128, master: &MasterCore, k: u32, slave: u8, ports: u8) -> i128
-    ensures { (events : List Event) → StandsAfter master.now events → result ≡ fold plus sum (ports_of (value_after (setup_of master.now) (reverse events) k slave) ports) }
+    ensures { (events : List Event) → StandsAfter master.now events → result ≡ fold plus sum (ports_of (value_after (core_setup master.now) (reverse events) k slave) ports) }
 {
     let mut all = sum;
     for port in 0..ports {
@@ -34,7 +34,7 @@ fn plus_slave(sum: i128, master: &MasterCore, k: u32, slave: u8, ports: u8) -> i
 /// The sum with row k.
 fn plus_row(sum: i128, scenario: &Scenario, master: &MasterCore, k: u32) -> i128
     requires { IsScenario scenario.now }
-    ensures { (events : List Event) → StandsAfter master.now events → result ≡ fold plus sum (row_after scenario.now (setup_of master.now) (reverse events) k) }
+    ensures { (events : List Event) → StandsAfter master.now events → result ≡ fold plus sum (row_after scenario.now (core_setup master.now) (reverse events) k) }
 {
     let slaves = scenario.slaves.as_slice();
     let mut all = sum;
@@ -48,7 +48,7 @@ fn plus_row(sum: i128, scenario: &Scenario, master: &MasterCore, k: u32) -> i128
 /// The sum of all rows.
 pub(crate) fn sum_of_rows(scenario: &Scenario, master: &MasterCore) -> i128
     requires { IsScenario scenario.now }
-    ensures { (events : List Event) → StandsAfter master.now events → result ≡ sum_of_rows (table_after scenario.now (setup_of master.now) (reverse events)) }
+    ensures { (events : List Event) → StandsAfter master.now events → result ≡ sum_of_rows (table_after scenario.now (core_setup master.now) (reverse events)) }
 {
     let mut all = 0i128;
     for k in 0..master.rows() {

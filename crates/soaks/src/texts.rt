@@ -3,7 +3,7 @@
 ghost use Rattle.std.specs.Prelude.{◌≡◌, ◌≤◌, ◌+◌, ◌++◌, ◌∷◌, [], codes, decimal, OnOk, IfOk, map, string_bytes};
 ghost use Rattle.std.specs.List.{flat_map, range_with_len};
 ghost use Rattle.text_lines.specs.Printed.{line_of};
-ghost use Rattle.soaks.specs.Texts.{chaos_words, drawn_at, first_words, master_words, soak_text, wired_at};
+ghost use Rattle.soaks.specs.Texts.{chaos_words, drawn_at, opening_words, master_words, soak_text, wired_at};
 
 use crate::draws::{after_slave, draw, generator_step};
 use crate::slaves::{put_counter, put_drawn, put_wire};
@@ -28,7 +28,7 @@ fn put_master(text: &mut String) -> Result<(), AllocError>
 
 /// Puts the first two lines: the steps, and the master's address.
 fn put_first(text: &mut String, steps: u32) -> Result<(), AllocError>
-    ensures { OnOk result (string_bytes text.new ≡ string_bytes text.old ++ flat_map line_of (first_words steps)) }
+    ensures { OnOk result (string_bytes text.new ≡ string_bytes text.old ++ flat_map line_of (opening_words steps)) }
 {
     put_steps(text, steps)?;
     put_master(text)?;

@@ -9,7 +9,7 @@ use Rattle.byteorder.specs.Endian.{little_from}
 use Rattle.byteorder.specs.Numbers.{little_from-lt}
 use Rattle.dcp_types.specs.Values.{digits}
 use Rattle.dcp_types.proofs.Digits.{length-digits, same_number, digits-little_from, IsBytes}
-use Rattle.stream_frame.specs.Frames.{AreBytes, IsFrame, in_stream, all_in_stream, BeginsWith, HasFrame, IsRefused, BeginsBad, IsBad, CutInto}
+use Rattle.stream_frame.specs.Frames.{AreBytes, IsFrame, in_stream, all_in_stream, BeginsWith, HasFrame, IsRefusedLength, BeginsBad, IsBad, CutInto}
 
 -- the first four bytes of a frame are its length
 pub number_in_front : (bytes frame rest : List ℕ) → BeginsWith bytes frame rest → take 4 bytes ≡ digits 4 (length frame)
@@ -43,7 +43,7 @@ one_frame bytes frame rest other left b c =
 pub no_frame_is_bad : (bytes frame rest : List ℕ) (n : ℕ) → BeginsWith bytes frame rest → BeginsBad bytes n → ⊥
 no_frame_is_bad bytes frame rest n b r = never (length_in_front bytes frame rest n b r.fits r.begins) r.refused
   where
-    never : length frame ≡ n → IsRefused n → ⊥
+    never : length frame ≡ n → IsRefusedLength n → ⊥
     never e (inl z) = let l = b.is_frame.low in omega (arith, l, e, z)
     never e (inr h) = let l = b.is_frame.high in omega (arith, l, e, h)
 
@@ -99,7 +99,7 @@ wanting_has_none bytes n small e low high few = (
         let same : m ≡ n = same_number 4 m n bm bn (sym b.begins ∙ e) in
         by_cases same b.refused
       where
-        by_cases : m ≡ n → IsRefused m → ⊥
+        by_cases : m ≡ n → IsRefusedLength m → ⊥
         by_cases s (inl z) = omega (arith, s, z, low)
         by_cases s (inr h) = omega (arith, s, h, high)
 
@@ -147,7 +147,7 @@ Decided bytes = HasFrame bytes ⊎ HasNone bytes
 decide_four : (bytes : List ℕ) (n : ℕ) → n < 2 ^ 32 → take 4 bytes ≡ digits 4 n → Decided bytes
 decide_four bytes n small e = by_low (cases_lt 0 n)
   where
-    refused : IsRefused n → Decided bytes
+    refused : IsRefusedLength n → Decided bytes
     refused r = let b : BeginsBad bytes n = record { fits = small; begins = e; refused = r } in
         inr (record { no_frame = λ h. no_frame_is_bad bytes h.0 h.1 n h.2 b; bad_or_few = inl (n, b) })
 

@@ -27,14 +27,14 @@ abbrev pub HasFrame : List ℕ → Type 0
 HasFrame bytes = (frame : List ℕ) × (rest : List ℕ) × BeginsWith bytes frame rest
 
 -- a length that no frame has
-abbrev pub IsRefused : ℕ → Type 0
-IsRefused n = (n ≡ 0) ⊎ (1024 < n)
+abbrev pub IsRefusedLength : ℕ → Type 0
+IsRefusedLength n = (n ≡ 0) ⊎ (1024 < n)
 
 -- bytes begin with the four bytes of a length that no frame has
 pub record BeginsBad (bytes : List ℕ) (n : ℕ) : Type 0 where
   pub fits : n < 2 ^ 32
   pub begins : take 4 bytes ≡ digits 4 n
-  pub refused : IsRefused n
+  pub refused : IsRefusedLength n
 
 abbrev pub IsBad : List ℕ → Type 0
 IsBad bytes = (n : ℕ) × BeginsBad bytes n

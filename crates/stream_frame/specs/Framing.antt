@@ -10,8 +10,8 @@ pub record Framing : Type 0 where
   pub last : List ℕ
   pub is_refused : Bool
 
-abbrev pub fresh : Framing
-fresh = record { held = []; last = []; is_refused = false }
+abbrev pub fresh_framing : Framing
+fresh_framing = record { held = []; last = []; is_refused = false }
 
 -- how many bytes a feed takes at most: 1,028 are held at most, and none is taken after a bad length was answered
 abbrev pub space_of : Bool → List ℕ → ℕ

@@ -3,7 +3,7 @@ use Rattle.std.specs.Prelude.{◌≡◌, ◌≤◌, ℕ, List, ◌∷◌, ◌++�
 use Rattle.stream_frame.specs.declared.frames.Frame.TheVariants.{NotYet, Bad}
 use Rattle.stream_frame.specs.Frames.{AreBytes, IsFrame, all_in_stream, CutInto}
 use Rattle.stream_frame.specs.Framing.{space_of}
-use Rattle.stream_frame.specs.Calls.{Call, Fed, Asked, taken, handed, held, is_refused, AreAnswered}
+use Rattle.stream_frame.specs.Calls.{FrameCall, Fed, Asked, taken_bytes, handed, held_bytes, is_refused, AreAnswered}
 
 -- all bytes are cut into frames and a rest
 abbrev pub SomeCut : Type 0
@@ -14,20 +14,20 @@ abbrev pub AtMostOneCut : Type 0
 AtMostOneCut = (bytes : List ℕ) (frames others : List (List ℕ)) (rest left : List ℕ) → CutInto bytes frames rest → CutInto bytes others left → (frames ≡ others) × (rest ≡ left)
 
 -- after a bad length was answered a feed takes no byte, and each question is answered by this length
-abbrev pub StaysBad : ℕ → Call → Type 0
+abbrev pub StaysBad : ℕ → FrameCall → Type 0
 StaysBad n (Fed piece count) = count ≡ 0
 StaysBad n (Asked answer last) = answer ≡ Bad n
 
-pub record IsExact (calls : List Call) : Type 0 where
+pub record IsExact (calls : List FrameCall) : Type 0 where
   -- what was taken is what was handed out, as frames, and what is held
-  pub whole : taken calls ≡ all_in_stream (handed calls) ++ held calls
+  pub whole : taken_bytes calls ≡ all_in_stream (handed calls) ++ held_bytes calls
   pub are_frames : All IsFrame (handed calls)
-  pub few : length (held calls) ≤ 1028
+  pub few : length (held_bytes calls) ≤ 1028
   -- the frames that were handed out are the first ones of those into which the bytes are cut
-  pub first : (frames : List (List ℕ)) (rest : List ℕ) → CutInto (taken calls) frames rest → (more : List (List ℕ)) × (frames ≡ handed calls ++ more) × CutInto (held calls) more rest
+  pub first : (frames : List (List ℕ)) (rest : List ℕ) → CutInto (taken_bytes calls) frames rest → (more : List (List ℕ)) × (frames ≡ handed calls ++ more) × CutInto (held_bytes calls) more rest
   -- where more bytes are wanted, there is room for at least one
-  pub wanting : (before : List Call) (last : List ℕ) → calls ≡ Asked NotYet last ∷ before → 1 ≤ space_of (is_refused calls) (held calls)
-  pub bad : (call : Call) (last : List ℕ) (n : ℕ) (since before : List Call) → calls ≡ call ∷ (since ++ Asked (Bad n) last ∷ before) → StaysBad n call
+  pub wanting : (before : List FrameCall) (last : List ℕ) → calls ≡ Asked NotYet last ∷ before → 1 ≤ space_of (is_refused calls) (held_bytes calls)
+  pub bad : (call : FrameCall) (last : List ℕ) (n : ℕ) (since before : List FrameCall) → calls ≡ call ∷ (since ++ Asked (Bad n) last ∷ before) → StaysBad n call
 
 abbrev pub EveryChunkingIsExact : Type 0
-EveryChunkingIsExact = (calls : List Call) → AreAnswered calls → IsExact calls
+EveryChunkingIsExact = (calls : List FrameCall) → AreAnswered calls → IsExact calls

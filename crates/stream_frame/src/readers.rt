@@ -3,8 +3,8 @@
 ghost use Rattle.std.specs.Prelude.{◌≡◌, ◌+◌, ◌≤◌, ◌<◌, ◌^◌, ◌++◌, ◌∷◌, ℕ, List, [], false, length, take, drop, get_or, min, IfOk, MatchOption};
 ghost use Rattle.circular_buffer.specs.Buffer.{buffer};
 ghost use Rattle.dcp_types.specs.Values.{digits};
-ghost use Rattle.stream_frame.specs.Framing.{Asks, fresh, space};
-ghost use Rattle.stream_frame.specs.Calls.{Asked, Call, Fed, Stands};
+ghost use Rattle.stream_frame.specs.Framing.{Asks, fresh_framing, space};
+ghost use Rattle.stream_frame.specs.Calls.{Asked, FrameCall, Fed, StandsByCalls};
 
 use crate::frames::{FRAME_ROOM, Frame, LENGTH_SIZE, LONGEST_FRAME};
 use byteorder::{ByteOrder, LittleEndian};
@@ -41,8 +41,8 @@ impl Model for FrameReader {
 impl FrameReader {
     /// A reader at the begin of a stream. It takes all the memory that it needs.
     pub fn new(alloc: Global) -> Result<FrameReader, OutOfMemory>
-        ensures fresh { IfOk result (λ reader. reader ≡ fresh) }
-        ensures stands { IfOk result (λ reader. Stands reader []) }
+        ensures fresh { IfOk result (λ reader. reader ≡ fresh_framing) }
+        ensures stands { IfOk result (λ reader. StandsByCalls reader []) }
     {
         let held = HeapCircularBuffer::with_capacity(alloc, FRAME_ROOM)?;
         Ok(FrameReader {
@@ -58,7 +58,7 @@ impl FrameReader {
     pub fn feed(&mut self, piece: &[u8]) -> usize
         ensures count { result ≡ min (length piece.now) (space self.old) }
         ensures held { self.new ≡ record self.old { held = self.old.held ++ take result piece.now } }
-        ensures stands { (calls : List Call) → Stands self.old calls → Stands self.new (Fed piece.now result ∷ calls) }
+        ensures stands { (calls : List FrameCall) → StandsByCalls self.old calls → StandsByCalls self.new (Fed piece.now result ∷ calls) }
     {
         if self.is_refused {
             return 0;
@@ -72,7 +72,7 @@ impl FrameReader {
     /// exactly where they begin with a length of 0 or above 1,024, and from then on always the same.
     pub fn next_frame(&mut self) -> Frame
         ensures step { Asks self.old self.new result }
-        ensures stands { (calls : List Call) → Stands self.old calls → Stands self.new (Asked result self.new.last ∷ calls) }
+        ensures stands { (calls : List FrameCall) → StandsByCalls self.old calls → StandsByCalls self.new (Asked result self.new.last ∷ calls) }
     {
         let length = match self.announced() {
             None => return Frame::NotYet,

@@ -8,7 +8,7 @@ use Rattle.stream_frame.specs.Frames.{IsFrame, in_stream, all_in_stream, BeginsW
 use Rattle.stream_frame.specs.Framing.{Framing, space}
 use Rattle.stream_links.specs.declared.inlets.Inward.{Inward}
 use Rattle.stream_links.specs.declared.inlets.Inward.TheVariants.{Gram, NotYet, Bad}
-use Rattle.stream_links.specs.Inlets.{Arriving, greets, reads, Feeds, Answers, Receives, with_received}
+use Rattle.stream_links.specs.Inlets.{Arriving, greets, reads, Feeds, AsksForMessage, Receives, with_received}
 use Rattle.stream_links.proofs.Flushing.{take-add}
 
 pub feeds : (old new : Arriving) (piece rest : List ℕ) (first more : ℕ) → first ≡ greets old piece → rest ≡ drop first piece → more ≡ min (length rest) (space old.reader)
@@ -93,7 +93,7 @@ one_more grams gram held left b =
     let one : all_in_stream (grams ++ gram ∷ []) ≡ all ++ in_stream gram = flat_map-append in_stream grams (gram ∷ []) ∙ ap (λ (l : List ℕ). all ++ l) (append-nil (in_stream gram)) in
     ap (λ (l : List ℕ). all ++ l) b.cut ∙ sym (append_assoc all (in_stream gram) left) ∙ ap (λ (l : List ℕ). l ++ left) (sym one)
 
-pub asked_receives : (answer : Inward) (old new : Arriving) → Answers old new answer
+pub asked_receives : (answer : Inward) (old new : Arriving) → AsksForMessage old new answer
     → (bytes : List ℕ) (grams : List (List ℕ)) → Receives old bytes grams → Receives new bytes (with_received answer new grams)
 asked_receives (Gram from) old new a bytes grams r = record {
   greeting = a.1 ∙ r.greeting;

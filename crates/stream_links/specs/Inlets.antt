@@ -2,7 +2,7 @@
 use Rattle.std.specs.Prelude.{◌≡◌, ◌+◌, ◌-◌, ℕ, List, [], ◌∷◌, ◌++◌, length, take, drop, min, All}
 use Rattle.stream_frame.specs.declared.frames.Frame.TheVariants as frame
 use Rattle.stream_frame.specs.Frames.{IsFrame, all_in_stream}
-use Rattle.stream_frame.specs.Framing.{Framing, Asks, fresh, space}
+use Rattle.stream_frame.specs.Framing.{Framing, Asks, fresh_framing, space}
 use Rattle.stream_links.specs.declared.inlets.Inward.{Inward}
 use Rattle.stream_links.specs.declared.inlets.Inward.TheVariants.{Gram, NotYet, Bad}
 use Rattle.stream_links.specs.Greetings.{greeting}
@@ -13,7 +13,7 @@ pub record Arriving : Type 0 where
   pub reader : Framing
 
 abbrev pub fresh_inlet : Arriving
-fresh_inlet = record { greeting = []; reader = fresh }
+fresh_inlet = record { greeting = []; reader = fresh_framing }
 
 -- how many bytes of a piece the greeting still wants
 abbrev pub greets : Arriving → List ℕ → ℕ
@@ -30,10 +30,10 @@ pub record Feeds (old new : Arriving) (piece : List ℕ) (taken : ℕ) : Type 0 
   pub reader : new.reader ≡ record old.reader { held = old.reader.held ++ take (reads old piece) (drop (greets old piece) piece) }
 
 -- what a question for a message does: nothing while the greeting is not whole, and then what a question for a frame does
-abbrev pub Answers : Arriving → Arriving → Inward → Type 0
-Answers old new (Gram from) = (greeting from ≡ old.greeting) × (new.greeting ≡ old.greeting) × Asks old.reader new.reader frame.Whole
-Answers old new NotYet = (new ≡ old) × (length old.greeting ≡ 6 → Asks old.reader new.reader frame.NotYet)
-Answers old new (Bad n) = (length old.greeting ≡ 6) × (new.greeting ≡ old.greeting) × Asks old.reader new.reader (frame.Bad n)
+abbrev pub AsksForMessage : Arriving → Arriving → Inward → Type 0
+AsksForMessage old new (Gram from) = (greeting from ≡ old.greeting) × (new.greeting ≡ old.greeting) × Asks old.reader new.reader frame.Whole
+AsksForMessage old new NotYet = (new ≡ old) × (length old.greeting ≡ 6 → Asks old.reader new.reader frame.NotYet)
+AsksForMessage old new (Bad n) = (length old.greeting ≡ 6) × (new.greeting ≡ old.greeting) × Asks old.reader new.reader (frame.Bad n)
 
 -- The bytes that an inlet took are six of a greeting, or the first of them, and then the frames of the messages that it handed out followed by the bytes that
 -- it holds.

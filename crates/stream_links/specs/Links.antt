@@ -13,7 +13,7 @@ use Rattle.stream_links.specs.declared.links.Flushed.TheVariants as flushed
 use Rattle.stream_links.specs.Greetings.{greeting}
 
 -- a link: its sink, and the bytes that wait to be written
-pub record Outbox (K : Type 0) : Type 0 where
+pub record LinkOutbox (K : Type 0) : Type 0 where
   pub sink : K
   pub waits : List ℕ
 
@@ -26,7 +26,7 @@ pub record Carries (start now : Option (List ℕ)) (waits : List ℕ) (from : Ad
 
 module _ {K : Type 0} where
   -- a message is taken exactly where 65,536 bytes hold what waits and its frame, and else nothing changes
-  abbrev pub Posts : Outbox K → Outbox K → List ℕ → Posted → Type 0
+  abbrev pub Posts : LinkOutbox K → LinkOutbox K → List ℕ → Posted → Type 0
   Posts old new pdu posted.Taken = (length old.waits + (4 + length pdu) ≤ 65536) × (new ≡ record old { waits = old.waits ++ in_stream pdu })
   Posts old new pdu posted.Full = (65536 < length old.waits + (4 + length pdu)) × (new ≡ old)
 
@@ -53,11 +53,11 @@ WritesFront old new before now waited waits (written.Wrote n) = (1 ≤ n) × (n 
 WritesFront old new before now waited waits written.Failed = Keeps old new × (waits ≡ waited) × (before ≤ now) × Rose before now
 
 -- a flush is empty exactly where nothing waits afterwards
-abbrev pub Ends : List ℕ → Flushed → Type 0
-Ends waits flushed.Empty = waits ≡ []
-Ends waits flushed.Failed = 1 ≤ length waits
+abbrev pub EndsFlush : List ℕ → Flushed → Type 0
+EndsFlush waits flushed.Empty = waits ≡ []
+EndsFlush waits flushed.Failed = 1 ≤ length waits
 
 -- a flush fails only where the count of faults rose
-abbrev pub Fails : (before now : ℕ) → Flushed → Type 0
-Fails before now flushed.Empty = now ≡ before
-Fails before now flushed.Failed = (before ≤ now) × Rose before now
+abbrev pub FailsFlush : (before now : ℕ) → Flushed → Type 0
+FailsFlush before now flushed.Empty = now ≡ before
+FailsFlush before now flushed.Failed = (before ≤ now) × Rose before now

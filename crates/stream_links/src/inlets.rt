@@ -1,7 +1,7 @@
 //! What the receiver of one connection reads.
 
 ghost use Rattle.std.specs.Prelude.{◌≡◌, ◌-◌, ◌++◌, ℕ, List, [], length, take, min, IfOk};
-ghost use Rattle.stream_links.specs.Inlets.{Answers, Feeds, Receives, fresh_inlet, with_received};
+ghost use Rattle.stream_links.specs.Inlets.{AsksForMessage, Feeds, Receives, fresh_inlet, with_received};
 
 use crate::greetings::{GREETING_SIZE, greeting_in};
 use dcp_types::{Address, OutOfMemory};
@@ -69,7 +69,7 @@ impl Inlet {
     /// NotYet while the greeting is not whole; then Gram where a frame is whole, and Bad and NotYet as a
     /// reader of frames answers them.
     pub fn next_gram(&mut self) -> Inward
-        ensures step { Answers self.old self.new result }
+        ensures step { AsksForMessage self.old self.new result }
         ensures receives { (bytes : List ℕ) (grams : List (List ℕ)) → Receives self.old bytes grams → Receives self.new bytes (with_received result self.new grams) }
     {
         if self.greeted < GREETING_SIZE {

@@ -1,10 +1,10 @@
 //! The outbox of one connection.
 
-ghost use Rattle.std.specs.Prelude.{◌≡◌, ◌<◌, ◌≤◌, ◌++◌, ℕ, List, [], Option, length, take, drop, nat_eq, IfOk, IsTrue, ◌↔◌};
+ghost use Rattle.std.specs.Prelude.{◌≡◌, ◌<◌, ◌≤◌, ◌++◌, ℕ, List, [], Option, length, IfOk, IsTrue, ◌↔◌};
 ghost use Rattle.dcp_types.specs.declared.addresses.Address.{Address as Sender};
 ghost use Rattle.stream_frame.specs.Frames.{IsFrame};
 ghost use Rattle.stream_links.specs.Greetings.{greeting};
-ghost use Rattle.stream_links.specs.Links.{Carries, Ends, Fails, Front, Posts, Sent, WritesFront, with_posted};
+ghost use Rattle.stream_links.specs.Links.{Carries, EndsFlush, FailsFlush, Front, Posts, Sent, WritesFront, with_posted};
 
 use crate::greetings::greeting_bytes;
 use circular_buffer::HeapCircularBuffer;
@@ -45,9 +45,9 @@ pub struct Link<K: Sink> {
 
 impl<K: Sink> Model for Link<K> {
     ghost use Rattle.std.specs.Prelude.{◌≡◌};
-    ghost use Rattle.stream_links.specs.Links.{Outbox};
+    ghost use Rattle.stream_links.specs.Links.{LinkOutbox};
 
-    ghost Value = { Outbox K };
+    ghost Value = { LinkOutbox K };
 
     ghost view = { λ l. record { sink = l.sink; waits = l.waiting.items } };
 
@@ -92,8 +92,8 @@ impl<K: Sink> Link<K> {
     /// Empty exactly where nothing waits afterwards; Failed only where the sink's count of faults rose.
     pub fn flush(&mut self) -> Flushed
         ensures sent { Sent (K.written self.old.sink) (K.written self.new.sink) self.old.waits self.new.waits }
-        ensures left { Ends self.new.waits result }
-        ensures cause { Fails (K.faults self.old.sink) (K.faults self.new.sink) result }
+        ensures left { EndsFlush self.new.waits result }
+        ensures cause { FailsFlush (K.faults self.old.sink) (K.faults self.new.sink) result }
         ensures carries { (start : Option (List ℕ)) (from : Sender) (messages : List (List ℕ))
             → Carries start (K.written self.old.sink) self.old.waits from messages
             → Carries start (K.written self.new.sink) self.new.waits from messages }

@@ -11,13 +11,13 @@ use Rattle.slave_desc.specs.Descriptions.{IsDesc}
 use Rattle.talk_text.specs.Talks.{IsTalk}
 use Rattle.text_lines.specs.Readings.{FirstBad, IsFirstBad, ReadsOrRefused}
 use Rattle.talk_text.specs.Judging.{talk_why_at}
-use Rattle.talk_text.specs.Machine.{start, take_line, finished}
+use Rattle.talk_text.specs.Machine.{stage_at_start, take_talk_line, talk_finished}
 use Rattle.talk_text.specs.declared.events.Talk.{Talk}
 use Rattle.talk_text.proofs.Judged.{reads, first_bad, talk_desc}
 use Rattle.talk_text.proofs.Apart.{talk_not_bad, one_talk}
 
 abbrev pub meant : List ℕ → Result Talk TextFault
-meant text = run_of take_line finished 1 start (lines text)
+meant text = run_of take_talk_line talk_finished 1 stage_at_start (lines text)
 
 pub answered_ok : (text : List ℕ) (r : Result Talk TextRefused) → GivesText r (meant text) → IfOk r (λ t. IsTalk text t)
 answered_ok text (Ok t) e = reads text t e

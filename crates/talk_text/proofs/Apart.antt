@@ -21,11 +21,11 @@ use Rattle.text_lines.specs.declared.reasons.TextWhy.TheVariants as why
 use Rattle.text_lines.proofs.Runs.{one_first}
 use Rattle.desc_text.specs.Judging.{why_end}
 use Rattle.desc_text.specs.Said.{item_of_words, item_in, items_in}
-use Rattle.desc_text.specs.Reads.{is_read, Describes}
+use Rattle.desc_text.specs.Reads.{is_desc_read, Describes}
 use Rattle.desc_text.specs.declared.items.Item.{Item}
 use Rattle.desc_text.proofs.Apart.{not_line, end_none, one_desc}
 use Rattle.talk_text.specs.Talks.{IsTalk}
-use Rattle.talk_text.specs.Judging.{first_is, is_begin, has_begun, why_more, why_event, why_entry, talk_why_at}
+use Rattle.talk_text.specs.Judging.{first_is, is_begin, has_begun, why_more, why_event, why_talk_entry, talk_why_at}
 use Rattle.talk_text.specs.declared.events.Talk.{Talk}
 use Rattle.talk_text.proofs.Judged.{at_next, at_end, in_block, in_events}
 use Rattle.talk_text.proofs.WholeLines.{AreLines, are_lines}
@@ -42,7 +42,7 @@ unread true true (w ∷ ws) f e =
     absurd (false≢true (ap (λ (v : List ℕ). is_skipped (v ∷ ws) || is_some (item_of_words (v ∷ ws))) (sym is) ∙ e))
 
 -- a line of a description does not close it
-read_stays : (line : List ℕ) → is_read line ≡ true → is_begin line ≡ false
+read_stays : (line : List ℕ) → is_desc_read line ≡ true → is_begin line ≡ false
 read_stays line e = unread (is_utf8 line) (first_is (codes "begin") (words line)) (words line) refl e
 
 begun_after : (block : List (List ℕ)) (begin : List ℕ) (more : List (List ℕ)) → is_begin begin ≡ true → has_begun (block ++ begin ∷ more) ≡ true
@@ -57,7 +57,7 @@ after_all : (before after : List (List ℕ)) → AreLines (before ++ after) → 
 after_all [] after h = h
 after_all (line ∷ before) after h = after_all before after h.1
 
-line_at : (all done : List (List ℕ)) (line : List ℕ) (rest : List (List ℕ)) (k : ℕ) → all ≡ done ++ line ∷ rest → length done ≡ k → talk_why_at all (k + 1) ≡ why_entry (Some line) done
+line_at : (all done : List (List ℕ)) (line : List ℕ) (rest : List (List ℕ)) (k : ℕ) → all ≡ done ++ line ∷ rest → length done ≡ k → talk_why_at all (k + 1) ≡ why_talk_entry (Some line) done
 line_at all done line rest k whole at =
     ap (λ (l : List (List ℕ)). talk_why_at l (k + 1)) whole ∙ ap (λ (n : ℕ). talk_why_at (done ++ line ∷ rest) (n + 1)) (sym at) ∙ at_next done line rest
 

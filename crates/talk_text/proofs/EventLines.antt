@@ -8,13 +8,13 @@ use Rattle.std.proofs.lemmas.Slice.Eq.{bytes_eq-Decides}
 use Rattle.pdu_layout.specs.Message.{Message}
 use Rattle.pdu_layout.specs.Reading.{spelling}
 use Rattle.pdu_layout.specs.Table.{Row, table}
-use Rattle.pdu_text.specs.Lines.{code_in, code_named}
+use Rattle.pdu_text.specs.Lines.{code_in_rows, code_named}
 use Rattle.pdu_text.specs.Machine.{text_said}
-use Rattle.pdu_text.specs.Reading.{Reads}
+use Rattle.pdu_text.specs.Reading.{ReadsMessage}
 use Rattle.pdu_text.specs.declared.reasons.PduTextWhy.{PduTextWhy}
 use Rattle.pdu_text.proofs.Judged.{reads_said}
 use Rattle.text_lines.specs.Texts.{words, is_skipped}
-use Rattle.talk_text.specs.Talks.{Says, SayAll}
+use Rattle.talk_text.specs.Talks.{SaysEvents, SayAll}
 use Rattle.talk_text.specs.Judging.{first_is, why_event}
 use Rattle.talk_text.specs.declared.events.TalkEvent.{TalkEvent}
 use Rattle.talk_text.specs.declared.events.TalkEvent.TheVariants as talk
@@ -38,11 +38,11 @@ name_here : (row : Row) (word : List ℕ) (code : ℕ) (later : Option ℕ) (b :
 name_here row word code later true h more is e = ap is_name ((bytes_eq-Decides word row.name).0 is) ∙ h
 name_here row word code later false h more is e = more e
 
-name_in : (rows : List Row) (word : List ℕ) (code : ℕ) → list_all has_name rows ≡ true → code_in rows word ≡ Some code → is_name word ≡ true
+name_in : (rows : List Row) (word : List ℕ) (code : ℕ) → list_all has_name rows ≡ true → code_in_rows rows word ≡ Some code → is_name word ≡ true
 name_in [] word code h e = absurd cc
 name_in (row ∷ rows) word code h e =
     let t = and_parts (has_name row) (list_all has_name rows) h in
-    name_here row word code (code_in rows word) (bytes_eq word row.name) t.0 (λ later. name_in rows word code t.1 later) refl e
+    name_here row word code (code_in_rows rows word) (bytes_eq word row.name) t.0 (λ later. name_in rows word code t.1 later) refl e
 
 names_message : (word : List ℕ) (code : ℕ) → code_named word ≡ Some code → is_name word ≡ true
 unfolding code_named
@@ -53,7 +53,7 @@ isnt true e = absurd cc
 isnt false e = refl
 
 -- a line that reads as a message is neither skipped nor a turn
-message_line : (line : List ℕ) (m : Message) → IsLine line → Reads line m → (is_skipped (words line) ≡ false) × (first_is (codes "turn") (words line) ≡ false)
+message_line : (line : List ℕ) (m : Message) → IsLine line → ReadsMessage line m → (is_skipped (words line) ≡ false) × (first_is (codes "turn") (words line) ≡ false)
 message_line line m h r =
     let ws : words line ≡ r.name ∷ r.given = sym (one_line line h) ∙ r.line in
     let name = and_parts (not (eqb (slice_index r.name 0) 35)) (not (bytes_eq r.name (codes "turn"))) (names_message r.name m.code r.named) in
@@ -70,7 +70,7 @@ events_on line =
     if is_skipped (words line) then []
     else (if first_is (codes "turn") (words line) then talk.Turn ∷ [] else message_on (text_said line))
 
-says_on : (line : List ℕ) (es : List TalkEvent) → IsLine line → Says line es → es ≡ events_on line
+says_on : (line : List ℕ) (es : List TalkEvent) → IsLine line → SaysEvents line es → es ≡ events_on line
 says_on line [] h s = rw s refl
 says_on line (talk.Turn ∷ []) h s = rw s refl
 says_on line (talk.Message bytes ∷ []) h s =
@@ -85,7 +85,7 @@ say_on (line ∷ ls) events h s =
 
 -- ---- what says something is right
 
-says_right : (line : List ℕ) (es : List TalkEvent) → IsLine line → is_utf8 line ≡ true → Says line es → why_event line ≡ None
+says_right : (line : List ℕ) (es : List TalkEvent) → IsLine line → is_utf8 line ≡ true → SaysEvents line es → why_event line ≡ None
 says_right line [] h u s = rw (u, s) refl
 says_right line (talk.Turn ∷ []) h u s = rw (u, s) refl
 says_right line (talk.Message bytes ∷ []) h u s =

@@ -30,17 +30,17 @@ use Rattle.desc_text.specs.Judging as block
 use Rattle.desc_text.specs.Judging.{why_end}
 use Rattle.desc_text.specs.Said.{items_in}
 use Rattle.desc_text.specs.Machine as machine
-use Rattle.desc_text.specs.Reads.{is_read}
+use Rattle.desc_text.specs.Reads.{is_desc_read}
 use Rattle.desc_text.proofs.Held.{Holds, holds_nothing}
 use Rattle.desc_text.proofs.Judged.{HoldsLines, line_ok, line_err, end_ok, end_err, items_push, slice_get-at, unless_ok}
 use Rattle.desc_text.proofs.Apart.{end_none}
 use Rattle.desc_text.proofs.Ranges.{items_desc}
 use Rattle.desc_text.specs.declared.items.Item.{Item}
 use Rattle.desc_text.specs.declared.partials.Partial.{Partial}
-use Rattle.talk_text.specs.Talks.{AreTalk, IsTalk, Says, SayAll}
+use Rattle.talk_text.specs.Talks.{AreTalk, IsTalk, SaysEvents, SayAll}
 use Rattle.talk_text.proofs.Messages.{tells}
-use Rattle.talk_text.specs.Judging.{first_is, is_begin, has_begun, why_more, why_block, why_message, why_event, why_entry, talk_why_at}
-use Rattle.talk_text.specs.Machine.{opened, begun, kept, message_event, event_said, added, take_line, finished, start}
+use Rattle.talk_text.specs.Judging.{first_is, is_begin, has_begun, why_more, why_talk_block, why_message, why_event, why_talk_entry, talk_why_at}
+use Rattle.talk_text.specs.Machine.{talk_opened, stage_begun, block_kept, message_event, event_said, added, take_talk_line, talk_finished, stage_at_start}
 use Rattle.talk_text.specs.declared.events.Talk.{Talk}
 use Rattle.talk_text.specs.declared.events.TalkEvent.{TalkEvent}
 use Rattle.talk_text.specs.declared.events.TalkEvent.TheVariants as talk
@@ -71,12 +71,12 @@ first_word word (w ∷ v ∷ ws) e m = absurd (more ws m)
 
 -- ---- the events
 
-say_more : (ls : List (List ℕ)) (line : List ℕ) (events es : List TalkEvent) → SayAll ls events → is_utf8 line ≡ true → Says line es → SayAll (ls ++ line ∷ []) (events ++ es)
+say_more : (ls : List (List ℕ)) (line : List ℕ) (events es : List TalkEvent) → SayAll ls events → is_utf8 line ≡ true → SaysEvents line es → SayAll (ls ++ line ∷ []) (events ++ es)
 say_more [] line events es h u s = (es, [], ap (λ (x : List TalkEvent). x ++ es) h ∙ sym (append-nil es), u, s, refl)
 say_more (l ∷ ls) line events es h u s =
     (h.0, h.1 ++ es, ap (λ (x : List TalkEvent). x ++ es) h.2 ∙ append_assoc h.0 h.1 es, h.3, h.4, say_more ls line h.1 es h.5 u s)
 
-talk_more : (done : List (List ℕ)) (line : List ℕ) (t : Talk) (es : List TalkEvent) → AreTalk done t → is_utf8 line ≡ true → Says line es
+talk_more : (done : List (List ℕ)) (line : List ℕ) (t : Talk) (es : List TalkEvent) → AreTalk done t → is_utf8 line ≡ true → SaysEvents line es
     → AreTalk (done ++ line ∷ []) (record t { events = t.events ++ es })
 talk_more done line t es a u s = record {
   block = a.block;
@@ -92,12 +92,12 @@ talk_more done line t es a u s = record {
 
 -- ---- what the judging says after the lines that are done
 
-pub at_next : (done : List (List ℕ)) (line : List ℕ) (rest : List (List ℕ)) → talk_why_at (done ++ line ∷ rest) (length done + 1) ≡ why_entry (Some line) done
+pub at_next : (done : List (List ℕ)) (line : List ℕ) (rest : List (List ℕ)) → talk_why_at (done ++ line ∷ rest) (length done + 1) ≡ why_talk_entry (Some line) done
 at_next done line rest =
     let before : length done + 1 - 1 ≡ length done = omega arith in
     rw (before, slice_get-at done line rest, take_at done (line ∷ rest) (length done) refl) refl
 
-pub at_end : (done : List (List ℕ)) → talk_why_at done (length done + 1) ≡ why_entry None done
+pub at_end : (done : List (List ℕ)) → talk_why_at done (length done + 1) ≡ why_talk_entry None done
 at_end done =
     let before : length done + 1 - 1 ≡ length done = omega arith in
     rw (before, slice_get_past done (length done) (omega arith), take-length done) refl
@@ -106,13 +106,13 @@ began : (done : List (List ℕ)) (line : List ℕ) → has_begun (done ++ line �
 began done line = list_any-append is_begin done (line ∷ []) ∙ ap (λ (b : Bool). has_begun done || b) (or-false (is_begin line))
 
 pub in_block : (done : List (List ℕ)) (line : List ℕ) (b : Bool) → has_begun done ≡ false → is_begin line ≡ b
-    → why_entry (Some line) done ≡ (if b then or_else (why_end (items_in done)) (why_more (words line)) else block.why_line (items_in done) line)
+    → why_talk_entry (Some line) done ≡ (if b then or_else (why_end (items_in done)) (why_more (words line)) else block.why_line (items_in done) line)
 in_block done line b h e =
-    ap (λ (x : Bool). cond x (why_event line) (why_block done line)) h
+    ap (λ (x : Bool). cond x (why_event line) (why_talk_block done line)) h
     ∙ ap (λ (x : Bool). cond x (or_else (why_end (items_in done)) (why_more (words line))) (block.why_line (items_in done) line)) e
 
-pub in_events : (done : List (List ℕ)) (line : List ℕ) → has_begun done ≡ true → why_entry (Some line) done ≡ why_event line
-in_events done line h = ap (λ (x : Bool). cond x (why_event line) (why_block done line)) h
+pub in_events : (done : List (List ℕ)) (line : List ℕ) → has_begun done ≡ true → why_talk_entry (Some line) done ≡ why_event line
+in_events done line h = ap (λ (x : Bool). cond x (why_event line) (why_talk_block done line)) h
 
 -- ---- a line of the block
 
@@ -123,18 +123,18 @@ abbrev events : SlaveDesc → Stage
 events d = Events (record { desc = d; events = [] })
 
 module _ (done rest : List (List ℕ)) (line : List ℕ) (p : Partial) (h : HoldsLines done p) (not_yet : has_begun done ≡ false) where
-  block_more : is_begin line ≡ false → (t : Stage) → (machine.take_line p line >>= kept) ≡ Ok t → Took done line rest t
+  block_more : is_begin line ≡ false → (t : Stage) → (machine.take_line p line >>= block_kept) ≡ Ok t → Took done line rest t
   block_more isnt t e =
-      let q = bind_ok (machine.take_line p line) kept t e in
+      let q = bind_ok (machine.take_line p line) block_kept t e in
       let took = line_ok (items_in done) p h.0 line q.0 q.1 in
       let holds : HoldsLines (done ++ line ∷ []) q.0 =
-      (subst (λ (l : List Item). Holds l q.0) (sym (items_push done line)) took.2, All-push (λ line. is_read line ≡ true) done line h.1 took.1) in
+      (subst (λ (l : List Item). Holds l q.0) (sym (items_push done line)) took.2, All-push (λ line. is_desc_read line ≡ true) done line h.1 took.1) in
       let still : has_begun (done ++ line ∷ []) ≡ false = began done line ∙ ap (λ (b : Bool). b || is_begin line) not_yet ∙ isnt in
       (at_next done line rest ∙ in_block done line false not_yet isnt ∙ took.0, subst (HoldsStage (done ++ line ∷ [])) (given_same (Block q.0) t q.2) (holds, still))
 
-  block_closed : is_begin line ≡ true → (t : Stage) → begun p (words line) ≡ Ok t → Took done line rest t
+  block_closed : is_begin line ≡ true → (t : Stage) → stage_begun p (words line) ≡ Ok t → Took done line rest t
   block_closed is t e =
-      let q = bind_ok (machine.finished p) (opened (words line)) t e in
+      let q = bind_ok (machine.finished p) (talk_opened (words line)) t e in
       let describes = end_ok (items_in done) p h.0 q.0 q.1 in
       let o = unless_ok (why_more (words line)) (given (events q.0)) t q.2 in
       let parts = and_parts (is_utf8 line) (first_is (codes "begin") (words line)) is in
@@ -158,11 +158,11 @@ module _ (done rest : List (List ℕ)) (line : List ℕ) (p : Partial) (h : Hold
         ),
       )
 
-  block_took : (b : Bool) → is_begin line ≡ b → (t : Stage) → (if b then begun p (words line) else (machine.take_line p line >>= kept)) ≡ Ok t → Took done line rest t
+  block_took : (b : Bool) → is_begin line ≡ b → (t : Stage) → (if b then stage_begun p (words line) else (machine.take_line p line >>= block_kept)) ≡ Ok t → Took done line rest t
   block_took true is t e = block_closed is t e
   block_took false is t e = block_more is t e
 
-  kept_never : (r : Result Partial TextWhy) (w : TextWhy) → (r >>= kept) ≡ Err w → r ≡ Err w
+  kept_never : (r : Result Partial TextWhy) (w : TextWhy) → (r >>= block_kept) ≡ Err w → r ≡ Err w
   kept_never (Ok q) w e = absurd cc
   kept_never (Err v) w e = cc
 
@@ -170,14 +170,14 @@ module _ (done rest : List (List ℕ)) (line : List ℕ) (p : Partial) (h : Hold
   unopened None s w e = absurd cc
   unopened (Some v) s w e = cc
 
-  closed_by : (r : Result SlaveDesc TextWhy) (w : TextWhy) → machine.finished p ≡ r → (r >>= opened (words line)) ≡ Err w → or_else (why_end (items_in done)) (why_more (words line)) ≡ Some w
+  closed_by : (r : Result SlaveDesc TextWhy) (w : TextWhy) → machine.finished p ≡ r → (r >>= talk_opened (words line)) ≡ Err w → or_else (why_end (items_in done)) (why_more (words line)) ≡ Some w
   closed_by (Ok d) w is e =
       ap (λ (x : Option TextWhy). or_else x (why_more (words line))) (end_none (items_in done) d (end_ok (items_in done) p h.0 d is)) ∙ unopened (why_more (words line)) (events d) w e
   closed_by (Err v) w is e =
       let same : v ≡ w = cc in
       ap (λ (x : Option TextWhy). or_else x (why_more (words line))) (end_err (items_in done) p h.0 v is) ∙ ap (λ (x : TextWhy). Some x) same
 
-  block_refused : (b : Bool) → is_begin line ≡ b → (w : TextWhy) → (if b then begun p (words line) else (machine.take_line p line >>= kept)) ≡ Err w
+  block_refused : (b : Bool) → is_begin line ≡ b → (w : TextWhy) → (if b then stage_begun p (words line) else (machine.take_line p line >>= block_kept)) ≡ Err w
       → talk_why_at (done ++ line ∷ rest) (length done + 1) ≡ Some w
   block_refused true is w e = at_next done line rest ∙ in_block done line true not_yet is ∙ closed_by (machine.finished p) w refl e
   block_refused false is w e = at_next done line rest ∙ in_block done line false not_yet is ∙ line_err (items_in done) p h.0 line w (kept_never (machine.take_line p line) w e)
@@ -191,7 +191,7 @@ module _ (done rest : List (List ℕ)) (line : List ℕ) (t : Talk) (a : AreTalk
   now : has_begun (done ++ line ∷ []) ≡ true
   now = began done line ∙ ap (λ (b : Bool). b || is_begin line) yet
 
-  event_more : (e : TalkEvent) (s : Stage) → is_utf8 line ≡ true → Says line (e ∷ []) → added t e ≡ given s → HoldsStage (done ++ line ∷ []) s
+  event_more : (e : TalkEvent) (s : Stage) → is_utf8 line ≡ true → SaysEvents line (e ∷ []) → added t e ≡ given s → HoldsStage (done ++ line ∷ []) s
   event_more e s u says is =
       subst (HoldsStage (done ++ line ∷ [])) (given_same (Events (record t { events = t.events ++ e ∷ [] })) s is) (talk_more done line t (e ∷ []) a u says, now)
 
@@ -243,26 +243,26 @@ module _ (done rest : List (List ℕ)) (line : List ℕ) (t : Talk) (a : AreTalk
 
 -- ---- the whole text
 
-owes_taken : (done rest : List (List ℕ)) (line : List ℕ) (s t : Stage) → HoldsStage done s → take_line s line ≡ Ok t → Took done line rest t
+owes_taken : (done rest : List (List ℕ)) (line : List ℕ) (s t : Stage) → HoldsStage done s → take_talk_line s line ≡ Ok t → Took done line rest t
 owes_taken done rest line (Block p) t h e = block_took done rest line p h.0 h.1 (is_begin line) refl t e
 owes_taken done rest line (Events a) t h e =
     let k = event_took done rest line a h.0 h.1 (is_utf8 line) (is_skipped (words line)) refl refl t e in
     (at_next done line rest ∙ in_events done line h.1 ∙ k.0, k.1)
 
-owes_refused : (done rest : List (List ℕ)) (line : List ℕ) (s : Stage) (w : TextWhy) → HoldsStage done s → take_line s line ≡ Err w → talk_why_at (done ++ line ∷ rest) (length done + 1) ≡ Some w
+owes_refused : (done rest : List (List ℕ)) (line : List ℕ) (s : Stage) (w : TextWhy) → HoldsStage done s → take_talk_line s line ≡ Err w → talk_why_at (done ++ line ∷ rest) (length done + 1) ≡ Some w
 owes_refused done rest line (Block p) w h e = block_refused done rest line p h.0 h.1 (is_begin line) refl w e
 owes_refused done rest line (Events a) w h e = at_next done line rest ∙ in_events done line h.1 ∙ event_refused done rest line a h.0 h.1 (is_utf8 line) (is_skipped (words line)) w e
 
-owes_end : (done : List (List ℕ)) (s : Stage) (w : TextWhy) → HoldsStage done s → finished s ≡ Err w → talk_why_at done (length done + 1) ≡ Some w
+owes_end : (done : List (List ℕ)) (s : Stage) (w : TextWhy) → HoldsStage done s → talk_finished s ≡ Err w → talk_why_at done (length done + 1) ≡ Some w
 owes_end done (Block p) w h e =
     let same : why.Missing ≡ w = cc in
     at_end done ∙ ap (λ (x : Bool). cond x None (Some why.Missing)) h.1 ∙ ap (λ (x : TextWhy). Some x) same
 owes_end done (Events a) w h e = absurd cc
 
-judges : Judges take_line finished talk_why_at HoldsStage
+judges : Judges take_talk_line talk_finished talk_why_at HoldsStage
 judges = record { taken = owes_taken; refused = owes_refused; ended = owes_end }
 
-at_last : (done : List (List ℕ)) (s : Stage) (t : Talk) → HoldsStage done s → finished s ≡ Ok t → AreTalk done t
+at_last : (done : List (List ℕ)) (s : Stage) (t : Talk) → HoldsStage done s → talk_finished s ≡ Ok t → AreTalk done t
 at_last done (Block p) t h e = absurd cc
 at_last done (Events a) t h e = subst (AreTalk done) (given_same a t e) h.0
 
@@ -270,13 +270,13 @@ holds_none : HoldsLines [] machine.nothing
 holds_none = (holds_nothing, λ k x below. absurd (omega arith))
 
 -- the two answers
-pub reads : (text : List ℕ) (t : Talk) → run_of take_line finished 1 start (lines text) ≡ Ok t → IsTalk text t
+pub reads : (text : List ℕ) (t : Talk) → run_of take_talk_line talk_finished 1 stage_at_start (lines text) ≡ Ok t → IsTalk text t
 reads text t e =
-    let r = run_ok take_line finished talk_why_at HoldsStage judges [] (lines text) start t (holds_none, refl) e in
+    let r = run_ok take_talk_line talk_finished talk_why_at HoldsStage judges [] (lines text) stage_at_start t (holds_none, refl) e in
     at_last (lines text) r.0 t r.1 r.2
 
-pub first_bad : (text : List ℕ) (f : TextFault) → run_of take_line finished 1 start (lines text) ≡ Err f → FirstBad talk_why_at text f.line f.why
-first_bad text f e = run_err take_line finished talk_why_at HoldsStage judges [] (lines text) start f (holds_none, refl) (λ n below some. absurd (omega arith)) e
+pub first_bad : (text : List ℕ) (f : TextFault) → run_of take_talk_line talk_finished 1 stage_at_start (lines text) ≡ Err f → FirstBad talk_why_at text f.line f.why
+first_bad text f e = run_err take_talk_line talk_finished talk_why_at HoldsStage judges [] (lines text) stage_at_start f (holds_none, refl) (λ n below some. absurd (omega arith)) e
 
 pub talk_desc : (text : List ℕ) (t : Talk) → IsTalk text t → IsDesc t.desc
 talk_desc text t a = items_desc a.block t.desc a.describes

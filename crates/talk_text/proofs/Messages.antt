@@ -3,7 +3,7 @@ use Rattle.std.proofs.Common.{◌≡◌, ℕ, List, Ok, Err, ap, sym, subst, ◌
 use Rattle.pdu_layout.specs.Message.{Message, Spells}
 use Rattle.pdu_layout.specs.Reading.{spelling}
 use Rattle.pdu_text.specs.Takers.{ReadsAndSpells}
-use Rattle.pdu_text.specs.Refusals.{Refused}
+use Rattle.pdu_text.specs.Refusals.{RefusedFor}
 use Rattle.pdu_text.specs.Machine.{text_said}
 use Rattle.pdu_text.specs.declared.reasons.PduTextWhy.{PduTextWhy}
 use Rattle.pdu_text.proofs.Judged.{reads_said, said_reads, refused_said}
@@ -20,7 +20,7 @@ pub message_is : (line bytes : List ℕ) → ReadsAndSpells line bytes → messa
 message_is line bytes h =
     ap message_event (reads_said line h.message h.reads) ∙ ap (λ (b : List ℕ). given (talk.Message b)) (sym (spelled_is h.message bytes h.spells))
 
-pub message_refused : (line : List ℕ) (why : PduTextWhy) → Refused line why → message_event (text_said line) ≡ Err (why_of why)
+pub message_refused : (line : List ℕ) (why : PduTextWhy) → RefusedFor line why → message_event (text_said line) ≡ Err (why_of why)
 message_refused line why h = ap message_event (refused_said line why h)
 
 pub tells : (line : List ℕ) (m : Message) → text_said line ≡ Ok m → ReadsAndSpells line (spelling m)

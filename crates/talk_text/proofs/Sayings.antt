@@ -6,7 +6,7 @@ use Rattle.std.proofs.lemmas.List.{map-append, take_more}
 use Rattle.std.proofs.lemmas.Grind.{flat_map-append}
 use Rattle.dcp_ends.specs.Events.{Event, Send, Rules}
 use Rattle.pdu_layout.specs.Reading.{message_in}
-use Rattle.talk_text.specs.Talks.{event_of}
+use Rattle.talk_text.specs.Talks.{event_of_talk}
 use Rattle.talk_text.specs.Saying.{sends_over, line_shown, lines_shown}
 use Rattle.talk_text.specs.declared.events.TalkEvent.{TalkEvent}
 
@@ -41,34 +41,34 @@ line_more outs i to old before after e b a =
 -- ---- one more event
 
 pub record Going (rules : Rules) (stands : List Event → Type 0) (events : List TalkEvent) (i : ℕ) (before : List Event) (old text : List ℕ) : Type 0 where
-  pub at : stands (before ++ map event_of (take i events))
-  pub same : text ++ lines_shown (sends_over rules (before ++ map event_of (take i events)) (map event_of (drop i events))) ≡ old ++ lines_shown (sends_over rules before (map event_of events))
+  pub at : stands (before ++ map event_of_talk (take i events))
+  pub same : text ++ lines_shown (sends_over rules (before ++ map event_of_talk (take i events)) (map event_of_talk (drop i events))) ≡ old ++ lines_shown (sends_over rules before (map event_of_talk events))
 
 module _ (events : List TalkEvent) (i : ℕ) (e : TalkEvent) (h : i < length events) (is : e ≡ get_or events i e) (before : List Event) where
-  done_more : before ++ map event_of (take (i + 1) events) ≡ (before ++ map event_of (take i events)) ++ event_of e ∷ []
+  done_more : before ++ map event_of_talk (take (i + 1) events) ≡ (before ++ map event_of_talk (take i events)) ++ event_of_talk e ∷ []
   done_more =
-      let f : List TalkEvent → List Event = λ l. before ++ map event_of l in
+      let f : List TalkEvent → List Event = λ l. before ++ map event_of_talk l in
       let g : List Event → List Event = λ l. before ++ l in
       ap f (take_more events i e h ∙ ap (λ (x : TalkEvent). take i events ++ x ∷ []) (sym is))
-      ∙ ap g (map-append event_of (take i events) (e ∷ []))
-      ∙ sym (append_assoc before (map event_of (take i events)) (event_of e ∷ []))
+      ∙ ap g (map-append event_of_talk (take i events) (e ∷ []))
+      ∙ sym (append_assoc before (map event_of_talk (take i events)) (event_of_talk e ∷ []))
 
-  rest_more : map event_of (drop i events) ≡ event_of e ∷ map event_of (drop (i + 1) events)
+  rest_more : map event_of_talk (drop i events) ≡ event_of_talk e ∷ map event_of_talk (drop (i + 1) events)
   rest_more =
       let one : suc i ≡ i + 1 = omega arith in
-      ap (map event_of) (drop-cons events i e h ∙ ap (λ (x : TalkEvent). x ∷ drop (suc i) events) (sym is))
-      ∙ ap (λ (k : ℕ). event_of e ∷ map event_of (drop k events)) one
+      ap (map event_of_talk) (drop-cons events i e h ∙ ap (λ (x : TalkEvent). x ∷ drop (suc i) events) (sym is))
+      ∙ ap (λ (k : ℕ). event_of_talk e ∷ map event_of_talk (drop k events)) one
 
 pub event_more : (rules : Rules) (stands next : List Event → Type 0) (events : List TalkEvent) (i : ℕ) (e : TalkEvent) (before : List Event) (old text new : List ℕ) (outs : List Send)
     → i < length events → e ≡ get_or events i e → Going rules stands events i before old text
-    → ((l : List Event) → stands l → next (l ++ event_of e ∷ [])) → ((l : List Event) → stands l → outs ≡ rules.sends l (event_of e))
+    → ((l : List Event) → stands l → next (l ++ event_of_talk e ∷ [])) → ((l : List Event) → stands l → outs ≡ rules.sends l (event_of_talk e))
     → new ≡ text ++ lines_shown outs → Going rules next events (i + 1) before old new
 event_more rules stands next events i e before old text new outs h is g goes sends put =
-    let b : List Event = before ++ map event_of (take i events) in
-    let rest : List Event = map event_of (drop (i + 1) events) in
+    let b : List Event = before ++ map event_of_talk (take i events) in
+    let rest : List Event = map event_of_talk (drop (i + 1) events) in
     let done = done_more events i e h is before in
-    let first : List Send = rules.sends b (event_of e) in
-    let later : List Send = sends_over rules (b ++ event_of e ∷ []) rest in
+    let first : List Send = rules.sends b (event_of_talk e) in
+    let later : List Send = sends_over rules (b ++ event_of_talk e ∷ []) rest in
     record {
       at = subst next (sym done) (goes b g.at);
       same =
@@ -84,11 +84,11 @@ pub begun : (rules : Rules) (stands : List Event → Type 0) (events : List Talk
 begun rules stands events before text h =
     record {
       at = subst stands (sym (append-nil before)) h;
-      same = ap (λ (l : List Event). text ++ lines_shown (sends_over rules l (map event_of events))) (append-nil before);
+      same = ap (λ (l : List Event). text ++ lines_shown (sends_over rules l (map event_of_talk events))) (append-nil before);
     }
 
 pub all_said : (rules : Rules) (stands : List Event → Type 0) (events : List TalkEvent) (i : ℕ) (before : List Event) (old text : List ℕ) → i ≡ length events → Going rules stands events i before old text
-    → text ≡ old ++ lines_shown (sends_over rules before (map event_of events))
+    → text ≡ old ++ lines_shown (sends_over rules before (map event_of_talk events))
 all_said rules stands events i before old text e g =
     let none : drop i events ≡ [] = ap (λ (k : ℕ). drop k events) e ∙ drop-length events in
-    sym (append-nil text) ∙ ap (λ (l : List TalkEvent). text ++ lines_shown (sends_over rules (before ++ map event_of (take i events)) (map event_of l))) (sym none) ∙ g.same
+    sym (append-nil text) ∙ ap (λ (l : List TalkEvent). text ++ lines_shown (sends_over rules (before ++ map event_of_talk (take i events)) (map event_of_talk l))) (sym none) ∙ g.same

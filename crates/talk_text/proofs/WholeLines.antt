@@ -7,7 +7,7 @@ use Rattle.std.proofs.lemmas.Bool.Decides.{nat_tests}
 use Rattle.std.proofs.lemmas.List.Elements.{All-from_recursion}
 use Rattle.std.proofs.lemmas.List.Splits.{slice_split_none}
 use Rattle.text_lines.specs.Texts.{words}
-use Rattle.pdu_text.specs.Lines.{first_of, first_words}
+use Rattle.pdu_text.specs.Lines.{leading_word, first_words}
 
 -- the byte that ends a line
 abbrev is_feed : ℕ → Bool
@@ -57,12 +57,12 @@ are_lines text = of_parts (slice_split is_feed text) (parts_are text)
 not_empty : (n : ℕ) → eqb (suc n) 0 ≡ false
 not_empty n = grind (arith, nat_tests)
 
-alone : (line : List ℕ) → words (first_of (lines_of_parts (line ∷ []))) ≡ words line
+alone : (line : List ℕ) → words (leading_word (lines_of_parts (line ∷ []))) ≡ words line
 alone [] = refl
-alone (b ∷ line) = ap (λ (none : Bool). words (first_of (cond none [] ((b ∷ line) ∷ [])))) (not_empty (length line))
+alone (b ∷ line) = ap (λ (none : Bool). words (leading_word (cond none [] ((b ∷ line) ∷ [])))) (not_empty (length line))
 
 -- the words of a line are those of the first line of it
 pub one_line : (line : List ℕ) → IsLine line → first_words line ≡ words line
 one_line line h =
-    ap (λ (parts : List (List ℕ)). words (first_of (lines_of_parts parts))) (slice_split_none is_feed line (All-from_recursion (λ b. is_feed b ≡ false) line h))
+    ap (λ (parts : List (List ℕ)). words (leading_word (lines_of_parts parts))) (slice_split_none is_feed line (All-from_recursion (λ b. is_feed b ≡ false) line h))
     ∙ alone line

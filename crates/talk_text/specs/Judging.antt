@@ -40,8 +40,8 @@ abbrev pub why_more : List (List ℕ) → Option TextWhy
 why_more ws = refused_if (nat_lt 1 (length ws)) why.Words
 
 -- what is wrong with a line of the block, or with the line that closes it
-abbrev pub why_block : List (List ℕ) → List ℕ → Option TextWhy
-why_block before line = if is_begin line then or_else (why_end (items_in before)) (why_more (words line)) else block.why_line (items_in before) line
+abbrev pub why_talk_block : List (List ℕ) → List ℕ → Option TextWhy
+why_talk_block before line = if is_begin line then or_else (why_end (items_in before)) (why_more (words line)) else block.why_line (items_in before) line
 
 -- what is wrong with the line of an event
 abbrev pub why_message : Result Message PduTextWhy → Option TextWhy
@@ -54,10 +54,10 @@ why_event line =
     else (if is_skipped (words line) then None
     else (if first_is (codes "turn") (words line) then why_more (words line) else why_message (text_said line)))
 
-abbrev pub why_entry : Option (List ℕ) → List (List ℕ) → Option TextWhy
-why_entry (Some line) before = if has_begun before then why_event line else why_block before line
-why_entry None before = if has_begun before then None else Some why.Missing
+abbrev pub why_talk_entry : Option (List ℕ) → List (List ℕ) → Option TextWhy
+why_talk_entry (Some line) before = if has_begun before then why_event line else why_talk_block before line
+why_talk_entry None before = if has_begun before then None else Some why.Missing
 
 -- what is wrong with the line of this number, the end being the line after the last
 abbrev pub talk_why_at : List (List ℕ) → ℕ → Option TextWhy
-talk_why_at all n = why_entry (slice_get all (n - 1)) (take (n - 1) all)
+talk_why_at all n = why_talk_entry (slice_get all (n - 1)) (take (n - 1) all)

@@ -19,18 +19,18 @@ use Rattle.talk_text.specs.declared.events.TalkEvent.TheVariants as talk
 use Rattle.talk_text.specs.declared.stages.Stage.{Stage}
 use Rattle.talk_text.specs.declared.stages.Stage.TheVariants.{Block, Events}
 
-abbrev pub opened : List (List ℕ) → SlaveDesc → Result Stage TextWhy
-opened ws d = unless (why_more ws) (Ok (Events (record { desc = d; events = [] })))
+abbrev pub talk_opened : List (List ℕ) → SlaveDesc → Result Stage TextWhy
+talk_opened ws d = unless (why_more ws) (Ok (Events (record { desc = d; events = [] })))
 
 -- the block is closed
-abbrev pub begun : Partial → List (List ℕ) → Result Stage TextWhy
-begun p ws = block.finished p >>= opened ws
+abbrev pub stage_begun : Partial → List (List ℕ) → Result Stage TextWhy
+stage_begun p ws = block.finished p >>= talk_opened ws
 
-abbrev pub kept : Partial → Result Stage TextWhy
-kept p = Ok (Block p)
+abbrev pub block_kept : Partial → Result Stage TextWhy
+block_kept p = Ok (Block p)
 
-abbrev pub take_block : Partial → List ℕ → Result Stage TextWhy
-take_block p line = if is_begin line then begun p (words line) else (block.take_line p line >>= kept)
+abbrev pub take_talk_block : Partial → List ℕ → Result Stage TextWhy
+take_talk_block p line = if is_begin line then stage_begun p (words line) else (block.take_line p line >>= block_kept)
 
 abbrev pub message_event : Result Message PduTextWhy → Result TalkEvent TextWhy
 message_event (Ok message) = Ok (talk.Message (spelling message))
@@ -47,15 +47,15 @@ take_event t line =
     if not (is_utf8 line) then Err why.NotUtf8
     else (if is_skipped (words line) then Ok (Events t) else (event_said line >>= added t))
 
-abbrev pub take_line : Stage → List ℕ → Result Stage TextWhy
-take_line (Block p) line = take_block p line
-take_line (Events t) line = take_event t line
+abbrev pub take_talk_line : Stage → List ℕ → Result Stage TextWhy
+take_talk_line (Block p) line = take_talk_block p line
+take_talk_line (Events t) line = take_event t line
 
 -- the talk, at the end of the text
-abbrev pub finished : Stage → Result Talk TextWhy
-finished (Block p) = Err why.Missing
-finished (Events t) = Ok t
+abbrev pub talk_finished : Stage → Result Talk TextWhy
+talk_finished (Block p) = Err why.Missing
+talk_finished (Events t) = Ok t
 
 -- no line
-abbrev pub start : Stage
-start = Block block.nothing
+abbrev pub stage_at_start : Stage
+stage_at_start = Block block.nothing

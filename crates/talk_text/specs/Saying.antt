@@ -4,7 +4,7 @@ use Rattle.std.specs.List.{flat_map}
 use Rattle.dcp_ends.specs.Events.{Event, Send, Rules}
 use Rattle.pdu_layout.specs.Message.{Message}
 use Rattle.pdu_layout.specs.Reading.{message_in}
-use Rattle.pdu_text.specs.Printed.{line_of}
+use Rattle.pdu_text.specs.Printed.{line_of_message}
 
 -- all that is sent at these events, after those before them
 abbrev pub sends_over : Rules → (before events : List Event) → List Send
@@ -14,7 +14,7 @@ sends_over rules before (event ∷ events) = rules.sends before event ++ sends_o
 -- the line of a message
 abbrev pub line_shown : Option Message → List ℕ
 line_shown None = []
-line_shown (Some message) = line_of message
+line_shown (Some message) = line_of_message message
 
 -- the lines of the messages that are sent
 abbrev pub lines_shown : List Send → List ℕ

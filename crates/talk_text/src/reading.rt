@@ -8,7 +8,7 @@ ghost use Rattle.slave_desc.specs.Descriptions.{IsDesc};
 ghost use Rattle.talk_text.specs.Talks.{IsTalk};
 ghost use Rattle.text_lines.specs.Readings.{IsFirstBad, ReadsOrRefused, NeverReadsAndRefused, OneValue, OneFault};
 ghost use Rattle.talk_text.specs.Judging.{talk_why_at};
-ghost use Rattle.talk_text.specs.Machine.{start, take_line, finished};
+ghost use Rattle.talk_text.specs.Machine.{stage_at_start, take_talk_line, talk_finished};
 ghost use Rattle.talk_text.specs.declared.events.Talk.{Talk};
 
 use crate::events::Talk;
@@ -18,7 +18,7 @@ use std::alloc::Global;
 use text_lines::{LineRefused, TextFault, TextRefused, lines};
 
 fn read(alloc: Global, text: &[u8]) -> Result<Talk, TextRefused>
-    ensures { GivesText result (run_of take_line finished 1 start (lines text.now)) }
+    ensures { GivesText result (run_of take_talk_line talk_finished 1 stage_at_start (lines text.now)) }
 {
     let Ok(lines) = lines(alloc, text) else {
         return Err(TextRefused::OutOfMemory);

@@ -3,7 +3,7 @@
 ghost use Rattle.std.specs.Prelude.{◌≡◌, ◌++◌, ◌∷◌, [], List, map, OnOk};
 ghost use Rattle.dcp_ends.specs.Events.{Event};
 ghost use Rattle.pdu_layout.specs.Reading.{message_in};
-ghost use Rattle.talk_text.specs.Talks.{event_of};
+ghost use Rattle.talk_text.specs.Talks.{event_of_talk};
 ghost use Rattle.talk_text.specs.Saying.{sends_over, line_shown, lines_shown};
 
 use crate::events::TalkEvent;
@@ -45,8 +45,8 @@ fn put_outgoing<E: End>(alloc: Global, end: &E, text: &mut Vec<u8>) -> Result<()
 /// Lets an event come to the end. Nothing is outgoing.
 fn happen<E: End>(end: &mut E, event: &TalkEvent)
     requires { E.outs end.old ≡ [] }
-    ensures stands { (events : List Event) → E.stands end.old events → E.stands end.new (events ++ event_of event.now ∷ []) }
-    ensures sends { (events : List Event) → E.stands end.old events → E.outs end.new ≡ (E.rules end.old).sends events (event_of event.now) }
+    ensures stands { (events : List Event) → E.stands end.old events → E.stands end.new (events ++ event_of_talk event.now ∷ []) }
+    ensures sends { (events : List Event) → E.stands end.old events → E.outs end.new ≡ (E.rules end.old).sends events (event_of_talk event.now) }
     ensures rules { E.rules end.new ≡ E.rules end.old }
 {
     match event {
@@ -65,7 +65,7 @@ pub fn put_talk<E: End>(
 ) -> Result<(), OutOfMemory>
     requires { E.outs end.old ≡ [] }
     ensures { (before : List Event) → E.stands end.old before
-        → OnOk result (text.new.items ≡ text.old.items ++ lines_shown (sends_over (E.rules end.old) before (map event_of events.now))) }
+        → OnOk result (text.new.items ≡ text.old.items ++ lines_shown (sends_over (E.rules end.old) before (map event_of_talk events.now))) }
 {
     for event in events {
         happen(end, event);

@@ -4,7 +4,7 @@ ghost use Rattle.std.specs.Prelude.{◌≡◌, map};
 ghost use Rattle.text_lines.specs.Texts.{words};
 ghost use Rattle.text_lines.specs.Outcomes.{Gives};
 ghost use Rattle.talk_text.specs.Judging.{first_is, is_begin, why_more};
-ghost use Rattle.talk_text.specs.Machine.{begun, take_block, event_said, take_event, take_line, finished};
+ghost use Rattle.talk_text.specs.Machine.{stage_begun, take_talk_block, event_said, take_event, take_talk_line, talk_finished};
 
 use crate::events::{Talk, TalkEvent, TalkEvents};
 use crate::message_lines::message_event;
@@ -52,7 +52,7 @@ fn why_more(words: &[&[u8]]) -> Option<TextWhy>
 
 /// Closes the block, by a line of these words.
 fn begun(alloc: Global, partial: Partial, words: &[&[u8]]) -> Result<Stage, TextWhy>
-    ensures { result ≡ begun partial (map (λ w. w.now) words.now) }
+    ensures { result ≡ stage_begun partial (map (λ w. w.now) words.now) }
 {
     let desc = partial.finish()?;
     match why_more(words) {
@@ -66,7 +66,7 @@ fn begun(alloc: Global, partial: Partial, words: &[&[u8]]) -> Result<Stage, Text
 
 /// Takes a line of the block, or the line that closes it.
 fn take_block(alloc: Global, partial: Partial, line: &[u8]) -> Result<Stage, LineRefused>
-    ensures { Gives (λ s. s) result (take_block partial line.now) }
+    ensures { Gives (λ s. s) result (take_talk_block partial line.now) }
 {
     let words = words(alloc, line)?;
     if is_begin(line, &words) {
@@ -117,7 +117,7 @@ fn take_event(alloc: Global, talk: Talk, line: &[u8]) -> Result<Stage, LineRefus
 
 /// Takes a line.
 pub(crate) fn take_line(alloc: Global, stage: Stage, line: &[u8]) -> Result<Stage, LineRefused>
-    ensures { Gives (λ s. s) result (take_line stage line.now) }
+    ensures { Gives (λ s. s) result (take_talk_line stage line.now) }
 {
     match stage {
         Stage::Block(partial) => take_block(alloc, partial, line),
@@ -127,7 +127,7 @@ pub(crate) fn take_line(alloc: Global, stage: Stage, line: &[u8]) -> Result<Stag
 
 /// The talk, at the end of the text: `Missing` where no line closed the block.
 pub(crate) fn finished(stage: Stage) -> Result<Talk, TextWhy>
-    ensures { result ≡ finished stage }
+    ensures { result ≡ talk_finished stage }
 {
     match stage {
         Stage::Block(_) => Err(TextWhy::Missing),

@@ -15,7 +15,7 @@ use Rattle.std.proofs.lemmas.List.Sums.{AllPass-from_list_all}
 use Rattle.std.proofs.lemmas.List.Folds.{list_all-append}
 use Rattle.std.proofs.lemmas.List.Splits.{slice_split_at, slice_split_none}
 use Rattle.text_lines.specs.Causes.{◌>>=◌, or_why}
-use Rattle.text_lines.specs.Numbers.{number, number_from, int64}
+use Rattle.text_lines.specs.Numbers.{decimal_number, number_from, int64}
 use Rattle.text_lines.specs.Addresses.{ip_part, ip_of_parts, ip}
 use Rattle.text_lines.specs.Printed.{ip_word}
 use Rattle.text_lines.specs.declared.reasons.TextWhy.{TextWhy}
@@ -38,7 +38,7 @@ chosen : {X : Type 0} (b : Bool) (x y : X) → b ≡ true → cond b x y ≡ x
 chosen b x y e = rw e refl
 
 -- the number of a printed number
-pub number_decimal : (n : ℕ) → n < 2 ^ 64 → number (decimal n) ≡ Some n
+pub number_decimal : (n : ℕ) → n < 2 ^ 64 → decimal_number (decimal n) ≡ Some n
 number_decimal n small =
     chosen _ (Some (digits_value 10 (decimal n))) None (both (both (is_positive _ (decimal_nonempty n small)) (is_at_most _ 20 (length-decimal-le 20 n (omega arith) (omega arith) small))) (all_digits n small)) ∙ ap Some (digits_value-decimal own n small)
 

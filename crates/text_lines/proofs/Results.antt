@@ -1,7 +1,7 @@
 -- Results one after another.
 use Rattle.std.proofs.Common.{◌≡◌, ◌⊎◌, inl, inr, Bool, true, false, cond, Option, Some, None, Result, Ok, Err, refl, ap, sym, subst, ℕ}
 use Rattle.text_lines.specs.Causes.{◌>>=◌, or_why}
-use Rattle.text_lines.specs.Runs.{at_line, and_then}
+use Rattle.text_lines.specs.Runs.{at_line, then_text}
 use Rattle.text_lines.specs.Readings.{line_number}
 use Rattle.text_lines.specs.declared.reasons.TextWhy.{TextWhy}
 use Rattle.text_lines.specs.declared.reasons.TextFault.{TextFault}
@@ -39,10 +39,10 @@ pub at_err : {X : Type 0} (n : ℕ) (r : Result X TextWhy) (f : TextFault) → a
 at_err n (Ok y) f e = cc
 at_err n (Err w) f e = let same : f ≡ record { line = line_number n; why = w } = cc in (ap (λ (g : TextFault). g.line) same, ap (λ (g : TextFault). Err g.why) (sym same))
 
-pub and_ok : {X Y : Type 0} (r : Result X TextFault) (f : X → Result Y TextFault) (y : Y) → and_then r f ≡ Ok y → (x : X) × (r ≡ Ok x) × (f x ≡ Ok y)
+pub and_ok : {X Y : Type 0} (r : Result X TextFault) (f : X → Result Y TextFault) (y : Y) → then_text r f ≡ Ok y → (x : X) × (r ≡ Ok x) × (f x ≡ Ok y)
 and_ok (Ok x) f y e = (x, refl, e)
 and_ok (Err w) f y e = cc
 
-pub and_err : {X Y : Type 0} (r : Result X TextFault) (f : X → Result Y TextFault) (w : TextFault) → and_then r f ≡ Err w → (r ≡ Err w) ⊎ ((x : X) × (r ≡ Ok x) × (f x ≡ Err w))
+pub and_err : {X Y : Type 0} (r : Result X TextFault) (f : X → Result Y TextFault) (w : TextFault) → then_text r f ≡ Err w → (r ≡ Err w) ⊎ ((x : X) × (r ≡ Ok x) × (f x ≡ Err w))
 and_err (Ok x) f w e = inr (x, refl, e)
 and_err (Err v) f w e = inl (cc)

@@ -5,7 +5,7 @@ use Rattle.std.specs.Option.{option_and_then}
 use Rattle.std.proofs.lemmas.Bool.Decides.{nat_tests}
 use Rattle.dcp_types.specs.declared.addresses.Address.{Address}
 use Rattle.text_lines.specs.Causes.{or_why}
-use Rattle.text_lines.specs.Numbers.{number, number_from}
+use Rattle.text_lines.specs.Numbers.{decimal_number, number_from}
 use Rattle.text_lines.specs.Addresses.{ip_part, ip_of_parts, ip, address}
 use Rattle.text_lines.specs.Counts.{two_words}
 use Rattle.text_lines.proofs.PlainWords.{and_both}
@@ -14,7 +14,7 @@ use Rattle.text_lines.specs.declared.reasons.TextWhy.TheVariants as why
 
 pub number_fits : (low high : ℕ) (w : List ℕ) (n : ℕ) → number_from low high w ≡ Ok n → (low ≤ n) × (n ≤ high)
 number_fits low high w n e =
-    let t = bind_ok (or_why (number w) why.BadNumber) (λ n. cond (leb low n && leb n high) (Ok n) (Err why.Limit)) n e in
+    let t = bind_ok (or_why (decimal_number w) why.BadNumber) (λ n. cond (leb low n && leb n high) (Ok n) (Err why.Limit)) n e in
     let c = chosen_ok (leb low t.0 && leb t.0 high) t.0 n why.Limit t.2 in
     let b = and_both (leb low t.0) (leb t.0 high) c.0 in
     subst (λ (n : ℕ). (low ≤ n) × (n ≤ high)) c.1 (grind (arith, nat_tests), grind (arith, nat_tests))
@@ -23,7 +23,7 @@ abbrev pub FitsAddress : Address → Type 0
 FitsAddress a = (a.ip < 2 ^ 32) × (1 ≤ a.port) × (a.port < 2 ^ 16)
 
 part_fits : (w : List ℕ) (n : ℕ) → ip_part w ≡ Some n → n ≤ 255
-part_fits w n e = by (number w) e
+part_fits w n e = by (decimal_number w) e
   where
     picked : (b : Bool) (x : ℕ) → (b ≡ true → x ≤ 255) → cond b (Some x) None ≡ Some n → n ≤ 255
     picked true x h e = let same : x ≡ n = cc in subst (λ (x : ℕ). x ≤ 255) same (h refl)

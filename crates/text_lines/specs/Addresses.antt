@@ -4,14 +4,14 @@ use Rattle.std.specs.List.{slice_split}
 use Rattle.std.specs.Option.{option_and_then}
 use Rattle.dcp_types.specs.declared.addresses.Address.{Address}
 use Rattle.text_lines.specs.Causes.{◌>>=◌, or_why}
-use Rattle.text_lines.specs.Numbers.{number, number_from}
+use Rattle.text_lines.specs.Numbers.{decimal_number, number_from}
 use Rattle.text_lines.specs.Counts.{two_words}
 use Rattle.text_lines.specs.declared.reasons.TextWhy.{TextWhy}
 use Rattle.text_lines.specs.declared.reasons.TextWhy.TheVariants.{BadNumber}
 
 -- a number from 0 to 255
 abbrev pub ip_part : List ℕ → Option ℕ
-ip_part w = option_and_then (λ n. if nat_le n 255 then Some n else None) (number w)
+ip_part w = option_and_then (λ n. if nat_le n 255 then Some n else None) (decimal_number w)
 
 -- four of them, the first the most significant
 abbrev pub ip_of_parts : List (List ℕ) → Result ℕ TextWhy

@@ -9,13 +9,13 @@ use Rattle.text_lines.specs.declared.reasons.TextWhy.{TextWhy}
 use Rattle.text_lines.specs.declared.reasons.TextWhy.TheVariants.{BadNumber, Limit}
 
 -- one to twenty decimal digits
-abbrev pub number : List ℕ → Option ℕ
-number w = if nat_lt 0 (length w) && nat_le (length w) 20 && list_all is_ascii_digit w then Some (digits_value 10 w) else None
+abbrev pub decimal_number : List ℕ → Option ℕ
+decimal_number w = if nat_lt 0 (length w) && nat_le (length w) 20 && list_all is_ascii_digit w then Some (digits_value 10 w) else None
 
 -- a number from low to high
 abbrev pub number_from : ℕ → ℕ → List ℕ → Result ℕ TextWhy
 number_from low high w = do
-  n ← or_why (number w) BadNumber
+  n ← or_why (decimal_number w) BadNumber
   if nat_le low n && nat_le n high then Ok n else Err Limit
 
 -- the word begins with a minus sign
@@ -25,8 +25,8 @@ has_minus w = slice_index w 0 == 45
 -- a number, behind a minus sign where signed lets it
 abbrev pub signed_number : Bool → List ℕ → Option ℤ
 signed_number signed w = if signed && has_minus w
-    then option_and_then (λ n. Some (neg_ℤ (pos n))) (number (drop 1 w))
-    else option_and_then (λ n. Some (pos n)) (number w)
+    then option_and_then (λ n. Some (neg_ℤ (pos n))) (decimal_number (drop 1 w))
+    else option_and_then (λ n. Some (pos n)) (decimal_number w)
 
 -- a signed number of 64 bits
 abbrev pub int64 : List ℕ → Result ℤ TextWhy

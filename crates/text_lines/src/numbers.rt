@@ -4,13 +4,13 @@ ghost use Rattle.std.specs.Prelude.{◌≡◌, ◌<◌, ◌≤◌, ◌^◌, leng
 ghost use Rattle.std.specs.Char.{is_ascii_digit};
 ghost use Rattle.std.specs.List.{list_all};
 ghost use Rattle.std.specs.Str.Parse.{digits_value};
-ghost use Rattle.text_lines.specs.Numbers.{number, number_from, signed_number, int64};
+ghost use Rattle.text_lines.specs.Numbers.{decimal_number, number_from, signed_number, int64};
 
 use crate::reasons::TextWhy;
 
 /// One to twenty decimal digits, leading zeros counted.
 pub fn number(word: &[u8]) -> Option<u128>
-    ensures value { result ≡ number word.now }
+    ensures value { result ≡ decimal_number word.now }
     ensures small { IfSome result (λ n. n < 10 ^ 20) }
 {
     if word.is_empty() || word.len() > 20 {

@@ -24,7 +24,7 @@ use Rattle.lockstep.specs.Lockstep.{row_index, row, shown_of, shown_at, state, r
 use Rattle.plan_spec.specs.declared.links.DataLink.{DataLink}
 use Rattle.plan_spec.specs.declared.pairs.Pair.{Pair}
 use Rattle.plan_spec.specs.Links.{pairs_from, wired_pairs, is_wire, positions, wire_links, wire_link}
-use Rattle.plan_laws.specs.Taking.{IsSlaveOf}
+use Rattle.plan_laws.specs.Taking.{IsScenarioSlave}
 use Rattle.plan_laws.proofs.Lists.{Pairwise, each_weaker, each_both, each_always, each_filter, each_passes, each_from_all, pairwise_from_all}
 use Rattle.plan_laws.proofs.Pairs.{each_link}
 use Rattle.plan_laws.proofs.Ports.{each_got, ports_differ, fed_by, fed_from}
@@ -33,9 +33,9 @@ use Rattle.plan_laws.proofs.Links.{links_to, links_of, to_here}
 use Rattle.slave_wiring.specs.Changes.{Change, Side, input, output, entries, has_id}
 use Rattle.slave_wiring.specs.Refusals.{port_with}
 use Rattle.slave_wiring.specs.Payloads as wired
-use Rattle.slave_wiring.specs.Payloads.{Kept, Wires, Spot, kind_of, types_in, kept_under, spot, cut, value_kept, value_at, output_value, payload}
-use Rattle.slave_course.specs.Wired.{planned_changes, restarted}
-use Rattle.slave_links.specs.Links.{link_of, every_of, from_of, interval_of, sender_of}
+use Rattle.slave_wiring.specs.Payloads.{Kept, WiringState, Spot, port_type, types_in, kept_under, spot, cut_values, value_kept, spot_value, output_value, payload}
+use Rattle.slave_course.specs.Wired.{planned_changes, changes_restarted}
+use Rattle.slave_links.specs.Links.{data_link_of, link_interval, from_of, interval_of, sender_of}
 use Rattle.slave_links.proofs.Found.{wires_found}
 use Rattle.slave_payloads.proofs.Back.{read_back}
 use Rattle.row_parts.proofs.Parts.{shown_length, have_parts}
@@ -48,15 +48,15 @@ use Rattle.wired_inputs.proofs.Spots.{restarted_spot, IsReadAt, spot_read, spot_
 -- ---- a link that comes to a slave
 pub record IsLinkTo (sc : Scenario) (s : ℕ) (d : SlaveDesc) (l : DataLink) : Type 0 where
   pub to : l.to ≡ s
-  pub found : link_of sc l.id ≡ Some l
+  pub found : data_link_of sc l.id ≡ Some l
   pub every : l.every ≡ interval sc.every l.from l.to
   pub inputs : reverse (entries input l.id (planned_changes sc s d)) ≡ references (ports_into d.inputs (positions sc.wires l.from l.to))
-  pub outputs : (a : ℕ) (c : SlaveDesc) → IsSlaveOf sc a c → l.from ≡ a → reverse (entries output l.id (planned_changes sc a c)) ≡ references (ports_out c.outputs (positions sc.wires l.from l.to))
+  pub outputs : (a : ℕ) (c : SlaveDesc) → IsScenarioSlave sc a c → l.from ≡ a → reverse (entries output l.id (planned_changes sc a c)) ≡ references (ports_out c.outputs (positions sc.wires l.from l.to))
 
 abbrev AreSentTo : Scenario → DataLink → Type 0
-AreSentTo sc l = (a : ℕ) (c : SlaveDesc) → IsSlaveOf sc a c → l.from ≡ a → reverse (entries output l.id (planned_changes sc a c)) ≡ references (ports_out c.outputs (positions sc.wires l.from l.to))
+AreSentTo sc l = (a : ℕ) (c : SlaveDesc) → IsScenarioSlave sc a c → l.from ≡ a → reverse (entries output l.id (planned_changes sc a c)) ≡ references (ports_out c.outputs (positions sc.wires l.from l.to))
 
-sent_of : (sc : Scenario) (a : ℕ) (c : SlaveDesc) → IsSlaveOf sc a c
+sent_of : (sc : Scenario) (a : ℕ) (c : SlaveDesc) → IsScenarioSlave sc a c
     → AllByRecursion (λ (l : DataLink). l.from ≡ a → reverse (entries output l.id (planned_changes sc a c)) ≡ references (ports_out c.outputs (positions sc.wires l.from l.to))) (wire_links sc)
 sent_of sc a c of =
     each_weaker (λ (l : DataLink). (l.from == a) ≡ true → reverse (entries output l.id (planned_changes sc a c)) ≡ references (ports_out c.outputs (positions sc.wires l.from l.to)))
@@ -65,20 +65,20 @@ sent_of sc a c of =
     (unfiltered (λ (l : DataLink). reverse (entries output l.id (planned_changes sc a c)) ≡ references (ports_out c.outputs (positions sc.wires l.from l.to))) (λ (l : DataLink). l.from == a) (wire_links sc) (output_entries sc a c of))
 
 all_sent : (sc : Scenario) → AllByRecursion (AreSentTo sc) (wire_links sc)
-all_sent sc = each_swap (λ (a : ℕ) (l : DataLink). (c : SlaveDesc) → IsSlaveOf sc a c → l.from ≡ a → reverse (entries output l.id (planned_changes sc a c)) ≡ references (ports_out c.outputs (positions sc.wires l.from l.to))) (wire_links sc)
-    (λ a. each_swap (λ (c : SlaveDesc) (l : DataLink). IsSlaveOf sc a c → l.from ≡ a → reverse (entries output l.id (planned_changes sc a c)) ≡ references (ports_out c.outputs (positions sc.wires l.from l.to))) (wire_links sc)
-    (λ c. each_swap (λ (of : IsSlaveOf sc a c) (l : DataLink). l.from ≡ a → reverse (entries output l.id (planned_changes sc a c)) ≡ references (ports_out c.outputs (positions sc.wires l.from l.to))) (wire_links sc) (λ of. sent_of sc a c of)))
+all_sent sc = each_swap (λ (a : ℕ) (l : DataLink). (c : SlaveDesc) → IsScenarioSlave sc a c → l.from ≡ a → reverse (entries output l.id (planned_changes sc a c)) ≡ references (ports_out c.outputs (positions sc.wires l.from l.to))) (wire_links sc)
+    (λ a. each_swap (λ (c : SlaveDesc) (l : DataLink). IsScenarioSlave sc a c → l.from ≡ a → reverse (entries output l.id (planned_changes sc a c)) ≡ references (ports_out c.outputs (positions sc.wires l.from l.to))) (wire_links sc)
+    (λ c. each_swap (λ (of : IsScenarioSlave sc a c) (l : DataLink). l.from ≡ a → reverse (entries output l.id (planned_changes sc a c)) ≡ references (ports_out c.outputs (positions sc.wires l.from l.to))) (wire_links sc) (λ of. sent_of sc a c of)))
 
 abbrev IsKnown : Scenario → DataLink → Type 0
-IsKnown sc l = (link_of sc l.id ≡ Some l) × ((l.every ≡ interval sc.every l.from l.to) × AreSentTo sc l)
+IsKnown sc l = (data_link_of sc l.id ≡ Some l) × ((l.every ≡ interval sc.every l.from l.to) × AreSentTo sc l)
 
 all_known : (sc : Scenario) → IsScenario sc → AllByRecursion (IsKnown sc) (wire_links sc)
 all_known sc ok =
     let every = each_link (λ (l : DataLink). l.every ≡ interval sc.every l.from l.to) sc 17 (wired_pairs sc) (each_always (λ (p : Pair). (i : ℕ) → 17 ≤ i → (wire_link sc i p).every ≡ interval sc.every (wire_link sc i p).from (wire_link sc i p).to) (λ p i h. refl) (wired_pairs sc)) in
-    each_both (λ (l : DataLink). link_of sc l.id ≡ Some l) (λ (l : DataLink). (l.every ≡ interval sc.every l.from l.to) × AreSentTo sc l) (IsKnown sc) (λ l a b. (a, b)) (wire_links sc) (wires_found sc ok)
+    each_both (λ (l : DataLink). data_link_of sc l.id ≡ Some l) (λ (l : DataLink). (l.every ≡ interval sc.every l.from l.to) × AreSentTo sc l) (IsKnown sc) (λ l a b. (a, b)) (wire_links sc) (wires_found sc ok)
     (each_both (λ (l : DataLink). l.every ≡ interval sc.every l.from l.to) (AreSentTo sc) (λ (l : DataLink). (l.every ≡ interval sc.every l.from l.to) × AreSentTo sc l) (λ l a b. (a, b)) (wire_links sc) every (all_sent sc))
 
-all_links_to : (sc : Scenario) (s : ℕ) (d : SlaveDesc) → IsSlaveOf sc s d → AllByRecursion (IsLinkTo sc s d) (links_to sc s)
+all_links_to : (sc : Scenario) (s : ℕ) (d : SlaveDesc) → IsScenarioSlave sc s d → AllByRecursion (IsLinkTo sc s d) (links_to sc s)
 all_links_to sc s d of =
     each_both (λ (l : DataLink). (l.to ≡ s) × (reverse (entries input l.id (planned_changes sc s d)) ≡ references (ports_into d.inputs (positions sc.wires l.from l.to)))) (IsKnown sc) (IsLinkTo sc s d)
     (λ l a b. record { to = a.0; found = b.0; every = b.1.0; inputs = a.1; outputs = b.1.1 }) (links_to sc s)
@@ -99,7 +99,7 @@ shown_fits sc s d r (Err code) vs h = absurd cc
 shown_fits sc s d r (Ok x) vs h = of_fits (map (λ p. p.kind) d.outputs) (outputs d.kind (parameters sc s d r) x) vs h
 
 -- a restart makes no entry
-restarted_entries : (steps id : ℕ) (changes : List Change) (runs : ℕ) → entries input id (restarted steps changes runs) ≡ entries input id changes
+restarted_entries : (steps id : ℕ) (changes : List Change) (runs : ℕ) → entries input id (changes_restarted steps changes runs) ≡ entries input id changes
 restarted_entries steps id changes zero = refl
 restarted_entries steps id changes (suc runs) = restarted_entries steps id changes runs
 
@@ -114,7 +114,7 @@ some_known id changes vrs j vr e g =
 sender_of_wire : (v : Wire) (p : Pair) → option_map (λ (w : Wire). record { from = w.from; to = w.out }) (Some v) ≡ Some p → (v.from ≡ p.from) × (v.out ≡ p.to)
 sender_of_wire v p e = let same : record { from = v.from; to = v.out } ≡ p = cc in (ap (λ (x : Pair). x.from) same, ap (λ (x : Pair). x.to) same)
 
-module _ (sc : Scenario) (s : ℕ) (d : SlaveDesc) (of : IsSlaveOf sc s d) (rows : List (List ℤ)) (each : EachRow sc rows) (r k : ℕ) (w : Wires) (runs : ℕ) (wiring : w.changes ≡ restarted sc.steps (planned_changes sc s d) runs)
+module _ (sc : Scenario) (s : ℕ) (d : SlaveDesc) (of : IsScenarioSlave sc s d) (rows : List (List ℤ)) (each : EachRow sc rows) (r k : ℕ) (w : WiringState) (runs : ℕ) (wiring : w.changes ≡ changes_restarted sc.steps (planned_changes sc s d) runs)
     (feed : (id : ℕ) → has_id input id (planned_changes sc s d) ≡ true → (kept : Kept) × (kept_under id w.kept ≡ Some kept) × IsShownBy sc rows r k id kept) where
   abbrev Planned : List Change
   Planned = planned_changes sc s d
@@ -136,7 +136,7 @@ module _ (sc : Scenario) (s : ℕ) (d : SlaveDesc) (of : IsSlaveOf sc s d) (rows
     from_here : l.from ≡ a
     from_here = sym (ap from_of is.found)
 
-    sends : IsSlaveOf sc a c
+    sends : IsScenarioSlave sc a c
     sends = record { sound = of.sound; slave = h.is }
 
     abbrev ps : List Pair
@@ -154,15 +154,15 @@ module _ (sc : Scenario) (s : ℕ) (d : SlaveDesc) (of : IsSlaveOf sc s d) (rows
     types : types_in d.inputs (entries input l.id w.changes) ≡ types_in c.outputs (entries output l.id (planned_changes sc a c))
     types =
         ap (types_in d.inputs) (own_entries l.id)
-        ∙ ap (map (λ vr. kind_of (port_with vr d.inputs))) is.inputs
+        ∙ ap (map (λ vr. port_type (port_with vr d.inputs))) is.inputs
         ∙ same_types d.inputs c.outputs (slave_there sc.slaves s d of.sound.slaves of.slave).desc.inputs_apart (slave_there sc.slaves a c of.sound.slaves h.is).desc.outputs_apart ps all_joined
-        ∙ sym (ap (map (λ vr. kind_of (port_with vr c.outputs))) sent_entries)
+        ∙ sym (ap (map (λ vr. port_type (port_with vr c.outputs))) sent_entries)
 
     -- the values of the payload are its sender's outputs at the positions
-    values_are : cut (types_in d.inputs (entries input l.id w.changes)) kept.payload ≡ map (λ vr. output_value vr c.outputs h.values) (references (ports_out c.outputs ps))
+    values_are : cut_values (types_in d.inputs (entries input l.id w.changes)) kept.payload ≡ map (λ vr. output_value vr c.outputs h.values) (references (ports_out c.outputs ps))
     values_are =
-        ap (λ ts. cut ts kept.payload) types
-        ∙ ap (cut (types_in c.outputs (entries output l.id (planned_changes sc a c)))) h.carries
+        ap (λ ts. cut_values ts kept.payload) types
+        ∙ ap (cut_values (types_in c.outputs (entries output l.id (planned_changes sc a c)))) h.carries
         ∙ read_back c l.id (planned_changes sc a c) h.values (shown_fits sc a c r (state sc rows a c r (sent_step sc l.id k)) h.values h.shows)
         ∙ ap (map (λ vr. output_value vr c.outputs h.values)) sent_entries
 
@@ -170,7 +170,7 @@ module _ (sc : Scenario) (s : ℕ) (d : SlaveDesc) (of : IsSlaveOf sc s d) (rows
       here : IsJoined d.inputs c.outputs p
       here = each_got (IsJoined d.inputs c.outputs) ps j p all_joined place
 
-      value_is : slice_index_or (cut (types_in d.inputs (entries input l.id w.changes)) kept.payload) j (pos 0) ≡ slice_index_or h.values p.from (pos 0)
+      value_is : slice_index_or (cut_values (types_in d.inputs (entries input l.id w.changes)) kept.payload) j (pos 0) ≡ slice_index_or h.values p.from (pos 0)
       value_is =
           let desc = (slave_there sc.slaves a c of.sound.slaves h.is).desc in
           let count : length h.values ≡ length c.outputs = shown_length sc a c r (state sc rows a c r (sent_step sc l.id k)) h.values desc h.shows in
@@ -189,7 +189,7 @@ module _ (sc : Scenario) (s : ℕ) (d : SlaveDesc) (of : IsSlaveOf sc s d) (rows
       -- and there the reference reads them
       read_is : (v : Wire) → v.from ≡ l.from → v.to ≡ l.to → v.out ≡ p.from → read sc rows r k (Some v) ≡ slice_index_or h.values p.from (pos 0)
       read_is v f t o =
-          let q : interval sc.every v.from v.to ≡ interval_of sc l.id = ap (λ n. interval sc.every n v.to) f ∙ ap (interval sc.every l.from) t ∙ sym is.every ∙ sym (ap every_of is.found) in
+          let q : interval sc.every v.from v.to ≡ interval_of sc l.id = ap (λ n. interval sc.every n v.to) f ∙ ap (interval sc.every l.from) t ∙ sym is.every ∙ sym (ap link_interval is.found) in
           ap (λ n. slice_index_or (slice_index_or rows (row_index sc.steps r (n * (k / n))) []) (column sc.slaves v.from v.out) (pos 0)) q
           ∙ ap (λ n. slice_index_or (slice_index_or rows (row_index sc.steps r (sent_step sc l.id k)) []) (column sc.slaves n v.out) (pos 0)) f
           ∙ ap (λ n. slice_index_or (slice_index_or rows (row_index sc.steps r (sent_step sc l.id k)) []) (column sc.slaves l.from n) (pos 0)) o
@@ -231,7 +231,7 @@ module _ (sc : Scenario) (s : ℕ) (d : SlaveDesc) (of : IsSlaveOf sc s d) (rows
         let at = slice_get-map (λ (z : Port). z.vr) (ports_into d.inputs ps) e.position ∙ ap (option_map (λ (z : Port). z.vr)) (chosen_at (λ (p : Pair). slice_get d.inputs p.to) ps e.position h.pair some h.place ∙ h.there) in
         some_known l.id Planned (references (ports_into d.inputs ps)) e.position h.port.vr h.has.inputs at
 
-    wired_value : (e : Spot) (h : At e) (v : Wire) → wire_into sc.wires s i ≡ Some v → value_at d w (Some e) ≡ read sc rows r k (Some v)
+    wired_value : (e : Spot) (h : At e) (v : Wire) → wire_into sc.wires s i ≡ Some v → spot_value d w (Some e) ≡ read sc rows r k (Some v)
     wired_value e h v found =
         let l = h.link in
         let ends = sender_of_wire v (record { from = l.from; to = h.pair.from }) (sym (ap (option_map (λ (x : Wire). record { from = x.from; to = x.out })) found) ∙ fed_is e h) in
@@ -240,20 +240,20 @@ module _ (sc : Scenario) (s : ℕ) (d : SlaveDesc) (of : IsSlaveOf sc s d) (rows
         let fed = feed l.id known in
         let is = h.has in
         let value = value_is l is fed.0 fed.2 e.position h.pair h.place in
-        let same : value_at d w (Some e) ≡ slice_index_or (cut (types_in d.inputs (entries input l.id w.changes)) fed.0.payload) e.position (pos 0)
+        let same : spot_value d w (Some e) ≡ slice_index_or (cut_values (types_in d.inputs (entries input l.id w.changes)) fed.0.payload) e.position (pos 0)
         = ap (λ n. value_kept (types_in d.inputs (entries input n w.changes)) e.position (kept_under n w.kept)) (sym h.id) ∙ ap (value_kept (types_in d.inputs (entries input l.id w.changes)) e.position) fed.1 in
         same ∙ value ∙ sym (read_is l is fed.0 fed.2 e.position h.pair h.place v ends.0 (to ∙ sym is.to) ends.1)
 
-    input_is : (o : Option Spot) → spot q.vr Planned ≡ o → (x : Option Wire) → wire_into sc.wires s i ≡ x → value_at d w o ≡ read sc rows r k x
+    input_is : (o : Option Spot) → spot q.vr Planned ≡ o → (x : Option Wire) → wire_into sc.wires s i ≡ x → spot_value d w o ≡ read sc rows r k x
     input_is None e None g = refl
     input_is None e (Some v) g = absurd (spot_there sc s d of i q there v g e)
     input_is (Some p) e None g = absurd (let none : fed_by sc.wires s i ≡ None = ap (option_map (λ (x : Wire). record { from = x.from; to = x.out })) g in let some = fed_is p (at_spot p e) in cc)
     input_is (Some p) e (Some v) g = wired_value p (at_spot p e) v g
 
-  inputs_are : wired.inputs d w ≡ reference.inputs sc rows s d r k
+  inputs_are : wired.wired_values d w ≡ reference.inputs sc rows s d r k
   inputs_are =
       map_along (wired.input_value d w) (λ i. read sc rows r k (wire_into sc.wires s i)) d.inputs 0
-      (λ i q e. let same : i ≡ 0 + i = omega arith in ap (value_at d w) (own_spot q.vr) ∙ input_is i q e (spot q.vr Planned) refl (wire_into sc.wires s i) refl ∙ ap (λ n. read sc rows r k (wire_into sc.wires s n)) same)
+      (λ i q e. let same : i ≡ 0 + i = omega arith in ap (spot_value d w) (own_spot q.vr) ∙ input_is i q e (spot q.vr Planned) refl (wire_into sc.wires s i) refl ∙ ap (λ n. read sc rows r k (wire_into sc.wires s n)) same)
 
 pub read_rows : InputsReadRows
 read_rows sc s d of rows each r k w runs wiring feed = inputs_are sc s d of rows each r k w runs wiring feed

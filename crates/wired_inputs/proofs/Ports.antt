@@ -16,7 +16,7 @@ use Rattle.scenario.specs.Sound.{IsWire}
 use Rattle.plan_spec.specs.declared.pairs.Pair.{Pair}
 use Rattle.plan_spec.specs.Links.{is_wire}
 use Rattle.slave_wiring.specs.Refusals.{port_with}
-use Rattle.slave_wiring.specs.Payloads.{kind_of, output_value}
+use Rattle.slave_wiring.specs.Payloads.{port_type, output_value}
 use Rattle.plan_laws.proofs.Lists.{Pairwise, each_weaker}
 use Rattle.plan_laws.proofs.Ports.{each_got, port_found, some_wire}
 use Rattle.wired_inputs.proofs.Lists.{chosen_at, got_some}
@@ -53,15 +53,15 @@ joined slaves wires from to a b all e f p h =
 
 -- so a receiver cuts a payload by the types by which its sender made it
 pub same_types : (ins outs : List Port) → AreApart ins → AreApart outs → (ps : List Pair) → AllByRecursion (IsJoined ins outs) ps
-    → map (λ vr. kind_of (port_with vr ins)) (references (ports_into ins ps)) ≡ map (λ vr. kind_of (port_with vr outs)) (references (ports_out outs ps))
+    → map (λ vr. port_type (port_with vr ins)) (references (ports_into ins ps)) ≡ map (λ vr. port_type (port_with vr outs)) (references (ports_out outs ps))
 same_types ins outs a b [] h = refl
 same_types ins outs a b (p ∷ ps) h =
     let j = h.0 in
-    let left = ap (λ o. map (λ vr. kind_of (port_with vr ins)) (references (cons_option o (ports_into ins ps)))) j.into in
-    let right = ap (λ o. map (λ vr. kind_of (port_with vr outs)) (references (cons_option o (ports_out outs ps)))) j.out in
-    let one : kind_of (port_with j.input.vr ins) ≡ kind_of (port_with j.output.vr outs) = ap kind_of (port_found ins p.to j.input a j.into) ∙ j.kinds ∙ sym (ap kind_of (port_found outs p.from j.output b j.out)) in
-    left ∙ ap (λ k. k ∷ map (λ vr. kind_of (port_with vr ins)) (references (ports_into ins ps))) one
-    ∙ ap (λ l. kind_of (port_with j.output.vr outs) ∷ l) (same_types ins outs a b ps h.1) ∙ sym right
+    let left = ap (λ o. map (λ vr. port_type (port_with vr ins)) (references (cons_option o (ports_into ins ps)))) j.into in
+    let right = ap (λ o. map (λ vr. port_type (port_with vr outs)) (references (cons_option o (ports_out outs ps)))) j.out in
+    let one : port_type (port_with j.input.vr ins) ≡ port_type (port_with j.output.vr outs) = ap port_type (port_found ins p.to j.input a j.into) ∙ j.kinds ∙ sym (ap port_type (port_found outs p.from j.output b j.out)) in
+    left ∙ ap (λ k. k ∷ map (λ vr. port_type (port_with vr ins)) (references (ports_into ins ps))) one
+    ∙ ap (λ l. port_type (port_with j.output.vr outs) ∷ l) (same_types ins outs a b ps h.1) ∙ sym right
 
 -- the output at a position
 pub output_at_place : (ins outs : List Port) (ps : List Pair) (j : ℕ) (p : Pair) (q : Port) → AllByRecursion (IsJoined ins outs) ps → slice_get ps j ≡ Some p → slice_get outs p.from ≡ Some q → slice_get (references (ports_out outs ps)) j ≡ Some q.vr

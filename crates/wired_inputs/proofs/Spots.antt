@@ -17,9 +17,9 @@ use Rattle.scenario.specs.Sound.{IsSlave, IsWire}
 use Rattle.scenario.specs.Wiring.{wire_into}
 use Rattle.plan_spec.specs.declared.links.DataLink.{DataLink}
 use Rattle.plan_spec.specs.declared.pairs.Pair.{Pair}
-use Rattle.plan_spec.specs.Links.{pairs_from, is_wired, wired_pairs, is_wire, positions, links_from, wire_links}
+use Rattle.plan_spec.specs.Links.{pairs_from, is_wired_pair, wired_pairs, is_wire, positions, links_from, wire_links}
 use Rattle.plan_spec.specs.Setup.{numbered, net_info, input_at, told_interval, incoming, outgoing, watched}
-use Rattle.plan_laws.specs.Taking.{IsSlaveOf}
+use Rattle.plan_laws.specs.Taking.{IsScenarioSlave}
 use Rattle.plan_laws.proofs.Lists.{each_weaker, each_both, each_always, each_append, each_flat_map, each_from_all}
 use Rattle.plan_laws.proofs.Told.{onto, kept}
 use Rattle.plan_laws.proofs.Pairs.{some_of_pairs}
@@ -27,9 +27,9 @@ use Rattle.plan_laws.proofs.Ports.{inputs_are}
 use Rattle.plan_laws.proofs.Planned.{slave_there, inputs_there}
 use Rattle.plan_laws.proofs.Entries.{inputs_under}
 use Rattle.plan_laws.proofs.Links.{links_to, links_of, to_here}
-use Rattle.slave_wiring.specs.Changes.{Change, Set, Restart, newest}
+use Rattle.slave_wiring.specs.Changes.{Change, Set, Restart, newest_change}
 use Rattle.slave_wiring.specs.Payloads.{Spot, spot_given, spot}
-use Rattle.slave_course.specs.Wired.{planned_changes, restarted}
+use Rattle.slave_course.specs.Wired.{planned_changes, changes_restarted}
 use Rattle.slave_links.proofs.Planned.{first}
 use Rattle.wired_inputs.proofs.Lists.{chosen_cons, or_right, any_left, any_right, any_part, any_of_both, any_filter, any_weaker, found_passes, found_any, found_has}
 use Rattle.wired_inputs.proofs.Ports.{ports_into}
@@ -40,11 +40,11 @@ each_onto : {A : Type 0} (f : Change → Option A) (Q : A → Type 0) (bodies : 
 each_onto f Q [] base h k = k
 each_onto f Q (body ∷ bodies) base h k = each_onto f Q bodies (Set body ∷ base) h.1 (chosen_cons (f (Set body)) Q (filter_map f base) h.0 k)
 
-newest_has : {A : Type 0} (Q : A → Type 0) (xs : List A) (y : A) → AllByRecursion Q xs → newest xs ≡ Some y → Q y
+newest_has : {A : Type 0} (Q : A → Type 0) (xs : List A) (y : A) → AllByRecursion Q xs → newest_change xs ≡ Some y → Q y
 newest_has Q [] y h e = absurd cc
 newest_has {A} Q (x ∷ xs) y h e = let same : x ≡ y = cc in let P : A → Type 0 = Q in subst P same h.0
 
-newest_some : {A : Type 0} (xs : List A) → nat_lt 0 (length xs) ≡ true → newest xs ≡ None → ⊥
+newest_some : {A : Type 0} (xs : List A) → nat_lt 0 (length xs) ≡ true → newest_change xs ≡ None → ⊥
 newest_some [] h e = cc
 newest_some (x ∷ xs) h e = cc
 
@@ -61,7 +61,7 @@ some_onto {A} f (body ∷ bodies) base h = by (λ k. some_onto f bodies (Set bod
     by g (Some y) e k = kept f bodies (Set body ∷ base) (ap (λ o. nat_lt 0 (length (cons_option o (filter_map f base)))) e ∙ more y (filter_map f base))
 
 -- a restart gives no input its place
-pub restarted_spot : (steps vr : ℕ) (changes : List Change) (runs : ℕ) → spot vr (restarted steps changes runs) ≡ spot vr changes
+pub restarted_spot : (steps vr : ℕ) (changes : List Change) (runs : ℕ) → spot vr (changes_restarted steps changes runs) ≡ spot vr changes
 restarted_spot steps vr changes zero = refl
 restarted_spot steps vr changes (suc runs) = restarted_spot steps vr changes runs
 
@@ -116,7 +116,7 @@ both true true h k = refl
 both true false h k = k
 both false b h k = h
 
-module _ (sc : Scenario) (s : ℕ) (d : SlaveDesc) (of : IsSlaveOf sc s d) (i : ℕ) (q : Port) (there : slice_get d.inputs i ≡ Some q) (v : Wire) (found : wire_into sc.wires s i ≡ Some v) where
+module _ (sc : Scenario) (s : ℕ) (d : SlaveDesc) (of : IsScenarioSlave sc s d) (i : ℕ) (q : Port) (there : slice_get d.inputs i ≡ Some q) (v : Wire) (found : wire_into sc.wires s i ≡ Some v) where
   abbrev IsHere : Wire → Bool
   IsHere w = (w.to == s) && (w.into == i)
 
@@ -139,16 +139,16 @@ module _ (sc : Scenario) (s : ℕ) (d : SlaveDesc) (of : IsSlaveOf sc s d) (i : 
   abbrev IsPair : Pair → Bool
   IsPair p = (p.from == v.from) && (p.to == s)
 
-  pair_wired : is_wired sc.wires (record { from = v.from; to = s }) ≡ true
+  pair_wired : is_wired_pair sc.wires (record { from = v.from; to = s }) ≡ true
   pair_wired = found_any IsHere (λ (w : Wire). (w.from == v.from) && (w.to == s)) sc.wires v found (both (v.from == v.from) (v.to == s) (same v.from) ends.0)
 
   pair_there : list_any IsPair (wired_pairs sc) ≡ true
   pair_there =
       let n = length sc.slaves in
       let t = slave_there sc.slaves s d of.sound.slaves of.slave in
-      any_of_both (is_wired sc.wires) IsPair (pairs_from 1 n 1 n)
-      (some_of_pairs (λ p. is_wired sc.wires p && IsPair p) 1 n 1 n v.from s is.from.0 (omega (arith, is.from.1)) t.first (omega (arith, t.last))
-      (both (is_wired sc.wires (record { from = v.from; to = s })) (IsPair (record { from = v.from; to = s })) pair_wired (both (v.from == v.from) (s == s) (same v.from) (same s))))
+      any_of_both (is_wired_pair sc.wires) IsPair (pairs_from 1 n 1 n)
+      (some_of_pairs (λ p. is_wired_pair sc.wires p && IsPair p) 1 n 1 n v.from s is.from.0 (omega (arith, is.from.1)) t.first (omega (arith, t.last))
+      (both (is_wired_pair sc.wires (record { from = v.from; to = s })) (IsPair (record { from = v.from; to = s })) pair_wired (both (v.from == v.from) (s == s) (same v.from) (same s))))
 
   abbrev IsLink : DataLink → Bool
   IsLink l = (l.from == v.from) && (l.to == s)

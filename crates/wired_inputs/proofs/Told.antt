@@ -19,7 +19,7 @@ use Rattle.plan_spec.specs.declared.links.DataLink.{DataLink}
 use Rattle.plan_spec.specs.declared.pairs.Pair.{Pair}
 use Rattle.plan_spec.specs.Links.{pairs_from, positions, wire_links}
 use Rattle.plan_spec.specs.Setup.{numbered, net_info, input_at, output_at, told_interval, incoming, outgoing, watched}
-use Rattle.plan_laws.specs.Taking.{IsSlaveOf}
+use Rattle.plan_laws.specs.Taking.{IsScenarioSlave}
 use Rattle.plan_laws.proofs.Lists.{Pairwise, each_weaker, each_both, each_always, each_append, each_filter, each_flat_map, each_from_all, pairwise_filter}
 use Rattle.plan_laws.proofs.Told.{onto, onto_append}
 use Rattle.plan_laws.proofs.Entries.{inputs_under, outputs_under}
@@ -153,7 +153,7 @@ outputs_given id i (q ∷ qs) = ap (λ b. cons_option (if b then Some q.vr else 
 other_way : (a b : ℕ) → (a == b) ≡ false → (b == a) ≡ false
 other_way a b h = grind (arith, nat_tests, h)
 
-module _ (sc : Scenario) (s : ℕ) (d : SlaveDesc) (of : IsSlaveOf sc s d) where
+module _ (sc : Scenario) (s : ℕ) (d : SlaveDesc) (of : IsScenarioSlave sc s d) where
   wires : AllByRecursion (λ (w : Wire). IsWire sc.slaves w) sc.wires
   wires = each_from_all (λ (w : Wire). IsWire sc.slaves w) sc.wires of.sound.wires
 

@@ -5,11 +5,11 @@ use Rattle.scenario.specs.declared.scenarios.Scenario.{Scenario}
 use Rattle.scenario.specs.Lookups.{slave_at}
 use Rattle.lockstep.specs.Lockstep as reference
 use Rattle.lockstep.specs.Lockstep.{row_index, shown, IsMoment, EachRow}
-use Rattle.plan_laws.specs.Taking.{IsSlaveOf}
+use Rattle.plan_laws.specs.Taking.{IsScenarioSlave}
 use Rattle.slave_wiring.specs.Changes.{input, has_id}
 use Rattle.slave_wiring.specs.Payloads as wired
-use Rattle.slave_wiring.specs.Payloads.{Kept, Wires, kept_under, payload}
-use Rattle.slave_course.specs.Wired.{planned_changes, restarted}
+use Rattle.slave_wiring.specs.Payloads.{Kept, WiringState, kept_under, payload}
+use Rattle.slave_course.specs.Wired.{planned_changes, changes_restarted}
 use Rattle.slave_links.specs.Links.{interval_of, sender_of}
 
 -- the newest step, up to step k, after which a data id is sent
@@ -28,6 +28,6 @@ pub record IsShownBy (sc : Scenario) (rows : List (List ℤ)) (r k id : ℕ) (ke
 
 -- a slave with the wiring of the plan, and such a payload under each id that comes to it, has the inputs of the reference
 abbrev pub InputsReadRows : Type 0
-InputsReadRows = (sc : Scenario) (s : ℕ) (d : SlaveDesc) → IsSlaveOf sc s d → (rows : List (List ℤ)) → EachRow sc rows → (r k : ℕ) (w : Wires) (runs : ℕ) → w.changes ≡ restarted sc.steps (planned_changes sc s d) runs
+InputsReadRows = (sc : Scenario) (s : ℕ) (d : SlaveDesc) → IsScenarioSlave sc s d → (rows : List (List ℤ)) → EachRow sc rows → (r k : ℕ) (w : WiringState) (runs : ℕ) → w.changes ≡ changes_restarted sc.steps (planned_changes sc s d) runs
     → ((id : ℕ) → has_id input id (planned_changes sc s d) ≡ true → (kept : Kept) × (kept_under id w.kept ≡ Some kept) × IsShownBy sc rows r k id kept)
-    → wired.inputs d w ≡ reference.inputs sc rows s d r k
+    → wired.wired_values d w ≡ reference.inputs sc rows s d r k

@@ -14,8 +14,8 @@ use Rattle.slave_desc.specs.declared.ports.Port.{Port}
 use Rattle.slave_wiring.specs.Refusals.{port_with}
 use Rattle.dcp_types.specs.declared.addresses.Address.{Address}
 use Rattle.slave_desc.specs.declared.descriptions.SlaveDesc.{SlaveDesc}
-use Rattle.slave_wiring.specs.Changes.{Change, output, entries, ids, target, interval, base, ordinal}
-use Rattle.slave_wiring.specs.Payloads.{IsMessage, payload, data_message, all_fit, output_value, bytes_for, kind_of}
+use Rattle.slave_wiring.specs.Changes.{Change, output, entries, ids, target, entry_interval, base, ordinal}
+use Rattle.slave_wiring.specs.Payloads.{IsMessage, payload, data_message, values_fit_ports, output_value, bytes_for, port_type}
 use Rattle.wirings.specs.Ports.{port_index, place_with}
 use Rattle.wirings.specs.Payloads.{place_bytes}
 use Rattle.wirings.specs.declared.places.PortPlace.{PortPlace}
@@ -61,7 +61,7 @@ some_bytes m n room s = omega (arith, ap length s.bytes, length-take n room)
 
 record IsValue (ports : List Port) (values : List ℤ) (vr : ℕ) : Type 0 where
   is : get_or values (port_index vr ports) (pos 0) ≡ output_value vr ports values
-  fit : fits (kind_of (port_with vr ports)) (output_value vr ports values) ≡ true
+  fit : fits (port_type (port_with vr ports)) (output_value vr ports values) ≡ true
 
 left : (a b : Bool) → (a && b) ≡ true → a ≡ true
 left true b h = refl
@@ -71,22 +71,22 @@ right : (a b : Bool) → (a && b) ≡ true → b ≡ true
 right true b h = h
 right false b h = absurd cc
 
-value_is : (ports : List Port) (values : List ℤ) (vr : ℕ) → all_fit ports values ≡ true → IsValue ports values vr
+value_is : (ports : List Port) (values : List ℤ) (vr : ℕ) → values_fit_ports ports values ≡ true → IsValue ports values vr
 value_is [] [] vr h = record { is = refl; fit = refl }
 value_is [] (v ∷ vs) vr h = absurd cc
 value_is (p ∷ ps) [] vr h = absurd cc
 value_is (p ∷ ps) (v ∷ vs) vr h =
     by_test (p.vr == vr)
-    (λ e. record { is = rw e refl; fit = rw e (left (fits p.kind v) (all_fit ps vs) h) })
-    (λ e. let r = value_is ps vs vr (right (fits p.kind v) (all_fit ps vs) h) in record { is = rw e r.is; fit = rw e r.fit })
+    (λ e. record { is = rw e refl; fit = rw e (left (fits p.kind v) (values_fit_ports ps vs) h) })
+    (λ e. let r = value_is ps vs vr (right (fits p.kind v) (values_fit_ports ps vs) h) in record { is = rw e r.is; fit = rw e r.fit })
 
-bytes_same : (ports : List Port) (values : List ℤ) (vr : ℕ) → all_fit ports values ≡ true → place_bytes values (place_with ports vr) ≡ bytes_for ports values vr
+bytes_same : (ports : List Port) (values : List ℤ) (vr : ℕ) → values_fit_ports ports values ≡ true → place_bytes values (place_with ports vr) ≡ bytes_for ports values vr
 bytes_same ports values vr h =
     let v = value_is ports values vr h in
     rw (v.is, v.fit) refl
 
 -- the payload at the places of these value references
-pub payload_same : (ports : List Port) (values : List ℤ) (vrs : List ℕ) → all_fit ports values ≡ true → flat_map (place_bytes values) (map (place_with ports) vrs) ≡ flat_map (bytes_for ports values) vrs
+pub payload_same : (ports : List Port) (values : List ℤ) (vrs : List ℕ) → values_fit_ports ports values ≡ true → flat_map (place_bytes values) (map (place_with ports) vrs) ≡ flat_map (bytes_for ports values) vrs
 payload_same ports values [] h = refl
 payload_same ports values (vr ∷ vrs) h =
     let e = bytes_same ports values vr h in
@@ -115,7 +115,7 @@ no_message d changes o id i steps values room r h e read none =
     subst (λ (a : Option Address). IsMessage d changes steps values id room a None) (sym t) refl
 
 pub message : (d : SlaveDesc) (changes : List Change) (o : Outputs) (id i steps : ℕ) (values : List ℤ) (room : List ℕ) (r : OutputRow) (to : Address) (size number at : ℕ) (bytes : List ℕ)
-    → AreOutputs d changes o → slice_get (ids output changes) i ≡ Some id → r ≡ get_or o.rows.items i r → all_fit d.outputs values ≡ true
+    → AreOutputs d changes o → slice_get (ids output changes) i ≡ Some id → r ≡ get_or o.rows.items i r → values_fit_ports d.outputs values ≡ true
     → r.target ≡ Some to → number ≡ (r.base + steps / r.interval) % 65536 → at ≡ get_or o.ids i 0 → bytes ≡ flat_map (place_bytes values) r.places
     → take size room ≡ spelling (data_message number at bytes)
     → IsMessage d changes steps values id room (target id changes) (Some (to, size))
@@ -123,7 +123,7 @@ message d changes o id i steps values room r to size number at bytes h e read fi
     let row : r ≡ output_row d.outputs changes id = row_got d changes o id i r h e read in
     let t : target id changes ≡ Some to = ap (λ (q : OutputRow). q.target) (sym row) ∙ goes in
     let first = base output id changes in
-    let run = steps / interval output id changes in
+    let run = steps / entry_interval output id changes in
     let n' : number ≡ ordinal output id changes steps % 65536 = n ∙ ap (λ (q : OutputRow). (q.base + steps / q.interval) % 65536) row ∙ mod-add-mod first 65536 run in
     let a' : at ≡ id = a ∙ ap (λ (l : List ℕ). get_or l i 0) h.sorted ∙ (got (ids output changes) i id e).is in
     let b' : bytes ≡ payload d id changes values = b ∙ ap (λ (q : OutputRow). flat_map (place_bytes values) q.places) row ∙ payload_same d.outputs values (reverse (entries output id changes)) fit in

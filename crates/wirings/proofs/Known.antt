@@ -3,7 +3,7 @@ use Rattle.std.proofs.Common.{◌≡◌, ℕ, true, false, List, [], ◌∷◌, 
 use Rattle.std.specs.Prelude.{◌==◌, nat_lt, option_map}
 use Rattle.std.specs.List.{filter_map, cons_option}
 use Rattle.std.proofs.lemmas.Bool.Decides.{nat_tests}
-use Rattle.slave_wiring.specs.Changes.{Change, Set, Restart, interval, interval_given, base, set_or, Entry, Side, vr_for, entries, has_id, ids, ascending}
+use Rattle.slave_wiring.specs.Changes.{Change, Set, Restart, entry_interval, interval_given, base, set_or, Entry, Side, vr_for, entries, has_id, ids, ascending}
 use Rattle.wirings.specs.Ids.{IsThere, IsPlaceFor}
 use Rattle.wirings.proofs.Ascending.{by_test, Ascends, ascending_ascends, is_among, among_put, map_among, among_there, not_among}
 
@@ -47,11 +47,11 @@ not_set None before = refl
 not_set (Some q) before = refl
 
 -- an id without entries has the interval 1, and the base 0
-pub interval_new : (side : Side) (id : ℕ) (changes : List Change) → has_id side id changes ≡ false → interval side id changes ≡ 1
+pub interval_new : (side : Side) (id : ℕ) (changes : List Change) → has_id side id changes ≡ false → entry_interval side id changes ≡ 1
 interval_new side id [] h = refl
 interval_new side id (change ∷ changes) h =
     let before : has_id side id changes ≡ false = has_fewer (vr_for id (side change)) (entries side id changes) h in
-    rw before (not_set (interval_given id change) (interval side id changes) ∙ interval_new side id changes before)
+    rw before (not_set (interval_given id change) (entry_interval side id changes) ∙ interval_new side id changes before)
 
 pub base_new : (side : Side) (id : ℕ) (changes : List Change) → has_id side id changes ≡ false → base side id changes ≡ 0
 base_new side id [] h = refl

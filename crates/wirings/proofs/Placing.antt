@@ -12,22 +12,22 @@ use Rattle.pdu_layout.specs.Reading.{value_in}
 use Rattle.slave_desc.specs.declared.descriptions.SlaveDesc.{SlaveDesc}
 use Rattle.slave_wiring.specs.Changes.{Change, Set, input, entries}
 use Rattle.slave_wiring.specs.Refusals.{port_with, is_wired}
-use Rattle.slave_wiring.specs.Payloads.{Kept, Spot, kind_of, input_types, spot, cut, value_kept}
+use Rattle.slave_wiring.specs.Payloads.{Kept, Spot, port_type, input_types, spot, cut_values, value_kept}
 use Rattle.wirings.specs.Receiving.{segment_of, segment_value, IsPlaced}
 use Rattle.wirings.specs.declared.tables.Segment.{Segment}
 use Rattle.wirings.proofs.Ascending.{by_test}
 
 -- the types of an id, after an entry of some id
-pub types_own : (d : SlaveDesc) (changes : List Change) (id position vr : ℕ) (source : DataType) (y : ℕ) → (id == y) ≡ true → input_types d y (Set (cfg.Input id position vr source) ∷ changes) ≡ input_types d y changes ++ kind_of (port_with vr d.inputs) ∷ []
+pub types_own : (d : SlaveDesc) (changes : List Change) (id position vr : ℕ) (source : DataType) (y : ℕ) → (id == y) ≡ true → input_types d y (Set (cfg.Input id position vr source) ∷ changes) ≡ input_types d y changes ++ port_type (port_with vr d.inputs) ∷ []
 types_own d changes id position vr source y e =
-    let f : ℕ → DataType = λ v. kind_of (port_with v d.inputs) in
+    let f : ℕ → DataType = λ v. port_type (port_with v d.inputs) in
     rw e (ap (map f) (reverse-append (vr ∷ []) (entries input y changes)) ∙ map-append f (reverse (entries input y changes)) (vr ∷ []))
 
 pub types_other : (d : SlaveDesc) (changes : List Change) (id position vr : ℕ) (source : DataType) (y : ℕ) → (id == y) ≡ false → input_types d y (Set (cfg.Input id position vr source) ∷ changes) ≡ input_types d y changes
 types_other d changes id position vr source y e = rw e refl
 
 pub types_count : (d : SlaveDesc) (id : ℕ) (changes : List Change) → length (input_types d id changes) ≡ length (entries input id changes)
-types_count d id changes = length-map (reverse (entries input id changes)) (λ v. kind_of (port_with v d.inputs)) ∙ length-reverse (entries input id changes)
+types_count d id changes = length-map (reverse (entries input id changes)) (λ v. port_type (port_with v d.inputs)) ∙ length-reverse (entries input id changes)
 
 pub widths_more : (types : List DataType) (kind : DataType) → sum_by width (types ++ kind ∷ []) ≡ sum_by width types + width kind
 widths_more types kind = sum_by-append width types (kind ∷ []) ∙ ap (λ n. sum_by width types + n) (zero-add (width kind))
@@ -52,17 +52,17 @@ segment_is types kind e p =
     let g : DataType → Segment = λ k. record { id = e.id; offset = sum_by width p.before; kind = k } in
     ap f (ap (sum_by width) front) ∙ ap g here
 
-cut_at : (before : List DataType) (kind : DataType) (after : List DataType) (payload : List ℕ) → get_or (cut (before ++ kind ∷ after) payload) (length before) (pos 0) ≡ value_in kind (take (width kind) (drop (sum_by width before) payload))
+cut_at : (before : List DataType) (kind : DataType) (after : List DataType) (payload : List ℕ) → get_or (cut_values (before ++ kind ∷ after) payload) (length before) (pos 0) ≡ value_in kind (take (width kind) (drop (sum_by width before) payload))
 cut_at [] kind after payload = refl
 cut_at (t ∷ ts) kind after payload =
     let f : List ℕ → ℤ = λ l. value_in kind (take (width kind) l) in
     cut_at ts kind after (drop (width t) payload)
     ∙ ap f (drop-drop (sum_by width ts) (width t) payload ∙ ap (λ n. drop n payload) (sym (sum_by-cons width t ts)))
 
-pub value_placed : (types : List DataType) (kind : DataType) (e : Spot) (p : IsPlaced types kind e) (payload : List ℕ) → get_or (cut types payload) e.position (pos 0) ≡ value_in kind (take (width kind) (drop (sum_by width p.before) payload))
+pub value_placed : (types : List DataType) (kind : DataType) (e : Spot) (p : IsPlaced types kind e) (payload : List ℕ) → get_or (cut_values types payload) e.position (pos 0) ≡ value_in kind (take (width kind) (drop (sum_by width p.before) payload))
 value_placed types kind e p payload =
-    ap (λ l. get_or (cut l payload) e.position (pos 0)) p.split
-    ∙ ap (λ n. get_or (cut (p.before ++ kind ∷ p.after) payload) n (pos 0)) p.position
+    ap (λ l. get_or (cut_values l payload) e.position (pos 0)) p.split
+    ∙ ap (λ n. get_or (cut_values (p.before ++ kind ∷ p.after) payload) n (pos 0)) p.position
     ∙ cut_at p.before kind p.after payload
 
 pub kept_more : (types : List DataType) (kind more : DataType) (e : Spot) (o : Option Kept) → IsPlaced types kind e → value_kept (types ++ more ∷ []) e.position o ≡ value_kept types e.position o
@@ -94,7 +94,7 @@ wired_is vr (Set (cfg.Input id position other source) ∷ changes) =
 wired_is vr (change ∷ changes) = wired_is vr changes
 
 -- the value that is read, and the one in the definition
-pub value_read : (types : List DataType) (kind : DataType) (e : Spot) (payload : List ℕ) → IsPlaced types kind e → length payload ≡ sum_by width types → segment_value (segment_of types e) payload ≡ get_or (cut types payload) e.position (pos 0)
+pub value_read : (types : List DataType) (kind : DataType) (e : Spot) (payload : List ℕ) → IsPlaced types kind e → length payload ≡ sum_by width types → segment_value (segment_of types e) payload ≡ get_or (cut_values types payload) e.position (pos 0)
 value_read types kind e payload p size =
     let s : sum_by width types ≡ sum_by width p.before + (width kind + sum_by width p.after) =
     ap (sum_by width) p.split ∙ sum_by-append width p.before (kind ∷ p.after) ∙ ap (λ n. sum_by width p.before + n) (sum_by-cons width kind p.after) in

@@ -11,9 +11,9 @@ use Rattle.dcp_types.specs.declared.error_codes.ErrorCode.TheVariants.{NotSuppor
 use Rattle.pdu_layout.specs.declared.messages.Cfg.TheVariants as cfg
 use Rattle.slave_desc.specs.declared.ports.Port.{Port}
 use Rattle.slave_desc.specs.declared.descriptions.SlaveDesc.{SlaveDesc}
-use Rattle.slave_wiring.specs.Changes.{Change, Set, Restart, output, entries, has_id, ids, target, interval, base, put_ascending, vr_for}
+use Rattle.slave_wiring.specs.Changes.{Change, Set, Restart, output, entries, has_id, ids, target, entry_interval, base, put_ascending, vr_for}
 use Rattle.pdu_layout.specs.declared.messages.NetInfo.{NetInfo}
-use Rattle.slave_wiring.specs.Refusals.{is_transport, refusal, is_full, port_with, unless}
+use Rattle.slave_wiring.specs.Refusals.{is_transport, refusal_of_setting, is_full, port_with, refused_unless}
 use Rattle.wirings.specs.Ids.{IsThere, IsPlaceFor, IsFound}
 use Rattle.wirings.specs.Ports.{IsPort, place_with}
 use Rattle.wirings.specs.Sending.{output_row, AreOutputs, row_restarted}
@@ -24,8 +24,8 @@ use Rattle.wirings.proofs.Ascending.{by_test, put_there, put_new, map_set, map_i
 use Rattle.wirings.proofs.Known.{ids_ascend, map_known, known, unknown, has_none, has_fewer, interval_new, base_new}
 
 -- refusals of an entry
-pub full : (d : SlaveDesc) (changes : List Change) (id position vr : ℕ) → has_id output id changes ≡ false → 17 ≤ length (ids output changes) → refusal d changes (cfg.Output id position vr) ≡ Some NotSupported
-unfolding refusal
+pub full : (d : SlaveDesc) (changes : List Change) (id position vr : ℕ) → has_id output id changes ≡ false → 17 ≤ length (ids output changes) → refusal_of_setting d changes (cfg.Output id position vr) ≡ Some NotSupported
+unfolding refusal_of_setting
 full d changes id position vr h n =
     let e : nat_le 17 (length (ids output changes)) ≡ true = grind (arith, nat_tests, n) in
     rw (h, e) refl
@@ -38,12 +38,12 @@ not_full_room changes id h n =
     let e : nat_le 17 (length (ids output changes)) ≡ false = grind (arith, nat_tests, n) in
     rw (h, e) refl
 
-pub no_port : (d : SlaveDesc) (changes : List Change) (id position vr : ℕ) → is_full id changes ≡ false → port_with vr d.outputs ≡ None → refusal d changes (cfg.Output id position vr) ≡ Some UnknownVr
-unfolding refusal
+pub no_port : (d : SlaveDesc) (changes : List Change) (id position vr : ℕ) → is_full id changes ≡ false → port_with vr d.outputs ≡ None → refusal_of_setting d changes (cfg.Output id position vr) ≡ Some UnknownVr
+unfolding refusal_of_setting
 no_port d changes id position vr f p = rw (f, p) refl
 
-pub judged : (d : SlaveDesc) (changes : List Change) (id position vr : ℕ) (place : PortPlace) → is_full id changes ≡ false → IsPort vr d.outputs place → (b : Bool) → ((position == length (entries output id changes)) && nat_lt position 8) ≡ b → refusal d changes (cfg.Output id position vr) ≡ unless b Position
-unfolding refusal
+pub judged : (d : SlaveDesc) (changes : List Change) (id position vr : ℕ) (place : PortPlace) → is_full id changes ≡ false → IsPort vr d.outputs place → (b : Bool) → ((position == length (entries output id changes)) && nat_lt position 8) ≡ b → refusal_of_setting d changes (cfg.Output id position vr) ≡ refused_unless b Position
+unfolding refusal_of_setting
 judged d changes id position vr place f p b e = rw (f, p.found, e) refl
 
 -- an entry of one id leaves the rows of the others
@@ -144,7 +144,7 @@ there_at d changes o id i h t = subst (λ (l : List ℕ). IsThere l id i) h.sort
 pub place_at : (d : SlaveDesc) (changes : List Change) (o : Outputs) (id i : ℕ) → AreOutputs d changes o → IsPlaceFor o.ids id i → IsPlaceFor (ids output changes) id i
 place_at d changes o id i h t = subst (λ (l : List ℕ). IsPlaceFor l id i) h.sorted t
 
-pub full_at : (d : SlaveDesc) (changes : List Change) (o : Outputs) (id i position vr : ℕ) → AreOutputs d changes o → IsPlaceFor o.ids id i → 17 ≤ length o.ids → refusal d changes (cfg.Output id position vr) ≡ Some NotSupported
+pub full_at : (d : SlaveDesc) (changes : List Change) (o : Outputs) (id i position vr : ℕ) → AreOutputs d changes o → IsPlaceFor o.ids id i → 17 ≤ length o.ids → refusal_of_setting d changes (cfg.Output id position vr) ≡ Some NotSupported
 full_at d changes o id i position vr h t n =
     let l : length o.ids ≡ length (ids output changes) = ap length h.sorted in
     full d changes id position vr (unknown output id i changes (place_at d changes o id i h t)) (omega arith)
@@ -167,7 +167,7 @@ none_at d changes o id i h t = ap length (sym (has_none (entries output id chang
 
 -- an entry at this position, where the id has so many
 pub judged_at : (d : SlaveDesc) (changes : List Change) (id position vr count : ℕ) (place : PortPlace) (b : Bool) → is_full id changes ≡ false → IsPort vr d.outputs place → count ≡ length (entries output id changes)
-    → b ≡ ((position == count) && nat_lt position 8) → refusal d changes (cfg.Output id position vr) ≡ unless b Position
+    → b ≡ ((position == count) && nat_lt position 8) → refusal_of_setting d changes (cfg.Output id position vr) ≡ refused_unless b Position
 judged_at d changes id position vr count place b f p n e =
     judged d changes id position vr place f p b (ap (λ (m : ℕ). (position == m) && nat_lt position 8) (sym n) ∙ sym e)
 
@@ -176,17 +176,17 @@ has_found d changes o id (Ok i) h t = sym (known output id i changes (there_at d
 has_found d changes o id (Err i) h t = sym (unknown output id i changes (place_at d changes o id i h t))
 
 -- a target
-pub target_refused : (d : SlaveDesc) (changes : List Change) (net : NetInfo) (b : Bool) → is_transport net.protocol ≡ true → (has_id output net.data_id changes && is_none (target net.data_id changes)) ≡ b → refusal d changes (cfg.Target net) ≡ unless b Position
-unfolding refusal
+pub target_refused : (d : SlaveDesc) (changes : List Change) (net : NetInfo) (b : Bool) → is_transport net.protocol ≡ true → (has_id output net.data_id changes && is_none (target net.data_id changes)) ≡ b → refusal_of_setting d changes (cfg.Target net) ≡ refused_unless b Position
+unfolding refusal_of_setting
 target_refused d changes net b t e = rw (t, e) refl
 
-pub no_target_id : (d : SlaveDesc) (changes : List Change) (o : Outputs) (net : NetInfo) (i : ℕ) → AreOutputs d changes o → IsPlaceFor o.ids net.data_id i → is_transport net.protocol ≡ true → refusal d changes (cfg.Target net) ≡ Some Position
+pub no_target_id : (d : SlaveDesc) (changes : List Change) (o : Outputs) (net : NetInfo) (i : ℕ) → AreOutputs d changes o → IsPlaceFor o.ids net.data_id i → is_transport net.protocol ≡ true → refusal_of_setting d changes (cfg.Target net) ≡ Some Position
 no_target_id d changes o net i h p t =
     let e : has_id output net.data_id changes ≡ false = unknown output net.data_id i changes (place_at d changes o net.data_id i h p) in
     target_refused d changes net false t (rw e refl)
 
 pub target_told : (d : SlaveDesc) (changes : List Change) (o : Outputs) (net : NetInfo) (i : ℕ) (r : OutputRow) (b : Bool) → AreOutputs d changes o → IsThere o.ids net.data_id i → is_transport net.protocol ≡ true → r ≡ get_or o.rows.items i r
-    → is_some r.target ≡ not b → refusal d changes (cfg.Target net) ≡ unless b Position
+    → is_some r.target ≡ not b → refusal_of_setting d changes (cfg.Target net) ≡ refused_unless b Position
 target_told d changes o net i r b h p t read s =
     let at = there_at d changes o net.data_id i h p in
     let e : has_id output net.data_id changes ≡ true = known output net.data_id i changes at in
@@ -290,7 +290,7 @@ map-map f g (x ∷ xs) = ap (λ l. f (g x) ∷ l) (map-map f g xs)
 after_restart : (ports : List Port) (changes : List Change) (steps y : ℕ) → has_id output y changes ≡ true → output_row ports (Restart steps ∷ changes) y ≡ row_restarted steps (output_row ports changes y)
 after_restart ports changes steps y k =
     let b = base output y changes in
-    let s = steps / interval output y changes + 1 in
+    let s = steps / entry_interval output y changes + 1 in
     rw k (ap (λ (m : ℕ). record (output_row ports changes y) { base = m }) (sym (mod-add-mod b 65536 s)))
 
 pub restarted : (d : SlaveDesc) (changes : List Change) (o n : Outputs) (steps : ℕ) → AreOutputs d changes o → n.ports.items ≡ o.ports.items → n.ids ≡ o.ids → n.rows.items ≡ map (row_restarted steps) o.rows.items

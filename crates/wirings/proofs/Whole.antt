@@ -9,10 +9,10 @@ use Rattle.dcp_types.specs.declared.error_codes.ErrorCode.TheVariants.{NotSuppor
 use Rattle.pdu_layout.specs.declared.messages.Cfg.TheVariants as cfg
 use Rattle.pdu_layout.specs.declared.messages.NetInfo.{NetInfo}
 use Rattle.slave_desc.specs.declared.descriptions.SlaveDesc.{SlaveDesc}
-use Rattle.slave_wiring.specs.Changes.{Change, Set, input, output, has_id, ids, source, complete, in_run}
-use Rattle.slave_wiring.specs.Refusals.{refusal, unless, is_transport}
+use Rattle.slave_wiring.specs.Changes.{Change, Set, input, output, has_id, ids, source, complete, steps_in_run}
+use Rattle.slave_wiring.specs.Refusals.{refusal_of_setting, refused_unless, is_transport}
 use Rattle.slave_wiring.specs.Payloads as payloads
-use Rattle.slave_wiring.specs.Payloads.{Wires, ready, is_here, kept_under}
+use Rattle.slave_wiring.specs.Payloads.{WiringState, ready, is_here, kept_under}
 use Rattle.wirings.specs.Sending.{output_row, AreOutputs}
 use Rattle.wirings.specs.Receiving.{input_row, AreInputs, is_kept_for}
 use Rattle.wirings.specs.Standing.{WiringFor}
@@ -40,10 +40,10 @@ not_time d changes o numerator denominator h = record { listed = h.listed; sorte
 
 -- ---- the wiring with other parts
 
-pub with_inputs : (w n : Wiring) (d : SlaveDesc) (x : Wires) → WiringFor w d x → n.numerator ≡ w.numerator → n.denominator ≡ w.denominator → n.has_time ≡ w.has_time → AreInputs d x n.inputs → AreOutputs d x.changes n.outputs → WiringFor n d x
+pub with_inputs : (w n : Wiring) (d : SlaveDesc) (x : WiringState) → WiringFor w d x → n.numerator ≡ w.numerator → n.denominator ≡ w.denominator → n.has_time ≡ w.has_time → AreInputs d x n.inputs → AreOutputs d x.changes n.outputs → WiringFor n d x
 with_inputs w n d x h a b t i o = record { numerator = a ∙ h.numerator; denominator = b ∙ h.denominator; time = t ∙ h.time; inputs = i; outputs = o }
 
-pub time_told : (w n : Wiring) (d : SlaveDesc) (x : Wires) (numerator denominator : ℕ) → WiringFor w d x → n.numerator ≡ w.numerator → n.denominator ≡ w.denominator → n.has_time ≡ true → n.inputs ≡ w.inputs → n.outputs ≡ w.outputs → WiringFor n d (payloads.set x (cfg.TimeRes numerator denominator))
+pub time_told : (w n : Wiring) (d : SlaveDesc) (x : WiringState) (numerator denominator : ℕ) → WiringFor w d x → n.numerator ≡ w.numerator → n.denominator ≡ w.denominator → n.has_time ≡ true → n.inputs ≡ w.inputs → n.outputs ≡ w.outputs → WiringFor n d (payloads.set x (cfg.TimeRes numerator denominator))
 time_told w n d x numerator denominator h a b t i o = record {
   numerator = a ∙ h.numerator;
   denominator = b ∙ h.denominator;
@@ -54,20 +54,20 @@ time_told w n d x numerator denominator h a b t i o = record {
 
 -- ---- refusals
 
-pub time_judged : (d : SlaveDesc) (changes : List Change) (numerator denominator : ℕ) (b : Bool) → b ≡ ((numerator == d.numerator) && (denominator == d.denominator)) → refusal d changes (cfg.TimeRes numerator denominator) ≡ unless b NotSupported
-unfolding refusal
-time_judged d changes numerator denominator b e = ap (λ c. unless c NotSupported) (sym e)
+pub time_judged : (d : SlaveDesc) (changes : List Change) (numerator denominator : ℕ) (b : Bool) → b ≡ ((numerator == d.numerator) && (denominator == d.denominator)) → refusal_of_setting d changes (cfg.TimeRes numerator denominator) ≡ refused_unless b NotSupported
+unfolding refusal_of_setting
+time_judged d changes numerator denominator b e = ap (λ c. refused_unless c NotSupported) (sym e)
 
-pub interval_judged : (d : SlaveDesc) (changes : List Change) (id q : ℕ) (b : Bool) → b ≡ (nat_le 1 q && nat_le q 1000 && (has_id input id changes || has_id output id changes)) → refusal d changes (cfg.Steps id q) ≡ unless b NotSupported
-unfolding refusal
-interval_judged d changes id q b e = ap (λ c. unless c NotSupported) (sym e)
+pub interval_judged : (d : SlaveDesc) (changes : List Change) (id q : ℕ) (b : Bool) → b ≡ (nat_le 1 q && nat_le q 1000 && (has_id input id changes || has_id output id changes)) → refusal_of_setting d changes (cfg.Steps id q) ≡ refused_unless b NotSupported
+unfolding refusal_of_setting
+interval_judged d changes id q b e = ap (λ c. refused_unless c NotSupported) (sym e)
 
-pub no_source_way : (d : SlaveDesc) (changes : List Change) (net : NetInfo) → is_transport net.protocol ≡ false → refusal d changes (cfg.Source net) ≡ Some NotSupported
-unfolding refusal
+pub no_source_way : (d : SlaveDesc) (changes : List Change) (net : NetInfo) → is_transport net.protocol ≡ false → refusal_of_setting d changes (cfg.Source net) ≡ Some NotSupported
+unfolding refusal_of_setting
 no_source_way d changes net e = rw e refl
 
-pub no_target_way : (d : SlaveDesc) (changes : List Change) (net : NetInfo) → is_transport net.protocol ≡ false → refusal d changes (cfg.Target net) ≡ Some NotSupported
-unfolding refusal
+pub no_target_way : (d : SlaveDesc) (changes : List Change) (net : NetInfo) → is_transport net.protocol ≡ false → refusal_of_setting d changes (cfg.Target net) ≡ Some NotSupported
+unfolding refusal_of_setting
 no_target_way d changes net e = rw e refl
 
 -- ---- complete and ready
@@ -76,7 +76,7 @@ all_same : {X : Type 0} (p q : X → Bool) (xs : List X) → ((x : X) → p x �
 all_same p q [] same = refl
 all_same p q (x ∷ xs) same = let e = same x in let r = all_same p q xs same in cc
 
-pub complete_is : (w : Wiring) (d : SlaveDesc) (x : Wires) → WiringFor w d x
+pub complete_is : (w : Wiring) (d : SlaveDesc) (x : WiringState) → WiringFor w d x
     → (w.has_time && list_all (λ (row : InputRow). is_some row.source) w.inputs.rows.items && list_all (λ (row : OutputRow). is_some row.target) w.outputs.rows.items) ≡ complete x.changes
 complete_is w d x h =
     let p : InputRow → Bool = λ row. is_some row.source in
@@ -85,8 +85,8 @@ complete_is w d x h =
     let t = ap (list_all q) h.outputs.rows ∙ list_all-map q (output_row d.outputs x.changes) (ids output x.changes) in
     rw (s, t, h.time) refl
 
-pub ready_is : (w : Wiring) (d : SlaveDesc) (x : Wires) (steps : ℕ) → WiringFor w d x → list_all (λ (row : InputRow). is_kept_for (steps / row.interval) row.kept) w.inputs.rows.items ≡ ready x steps
+pub ready_is : (w : Wiring) (d : SlaveDesc) (x : WiringState) (steps : ℕ) → WiringFor w d x → list_all (λ (row : InputRow). is_kept_for (steps / row.interval) row.kept) w.inputs.rows.items ≡ ready x steps
 ready_is w d x steps h =
     let p : InputRow → Bool = λ row. is_kept_for (steps / row.interval) row.kept in
     ap (list_all p) h.inputs.rows ∙ list_all-map p (input_row d x) (ids input x.changes)
-    ∙ all_same (λ id. p (input_row d x id)) (is_here x steps) (ids input x.changes) (λ id. kept_same (in_run input id x.changes steps) (kept_under id x.kept))
+    ∙ all_same (λ id. p (input_row d x id)) (is_here x steps) (ids input x.changes) (λ id. kept_same (steps_in_run input id x.changes steps) (kept_under id x.kept))

@@ -12,7 +12,7 @@ use Rattle.dcp_types.specs.declared.data_types.DataType.{DataType}
 use Rattle.dcp_types.specs.Values.{width, digits, residue, fits, value_bytes}
 use Rattle.dcp_types.proofs.Residues.{value_of, value_of-residue, residue_below}
 use Rattle.pdu_layout.specs.Reading.{number, value_in}
-use Rattle.wirings.specs.Receiving.{segment_value, value_after, input_restarted}
+use Rattle.wirings.specs.Receiving.{segment_value, input_after, input_restarted}
 use Rattle.wirings.specs.declared.tables.InputRow.{InputRow}
 use Rattle.wirings.specs.declared.tables.Segment.{Segment}
 use Rattle.fixed_models.specs.Domains.{IsInput}
@@ -60,11 +60,11 @@ value_got s payload bytes z h f e b =
 pub record TakenUpTo (segments : List (Option Segment)) (old new : List ℤ) (id : ℕ) (payload : List ℕ) (i : ℕ) : Type 0 where
   pub inputs : (k : ℕ) (z : ℤ) → k < length new → IsInput (get_or new k z)
   pub long : length new ≡ length old
-  pub front : (k : ℕ) (e : Option Segment) (z : ℤ) → k < i → get_or new k z ≡ value_after (get_or segments k e) id payload (get_or old k z)
+  pub front : (k : ℕ) (e : Option Segment) (z : ℤ) → k < i → get_or new k z ≡ input_after (get_or segments k e) id payload (get_or old k z)
   pub rest : (k : ℕ) (z : ℤ) → i ≤ k → get_or new k z ≡ get_or old k z
 
 pub taken_more : (segments : List (Option Segment)) (old new : List ℤ) (id : ℕ) (payload : List ℕ) (i : ℕ) (u v y : ℤ) (x : Option Segment) → TakenUpTo segments old new id payload i → i < length segments → i < length new
-    → u ≡ v → IsInput v → v ≡ value_after (get_or segments i x) id payload (get_or new i y) → TakenUpTo segments old (set new i u) id payload (i + 1)
+    → u ≡ v → IsInput v → v ≡ input_after (get_or segments i x) id payload (get_or new i y) → TakenUpTo segments old (set new i u) id payload (i + 1)
 taken_more segments old new id payload i u v y x t within here same good e =
     subst (λ (q : ℤ). TakenUpTo segments old (set new i q) id payload (i + 1)) (sym same) (record {
       inputs = λ k z h. one k z h;
@@ -81,15 +81,15 @@ taken_more segments old new id payload i u v y x t within here same good e =
           | inr ne ↦ subst IsInput (sym (get_or-set_other new i k v z ne)) (t.inputs k z (omega (arith, l, h)))
         ]
 
-    now : (d : Option Segment) (z : ℤ) → get_or (set new i v) i z ≡ value_after (get_or segments i d) id payload (get_or old i z)
+    now : (d : Option Segment) (z : ℤ) → get_or (set new i v) i z ≡ input_after (get_or segments i d) id payload (get_or old i z)
     now d z =
         get_or-set_same new i v z here ∙ e
-        ∙ ap (λ (o : Option Segment). value_after o id payload (get_or new i y)) (get_or_default segments i x d within)
-        ∙ ap (λ (q : ℤ). value_after (get_or segments i d) id payload q) (get_or_default new i y z here ∙ t.rest i z (omega arith))
+        ∙ ap (λ (o : Option Segment). input_after o id payload (get_or new i y)) (get_or_default segments i x d within)
+        ∙ ap (λ (q : ℤ). input_after (get_or segments i d) id payload q) (get_or_default new i y z here ∙ t.rest i z (omega arith))
 
-    at : (k : ℕ) (d : Option Segment) (z : ℤ) → k < i + 1 → get_or (set new i v) k z ≡ value_after (get_or segments k d) id payload (get_or old k z)
+    at : (k : ℕ) (d : Option Segment) (z : ℤ) → k < i + 1 → get_or (set new i v) k z ≡ input_after (get_or segments k d) id payload (get_or old k z)
     at k d z h = elim (cases_eq k i) [
-      | inl q ↦ subst (λ (j : ℕ). get_or (set new i v) j z ≡ value_after (get_or segments j d) id payload (get_or old j z)) (sym q) (now d z)
+      | inl q ↦ subst (λ (j : ℕ). get_or (set new i v) j z ≡ input_after (get_or segments j d) id payload (get_or old j z)) (sym q) (now d z)
       | inr ne ↦ get_or-set_other new i k v z ne ∙ t.front k d z (omega arith)
     ]
 

@@ -2,7 +2,7 @@
 use Rattle.std.specs.Prelude.{◌≡◌, ℕ, suc, ◌==◌, ◌<◌, List, [], ◌∷◌, length, Some, if◌then◌else◌}
 use Rattle.slave_desc.specs.declared.ports.Port.{Port}
 use Rattle.slave_wiring.specs.Refusals.{port_with}
-use Rattle.slave_wiring.specs.Payloads.{kind_of}
+use Rattle.slave_wiring.specs.Payloads.{port_type}
 use Rattle.wirings.specs.declared.places.PortPlace.{PortPlace}
 
 -- the number of the first port with this value reference, or how many ports there are
@@ -12,7 +12,7 @@ port_index vr (port ∷ ports) = if port.vr == vr then 0 else suc (port_index vr
 
 -- the place of the port with this value reference
 abbrev pub place_with : List Port → ℕ → PortPlace
-place_with ports vr = record { index = port_index vr ports; kind = kind_of (port_with vr ports) }
+place_with ports vr = record { index = port_index vr ports; kind = port_type (port_with vr ports) }
 
 pub record IsPort (vr : ℕ) (ports : List Port) (place : PortPlace) : Type 0 where
   pub port : Port

@@ -7,9 +7,9 @@ use Rattle.dcp_types.specs.Values.{width}
 use Rattle.pdu_layout.specs.Reading.{value_in}
 use Rattle.slave_desc.specs.declared.descriptions.SlaveDesc.{SlaveDesc}
 use Rattle.slave_desc.specs.Descriptions.{AreApart}
-use Rattle.slave_wiring.specs.Changes.{Change, input, entries, has_id, ids, source, interval, base}
+use Rattle.slave_wiring.specs.Changes.{Change, input, entries, has_id, ids, source, entry_interval, base}
 use Rattle.slave_wiring.specs.Refusals.{port_with}
-use Rattle.slave_wiring.specs.Payloads.{Wires, Kept, Spot, kind_of, input_types, kept_under, is_address, spot, inputs}
+use Rattle.slave_wiring.specs.Payloads.{WiringState, Kept, Spot, port_type, input_types, kept_under, is_address, spot, wired_values}
 use Rattle.wirings.specs.declared.tables.InputRow.{InputRow}
 use Rattle.wirings.specs.declared.tables.Segment.{Segment}
 use Rattle.wirings.specs.declared.tables.Inputs.{Inputs}
@@ -19,12 +19,12 @@ kept_ordinal None = None
 kept_ordinal (Some k) = Some k.ordinal
 
 -- what is kept of an input id
-abbrev pub input_row : SlaveDesc → Wires → ℕ → InputRow
+abbrev pub input_row : SlaveDesc → WiringState → ℕ → InputRow
 input_row d w id = record {
   count = length (entries input id w.changes);
   size = sum_by width (input_types d id w.changes);
   source = source id w.changes;
-  interval = interval input id w.changes;
+  interval = entry_interval input id w.changes;
   base = base input id w.changes % 65536;
   kept = kept_ordinal (kept_under id w.kept);
 }
@@ -45,20 +45,20 @@ pub record IsPlaced (types : List DataType) (kind : DataType) (e : Spot) : Type 
   pub position : e.position ≡ length before
 
 -- what holds of the changes that are accepted and the payloads that are kept
-pub record IsCoherent (d : SlaveDesc) (w : Wires) : Type 0 where
+pub record IsCoherent (d : SlaveDesc) (w : WiringState) : Type 0 where
   pub told : (id : ℕ) → has_id input id w.changes ≡ false → source id w.changes ≡ None
   pub none : (id : ℕ) → has_id input id w.changes ≡ false → kept_under id w.kept ≡ None
-  pub placed : (vr : ℕ) (e : Spot) → spot vr w.changes ≡ Some e → IsPlaced (input_types d e.id w.changes) (kind_of (port_with vr d.inputs)) e
+  pub placed : (vr : ℕ) (e : Spot) → spot vr w.changes ≡ Some e → IsPlaced (input_types d e.id w.changes) (port_type (port_with vr d.inputs)) e
   pub short : (id : ℕ) (k : Kept) → kept_under id w.kept ≡ Some k → length k.payload ≤ sum_by width (input_types d id w.changes)
 
 -- what is kept of a slave's input ids and inputs
-pub record AreInputs (d : SlaveDesc) (w : Wires) (s : Inputs) : Type 0 where
+pub record AreInputs (d : SlaveDesc) (w : WiringState) (s : Inputs) : Type 0 where
   pub listed : s.ports.items ≡ d.inputs
   pub apart : AreApart d.inputs
   pub sorted : s.ids ≡ ids input w.changes
   pub rows : s.rows.items ≡ map (input_row d w) (ids input w.changes)
   pub segments : take (length d.inputs) s.segments ≡ map (λ port. segment_for d w.changes (spot port.vr w.changes)) d.inputs
-  pub values : take (length d.inputs) s.values ≡ inputs d w
+  pub values : take (length d.inputs) s.values ≡ wired_values d w
   pub sound : IsCoherent d w
 
 -- the value in a payload; 0 where the payload ends before it
@@ -66,9 +66,9 @@ abbrev pub segment_value : Segment → List ℕ → ℤ
 segment_value s payload = if nat_le (s.offset + width s.kind) (length payload) then value_in s.kind (take (width s.kind) (drop s.offset payload)) else pos 0
 
 -- the value of an input after a payload of an id
-abbrev pub value_after : Option Segment → ℕ → List ℕ → ℤ → ℤ
-value_after None id payload before = before
-value_after (Some s) id payload before = if s.id == id then segment_value s payload else before
+abbrev pub input_after : Option Segment → ℕ → List ℕ → ℤ → ℤ
+input_after None id payload before = before
+input_after (Some s) id payload before = if s.id == id then segment_value s payload else before
 
 abbrev pub is_kept_for : ℕ → Option ℕ → Bool
 is_kept_for ordinal None = false

@@ -2,7 +2,7 @@
 use Rattle.std.specs.Prelude.{◌≡◌, ℕ, ◌%◌, ◌+◌, ◌/◌, false, List, map, reverse, None}
 use Rattle.slave_desc.specs.declared.ports.Port.{Port}
 use Rattle.slave_desc.specs.declared.descriptions.SlaveDesc.{SlaveDesc}
-use Rattle.slave_wiring.specs.Changes.{Change, output, entries, has_id, ids, target, interval, base}
+use Rattle.slave_wiring.specs.Changes.{Change, output, entries, has_id, ids, target, entry_interval, base}
 use Rattle.wirings.specs.Ports.{place_with}
 use Rattle.wirings.specs.declared.tables.OutputRow.{OutputRow}
 use Rattle.wirings.specs.declared.tables.Outputs.{Outputs}
@@ -12,7 +12,7 @@ abbrev pub output_row : List Port → List Change → ℕ → OutputRow
 output_row ports changes id = record {
   places = map (place_with ports) (reverse (entries output id changes));
   target = target id changes;
-  interval = interval output id changes;
+  interval = entry_interval output id changes;
   base = base output id changes % 65536;
 }
 

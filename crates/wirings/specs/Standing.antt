@@ -3,13 +3,13 @@ use Rattle.std.specs.Prelude.{◌≡◌, nat_lt, length}
 use Rattle.std.specs.List.{filter_map}
 use Rattle.slave_desc.specs.declared.descriptions.SlaveDesc.{SlaveDesc}
 use Rattle.slave_wiring.specs.Changes.{time_given}
-use Rattle.slave_wiring.specs.Payloads.{Wires}
+use Rattle.slave_wiring.specs.Payloads.{WiringState}
 use Rattle.wirings.specs.Sending.{AreOutputs}
 use Rattle.wirings.specs.Receiving.{AreInputs}
 use Rattle.wirings.specs.declared.wirings.Wiring.{Wiring}
 
 -- a slave with this description has this wiring after these changes and payloads
-pub record WiringFor (w : Wiring) (d : SlaveDesc) (x : Wires) : Type 0 where
+pub record WiringFor (w : Wiring) (d : SlaveDesc) (x : WiringState) : Type 0 where
   pub numerator : w.numerator ≡ d.numerator
   pub denominator : w.denominator ≡ d.denominator
   pub time : w.has_time ≡ nat_lt 0 (length (filter_map time_given x.changes))

@@ -1,15 +1,15 @@
 //! The input ids of a slave, and the values of its inputs.
 
-ghost use Rattle.std.specs.Prelude.{◌≡◌, ◌≤◌, ◌<◌, ◌/◌, ℕ, List, [], ◌∷◌, map, length, take, true, Some, None, is_some, slice_index_or, IfOk, MatchResult, All};
+ghost use Rattle.std.specs.Prelude.{◌≡◌, ◌≤◌, ◌<◌, ◌/◌, ℕ, [], ◌∷◌, length, true, Some, None, is_some, slice_index_or, IfOk, MatchResult, All};
 ghost use Rattle.std.specs.List.{list_all};
 ghost use Rattle.fixed_models.specs.Domains.{IsInput};
 ghost use Rattle.dcp_types.specs.Codes.{type_code};
 ghost use Rattle.dcp_types.specs.declared.data_types.DataType.{DataType};
 ghost use Rattle.slave_desc.specs.declared.descriptions.SlaveDesc.{SlaveDesc};
 ghost use Rattle.slave_desc.specs.Descriptions.{AreApart};
-ghost use Rattle.slave_wiring.specs.Changes.{Change, Set, Restart, input, ids, has_id};
-ghost use Rattle.slave_wiring.specs.Refusals.{refusal, is_transport, port_with};
-ghost use Rattle.slave_wiring.specs.Payloads.{Wires, bare, set, brought, is_wanted, inputs, restarted};
+ghost use Rattle.slave_wiring.specs.Changes.{input, ids, has_id};
+ghost use Rattle.slave_wiring.specs.Refusals.{refusal_of_setting, is_transport};
+ghost use Rattle.slave_wiring.specs.Payloads.{WiringState, bare_wires, set, brought, is_wanted, wired_values, restarted};
 ghost use Rattle.pdu_layout.specs.declared.messages.Cfg.TheVariants as cfg;
 ghost use Rattle.wirings.specs.Ids.{IsThere, IsPlaceFor};
 ghost use Rattle.wirings.specs.Ports.{IsPort};
@@ -30,7 +30,7 @@ use std::alloc::Global;
 impl Inputs {
     pub(crate) fn new(alloc: Global, ports: &[Port]) -> Result<Inputs, OutOfMemory>
         requires { length ports.now ≤ 8 }
-        ensures { (d : SlaveDesc) → d.inputs ≡ ports.now → AreApart d.inputs → IfOk result (AreInputs d bare) }
+        ensures { (d : SlaveDesc) → d.inputs ≡ ports.now → AreApart d.inputs → IfOk result (AreInputs d bare_wires) }
     {
         let ports = Vec::from_slice(alloc, ports)?;
         let ids = DataIds::new(alloc)?;
@@ -45,7 +45,7 @@ impl Inputs {
     }
 
     pub(crate) fn clear(&mut self)
-        ensures { (d : SlaveDesc) (w : Wires) → AreInputs d w self.old → AreInputs d bare self.new }
+        ensures { (d : SlaveDesc) (w : WiringState) → AreInputs d w self.old → AreInputs d bare_wires self.new }
     {
         self.ids.clear();
         self.rows.clear();
@@ -54,7 +54,7 @@ impl Inputs {
     }
 
     pub(crate) fn has(&self, id: u16) -> bool
-        ensures { (d : SlaveDesc) (w : Wires) → AreInputs d w self.now → result ≡ has_id input id w.changes }
+        ensures { (d : SlaveDesc) (w : WiringState) → AreInputs d w self.now → result ≡ has_id input id w.changes }
     {
         self.ids.find(id).is_ok()
     }
@@ -67,9 +67,9 @@ impl Inputs {
         vr: u64,
         source: DataType,
     ) -> Result<(), ErrorCode>
-        ensures { (d : SlaveDesc) (w : Wires) → AreInputs d w self.old → MatchResult result
-            (λ _. (refusal d w.changes (cfg.Input id position vr source) ≡ None) × AreInputs d (set w (cfg.Input id position vr source)) self.new)
-            (λ e. (refusal d w.changes (cfg.Input id position vr source) ≡ Some e) × AreInputs d w self.new) }
+        ensures { (d : SlaveDesc) (w : WiringState) → AreInputs d w self.old → MatchResult result
+            (λ _. (refusal_of_setting d w.changes (cfg.Input id position vr source) ≡ None) × AreInputs d (set w (cfg.Input id position vr source)) self.new)
+            (λ e. (refusal_of_setting d w.changes (cfg.Input id position vr source) ≡ Some e) × AreInputs d w self.new) }
     {
         let Some(place) = place_of(self.ports.as_slice(), vr) else {
             return Err(ErrorCode::UnknownVr);
@@ -98,9 +98,9 @@ impl Inputs {
         requires there { IsThere self.old.ids id i }
         requires within { place.index < length self.old.ports.items }
         requires free { slice_index_or self.old.segments place.index None ≡ None }
-        ensures { (d : SlaveDesc) (w : Wires) (vr : ℕ) (source : DataType) → AreInputs d w self.old → IsPort vr d.inputs place → type_code source ≡ type_code place.kind → MatchResult result
-            (λ _. (refusal d w.changes (cfg.Input id position vr source) ≡ None) × AreInputs d (set w (cfg.Input id position vr source)) self.new)
-            (λ e. (refusal d w.changes (cfg.Input id position vr source) ≡ Some e) × AreInputs d w self.new) }
+        ensures { (d : SlaveDesc) (w : WiringState) (vr : ℕ) (source : DataType) → AreInputs d w self.old → IsPort vr d.inputs place → type_code source ≡ type_code place.kind → MatchResult result
+            (λ _. (refusal_of_setting d w.changes (cfg.Input id position vr source) ≡ None) × AreInputs d (set w (cfg.Input id position vr source)) self.new)
+            (λ e. (refusal_of_setting d w.changes (cfg.Input id position vr source) ≡ Some e) × AreInputs d w self.new) }
     {
         let row = self.rows[i];
         if position as u32 != row.count {
@@ -124,9 +124,9 @@ impl Inputs {
         requires absent { IsPlaceFor self.old.ids id i }
         requires within { place.index < length self.old.ports.items }
         requires free { slice_index_or self.old.segments place.index None ≡ None }
-        ensures { (d : SlaveDesc) (w : Wires) (vr : ℕ) (source : DataType) → AreInputs d w self.old → IsPort vr d.inputs place → type_code source ≡ type_code place.kind → MatchResult result
-            (λ _. (refusal d w.changes (cfg.Input id position vr source) ≡ None) × AreInputs d (set w (cfg.Input id position vr source)) self.new)
-            (λ e. (refusal d w.changes (cfg.Input id position vr source) ≡ Some e) × AreInputs d w self.new) }
+        ensures { (d : SlaveDesc) (w : WiringState) (vr : ℕ) (source : DataType) → AreInputs d w self.old → IsPort vr d.inputs place → type_code source ≡ type_code place.kind → MatchResult result
+            (λ _. (refusal_of_setting d w.changes (cfg.Input id position vr source) ≡ None) × AreInputs d (set w (cfg.Input id position vr source)) self.new)
+            (λ e. (refusal_of_setting d w.changes (cfg.Input id position vr source) ≡ Some e) × AreInputs d w self.new) }
     {
         if position != 0 {
             return Err(ErrorCode::Position);
@@ -154,9 +154,9 @@ impl Inputs {
     /// Says where an id comes from.
     pub(crate) fn set_source(&mut self, net: &NetInfo) -> Result<(), ErrorCode>
         requires { is_transport net.now.protocol ≡ true }
-        ensures { (d : SlaveDesc) (w : Wires) → AreInputs d w self.old → MatchResult result
-            (λ _. (refusal d w.changes (cfg.Source net.now) ≡ None) × AreInputs d (set w (cfg.Source net.now)) self.new)
-            (λ e. (refusal d w.changes (cfg.Source net.now) ≡ Some e) × AreInputs d w self.new) }
+        ensures { (d : SlaveDesc) (w : WiringState) → AreInputs d w self.old → MatchResult result
+            (λ _. (refusal_of_setting d w.changes (cfg.Source net.now) ≡ None) × AreInputs d (set w (cfg.Source net.now)) self.new)
+            (λ e. (refusal_of_setting d w.changes (cfg.Source net.now) ≡ Some e) × AreInputs d w self.new) }
     {
         let Ok(i) = self.ids.find(net.data_id) else {
             return Err(ErrorCode::Position);
@@ -174,7 +174,7 @@ impl Inputs {
 
     /// Sets the interval of an id, where it has entries.
     pub(crate) fn set_interval(&mut self, id: u16, interval: u32)
-        ensures { (d : SlaveDesc) (w : Wires) → AreInputs d w self.old → AreInputs d (set w (cfg.Steps id interval)) self.new }
+        ensures { (d : SlaveDesc) (w : WiringState) → AreInputs d w self.old → AreInputs d (set w (cfg.Steps id interval)) self.new }
     {
         if let Ok(i) = self.ids.find(id) {
             self.rows[i].interval = interval;
@@ -197,8 +197,8 @@ impl Inputs {
         payload: &[u8],
         steps: u32,
     ) -> bool
-        ensures kept { (d : SlaveDesc) (w : Wires) → AreInputs d w self.old → result ≡ is_wanted d w from number id payload.now steps }
-        ensures stands { (d : SlaveDesc) (w : Wires) → AreInputs d w self.old → AreInputs d (brought d w from number id payload.now steps) self.new }
+        ensures kept { (d : SlaveDesc) (w : WiringState) → AreInputs d w self.old → result ≡ is_wanted d w from number id payload.now steps }
+        ensures stands { (d : SlaveDesc) (w : WiringState) → AreInputs d w self.old → AreInputs d (brought d w from number id payload.now steps) self.new }
     {
         let Ok(i) = self.ids.find(id) else {
             return false;
@@ -232,7 +232,7 @@ impl Inputs {
 
     /// The values kept last, by port.
     pub(crate) fn as_slice(&self) -> &[i128]
-        ensures values { (d : SlaveDesc) (w : Wires) → AreInputs d w self.now → result.now ≡ inputs d w }
+        ensures values { (d : SlaveDesc) (w : WiringState) → AreInputs d w self.now → result.now ≡ wired_values d w }
         ensures inputs { All IsInput result.now }
     {
         &self.values[..self.ports.len()]
@@ -240,7 +240,7 @@ impl Inputs {
 
     /// Begins the next run: the numbers go on after those of so many steps, and nothing is kept.
     pub(crate) fn restart(&mut self, steps: u32)
-        ensures { (d : SlaveDesc) (w : Wires) → AreInputs d w self.old → AreInputs d (restarted w steps) self.new }
+        ensures { (d : SlaveDesc) (w : WiringState) → AreInputs d w self.old → AreInputs d (restarted w steps) self.new }
     {
         for row in self.rows.iter_mut() {
             row.base = base_after(row.base, steps, row.interval);

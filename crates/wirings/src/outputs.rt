@@ -1,14 +1,14 @@
 //! The output ids of a slave.
 
-ghost use Rattle.std.specs.Prelude.{◌≡◌, ◌==◌, ◌&&◌, List, ℕ, ◌≤◌, ◌<◌, ◌%◌, nat_lt, true, false, [], ◌∷◌, map, length, slice_get, vec_capacity, Some, None, IfOk, IfSome, MatchResult, is_some, slice_set, slice_index_or, ⊤};
+ghost use Rattle.std.specs.Prelude.{◌≡◌, ◌==◌, ◌&&◌, List, ℕ, ◌≤◌, ◌<◌, ◌%◌, nat_lt, true, [], ◌∷◌, length, slice_get, Some, None, IfOk, IfSome, MatchResult, is_some, ⊤};
 ghost use Rattle.std.specs.List.{list_all};
 ghost use Rattle.slave_desc.specs.declared.descriptions.SlaveDesc.{SlaveDesc};
 ghost use Rattle.slave_wiring.specs.Changes.{Change, Set, Restart, output, ids, has_id, target, is_due};
-ghost use Rattle.slave_wiring.specs.Refusals.{refusal, is_transport};
+ghost use Rattle.slave_wiring.specs.Refusals.{refusal_of_setting, is_transport};
 ghost use Rattle.slave_wiring.specs.Payloads.{IsBuilt};
 ghost use Rattle.pdu_layout.specs.declared.messages.Cfg.TheVariants as cfg;
 ghost use Rattle.wirings.specs.Ids.{IsThere, IsPlaceFor};
-ghost use Rattle.wirings.specs.Sending.{AreOutputs, row_restarted};
+ghost use Rattle.wirings.specs.Sending.{AreOutputs};
 
 use crate::addresses::address_of;
 use crate::data_ids::{DataIds, IDS};
@@ -55,8 +55,8 @@ impl Outputs {
     /// Adds an entry to an id, which begins with it where it is new.
     pub(crate) fn add(&mut self, id: u16, position: u16, vr: u64) -> Result<(), ErrorCode>
         ensures { (d : SlaveDesc) (changes : List Change) → AreOutputs d changes self.old → MatchResult result
-            (λ _. (refusal d changes (cfg.Output id position vr) ≡ None) × AreOutputs d (Set (cfg.Output id position vr) ∷ changes) self.new)
-            (λ e. (refusal d changes (cfg.Output id position vr) ≡ Some e) × AreOutputs d changes self.new) }
+            (λ _. (refusal_of_setting d changes (cfg.Output id position vr) ≡ None) × AreOutputs d (Set (cfg.Output id position vr) ∷ changes) self.new)
+            (λ e. (refusal_of_setting d changes (cfg.Output id position vr) ≡ Some e) × AreOutputs d changes self.new) }
     {
         match self.ids.find(id) {
             Ok(i) => self.extend(i, id, position, vr),
@@ -68,8 +68,8 @@ impl Outputs {
     fn extend(&mut self, i: usize, id: u16, position: u16, vr: u64) -> Result<(), ErrorCode>
         requires { IsThere self.old.ids id i }
         ensures { (d : SlaveDesc) (changes : List Change) → AreOutputs d changes self.old → MatchResult result
-            (λ _. (refusal d changes (cfg.Output id position vr) ≡ None) × AreOutputs d (Set (cfg.Output id position vr) ∷ changes) self.new)
-            (λ e. (refusal d changes (cfg.Output id position vr) ≡ Some e) × AreOutputs d changes self.new) }
+            (λ _. (refusal_of_setting d changes (cfg.Output id position vr) ≡ None) × AreOutputs d (Set (cfg.Output id position vr) ∷ changes) self.new)
+            (λ e. (refusal_of_setting d changes (cfg.Output id position vr) ≡ Some e) × AreOutputs d changes self.new) }
     {
         let Some(place) = place_of(self.ports.as_slice(), vr) else {
             return Err(ErrorCode::UnknownVr);
@@ -85,8 +85,8 @@ impl Outputs {
     fn begin(&mut self, i: usize, id: u16, position: u16, vr: u64) -> Result<(), ErrorCode>
         requires { IsPlaceFor self.old.ids id i }
         ensures { (d : SlaveDesc) (changes : List Change) → AreOutputs d changes self.old → MatchResult result
-            (λ _. (refusal d changes (cfg.Output id position vr) ≡ None) × AreOutputs d (Set (cfg.Output id position vr) ∷ changes) self.new)
-            (λ e. (refusal d changes (cfg.Output id position vr) ≡ Some e) × AreOutputs d changes self.new) }
+            (λ _. (refusal_of_setting d changes (cfg.Output id position vr) ≡ None) × AreOutputs d (Set (cfg.Output id position vr) ∷ changes) self.new)
+            (λ e. (refusal_of_setting d changes (cfg.Output id position vr) ≡ Some e) × AreOutputs d changes self.new) }
     {
         if self.ids.len() >= IDS {
             return Err(ErrorCode::NotSupported);
@@ -116,8 +116,8 @@ impl Outputs {
     pub(crate) fn set_target(&mut self, net: &NetInfo) -> Result<(), ErrorCode>
         requires { is_transport net.now.protocol ≡ true }
         ensures { (d : SlaveDesc) (changes : List Change) → AreOutputs d changes self.old → MatchResult result
-            (λ _. (refusal d changes (cfg.Target net.now) ≡ None) × AreOutputs d (Set (cfg.Target net.now) ∷ changes) self.new)
-            (λ e. (refusal d changes (cfg.Target net.now) ≡ Some e) × AreOutputs d changes self.new) }
+            (λ _. (refusal_of_setting d changes (cfg.Target net.now) ≡ None) × AreOutputs d (Set (cfg.Target net.now) ∷ changes) self.new)
+            (λ e. (refusal_of_setting d changes (cfg.Target net.now) ≡ Some e) × AreOutputs d changes self.new) }
     {
         let Ok(i) = self.ids.find(net.data_id) else {
             return Err(ErrorCode::Position);

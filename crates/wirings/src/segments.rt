@@ -1,9 +1,9 @@
 //! The values of inputs in payloads.
 
-ghost use Rattle.std.specs.Prelude.{◌≡◌, ◌+◌, ◌≤◌, ◌<◌, ◌/◌, ℕ, ℤ, Option, None, length, nat_le, slice_index_or, All};
+ghost use Rattle.std.specs.Prelude.{◌≡◌, ◌+◌, ◌≤◌, ◌<◌, ◌/◌, ℕ, ℤ, Option, None, length, slice_index_or, All};
 ghost use Rattle.fixed_models.specs.Domains.{IsInput};
 ghost use Rattle.wirings.specs.declared.tables.Segment.{Segment};
-ghost use Rattle.wirings.specs.Receiving.{segment_value, value_after, is_kept_for, wants};
+ghost use Rattle.wirings.specs.Receiving.{segment_value, input_after, is_kept_for, wants};
 
 use crate::addresses::is_from;
 use crate::numbers::{in_run, number_after};
@@ -27,7 +27,7 @@ pub(crate) fn segment_value(segment: Segment, payload: &[u8]) -> i128
 /// The value of an input after a payload of an id.
 pub(crate) fn value_after(segment: Option<Segment>, id: u16, payload: &[u8], before: i128) -> i128
     requires { IsInput before }
-    ensures value { result ≡ value_after segment id payload.now before }
+    ensures value { result ≡ input_after segment id payload.now before }
     ensures input { IsInput result }
 {
     match segment {
@@ -49,7 +49,7 @@ pub(crate) fn take_values(
     ensures inputs { All IsInput values.new }
     ensures length { length values.new ≡ length values.old }
     ensures values { (k : ℕ) (e : Option Segment) (z : ℤ) → k < count
-        → slice_index_or values.new k z ≡ value_after (slice_index_or segments.now k e) id payload.now (slice_index_or values.old k z) }
+        → slice_index_or values.new k z ≡ input_after (slice_index_or segments.now k e) id payload.now (slice_index_or values.old k z) }
 {
     for i in 0..count {
         values[i] = value_after(segments[i], id, payload, values[i]);

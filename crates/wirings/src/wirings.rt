@@ -1,13 +1,12 @@
 //! A slave's wiring.
 
-ghost use Rattle.std.specs.Prelude.{◌≡◌, ◌==◌, ◌&&◌, ◌||◌, ◌≤◌, ℕ, nat_le, is_some, length, slice_get, Some, None, IfOk, IfSome, MatchResult, All};
+ghost use Rattle.std.specs.Prelude.{◌≡◌, ◌==◌, ◌&&◌, ◌||◌, ◌≤◌, ℕ, nat_le, is_some, length, Some, None, IfOk, MatchResult};
 ghost use Rattle.std.specs.List.{list_all};
-ghost use Rattle.fixed_models.specs.Domains.{IsInput};
 ghost use Rattle.slave_desc.specs.declared.descriptions.SlaveDesc.{SlaveDesc};
 ghost use Rattle.slave_desc.specs.Descriptions.{AreApart};
 ghost use Rattle.slave_wiring.specs.Changes.{input, output, ids, has_id, is_due, complete};
-ghost use Rattle.slave_wiring.specs.Refusals.{refusal};
-ghost use Rattle.slave_wiring.specs.Payloads.{Wires, bare, set, restarted, is_wanted, brought, ready, inputs, IsBuilt};
+ghost use Rattle.slave_wiring.specs.Refusals.{refusal_of_setting};
+ghost use Rattle.slave_wiring.specs.Payloads.{WiringState, bare_wires, set, ready};
 ghost use Rattle.pdu_layout.specs.declared.messages.Cfg.TheVariants as cfg;
 ghost use Rattle.wirings.specs.Standing.{WiringFor};
 
@@ -51,7 +50,7 @@ impl Wiring {
     pub fn new(alloc: Global, desc: &SlaveDesc) -> Result<Wiring, OutOfMemory>
         requires few { length desc.now.inputs ≤ 8 }
         requires apart { AreApart desc.now.inputs }
-        ensures { IfOk result (λ w. WiringFor w desc.now bare) }
+        ensures { IfOk result (λ w. WiringFor w desc.now bare_wires) }
     {
         let inputs = Inputs::new(alloc, desc.inputs.as_slice())?;
         let outputs = Outputs::new(alloc, desc.outputs.as_slice())?;
@@ -65,7 +64,7 @@ impl Wiring {
     }
 
     fn clear(&mut self)
-        ensures { (d : SlaveDesc) (x : Wires) → WiringFor self.old d x → WiringFor self.new d bare }
+        ensures { (d : SlaveDesc) (x : WiringState) → WiringFor self.old d x → WiringFor self.new d bare_wires }
     {
         self.has_time = false;
         self.inputs.clear();
@@ -74,15 +73,15 @@ impl Wiring {
 
     /// Whether this is the resolution of the slave.
     fn has_resolution(&self, numerator: u32, denominator: u32) -> bool
-        ensures { (d : SlaveDesc) (x : Wires) → WiringFor self.now d x → result ≡ ((numerator == d.numerator) && (denominator == d.denominator)) }
+        ensures { (d : SlaveDesc) (x : WiringState) → WiringFor self.now d x → result ≡ ((numerator == d.numerator) && (denominator == d.denominator)) }
     {
         numerator == self.numerator && denominator == self.denominator
     }
 
     fn set_time(&mut self, numerator: u32, denominator: u32) -> Result<(), ErrorCode>
-        ensures { (d : SlaveDesc) (x : Wires) → WiringFor self.old d x → MatchResult result
-            (λ _. (refusal d x.changes (cfg.TimeRes numerator denominator) ≡ None) × WiringFor self.new d (set x (cfg.TimeRes numerator denominator)))
-            (λ e. (refusal d x.changes (cfg.TimeRes numerator denominator) ≡ Some e) × WiringFor self.new d x) }
+        ensures { (d : SlaveDesc) (x : WiringState) → WiringFor self.old d x → MatchResult result
+            (λ _. (refusal_of_setting d x.changes (cfg.TimeRes numerator denominator) ≡ None) × WiringFor self.new d (set x (cfg.TimeRes numerator denominator)))
+            (λ e. (refusal_of_setting d x.changes (cfg.TimeRes numerator denominator) ≡ Some e) × WiringFor self.new d x) }
     {
         if !self.has_resolution(numerator, denominator) {
             return Err(ErrorCode::NotSupported);
@@ -93,22 +92,22 @@ impl Wiring {
 
     /// Whether an id has entries, on either side.
     fn knows(&self, id: u16) -> bool
-        ensures { (d : SlaveDesc) (x : Wires) → WiringFor self.now d x → result ≡ (has_id input id x.changes || has_id output id x.changes) }
+        ensures { (d : SlaveDesc) (x : WiringState) → WiringFor self.now d x → result ≡ (has_id input id x.changes || has_id output id x.changes) }
     {
         self.inputs.has(id) || self.outputs.has(id)
     }
 
     /// Whether an id can be given this interval.
     fn allows(&self, id: u16, steps: u32) -> bool
-        ensures { (d : SlaveDesc) (x : Wires) → WiringFor self.now d x → result ≡ (nat_le 1 steps && nat_le steps 1000 && (has_id input id x.changes || has_id output id x.changes)) }
+        ensures { (d : SlaveDesc) (x : WiringState) → WiringFor self.now d x → result ≡ (nat_le 1 steps && nat_le steps 1000 && (has_id input id x.changes || has_id output id x.changes)) }
     {
         is_interval(steps) && self.knows(id)
     }
 
     fn set_interval(&mut self, id: u16, steps: u32) -> Result<(), ErrorCode>
-        ensures { (d : SlaveDesc) (x : Wires) → WiringFor self.old d x → MatchResult result
-            (λ _. (refusal d x.changes (cfg.Steps id steps) ≡ None) × WiringFor self.new d (set x (cfg.Steps id steps)))
-            (λ e. (refusal d x.changes (cfg.Steps id steps) ≡ Some e) × WiringFor self.new d x) }
+        ensures { (d : SlaveDesc) (x : WiringState) → WiringFor self.old d x → MatchResult result
+            (λ _. (refusal_of_setting d x.changes (cfg.Steps id steps) ≡ None) × WiringFor self.new d (set x (cfg.Steps id steps)))
+            (λ e. (refusal_of_setting d x.changes (cfg.Steps id steps) ≡ Some e) × WiringFor self.new d x) }
     {
         if !self.allows(id, steps) {
             return Err(ErrorCode::NotSupported);
@@ -125,25 +124,25 @@ impl Wiring {
         vr: u64,
         source: DataType,
     ) -> Result<(), ErrorCode>
-        ensures { (d : SlaveDesc) (x : Wires) → WiringFor self.old d x → MatchResult result
-            (λ _. (refusal d x.changes (cfg.Input id position vr source) ≡ None) × WiringFor self.new d (set x (cfg.Input id position vr source)))
-            (λ e. (refusal d x.changes (cfg.Input id position vr source) ≡ Some e) × WiringFor self.new d x) }
+        ensures { (d : SlaveDesc) (x : WiringState) → WiringFor self.old d x → MatchResult result
+            (λ _. (refusal_of_setting d x.changes (cfg.Input id position vr source) ≡ None) × WiringFor self.new d (set x (cfg.Input id position vr source)))
+            (λ e. (refusal_of_setting d x.changes (cfg.Input id position vr source) ≡ Some e) × WiringFor self.new d x) }
     {
         self.inputs.add(id, position, vr, source)
     }
 
     fn add_output(&mut self, id: u16, position: u16, vr: u64) -> Result<(), ErrorCode>
-        ensures { (d : SlaveDesc) (x : Wires) → WiringFor self.old d x → MatchResult result
-            (λ _. (refusal d x.changes (cfg.Output id position vr) ≡ None) × WiringFor self.new d (set x (cfg.Output id position vr)))
-            (λ e. (refusal d x.changes (cfg.Output id position vr) ≡ Some e) × WiringFor self.new d x) }
+        ensures { (d : SlaveDesc) (x : WiringState) → WiringFor self.old d x → MatchResult result
+            (λ _. (refusal_of_setting d x.changes (cfg.Output id position vr) ≡ None) × WiringFor self.new d (set x (cfg.Output id position vr)))
+            (λ e. (refusal_of_setting d x.changes (cfg.Output id position vr) ≡ Some e) × WiringFor self.new d x) }
     {
         self.outputs.add(id, position, vr)
     }
 
     fn set_source(&mut self, net: &NetInfo) -> Result<(), ErrorCode>
-        ensures { (d : SlaveDesc) (x : Wires) → WiringFor self.old d x → MatchResult result
-            (λ _. (refusal d x.changes (cfg.Source net.now) ≡ None) × WiringFor self.new d (set x (cfg.Source net.now)))
-            (λ e. (refusal d x.changes (cfg.Source net.now) ≡ Some e) × WiringFor self.new d x) }
+        ensures { (d : SlaveDesc) (x : WiringState) → WiringFor self.old d x → MatchResult result
+            (λ _. (refusal_of_setting d x.changes (cfg.Source net.now) ≡ None) × WiringFor self.new d (set x (cfg.Source net.now)))
+            (λ e. (refusal_of_setting d x.changes (cfg.Source net.now) ≡ Some e) × WiringFor self.new d x) }
     {
         if !is_transport(net.protocol) {
             return Err(ErrorCode::NotSupported);
@@ -152,9 +151,9 @@ impl Wiring {
     }
 
     fn set_target(&mut self, net: &NetInfo) -> Result<(), ErrorCode>
-        ensures { (d : SlaveDesc) (x : Wires) → WiringFor self.old d x → MatchResult result
-            (λ _. (refusal d x.changes (cfg.Target net.now) ≡ None) × WiringFor self.new d (set x (cfg.Target net.now)))
-            (λ e. (refusal d x.changes (cfg.Target net.now) ≡ Some e) × WiringFor self.new d x) }
+        ensures { (d : SlaveDesc) (x : WiringState) → WiringFor self.old d x → MatchResult result
+            (λ _. (refusal_of_setting d x.changes (cfg.Target net.now) ≡ None) × WiringFor self.new d (set x (cfg.Target net.now)))
+            (λ e. (refusal_of_setting d x.changes (cfg.Target net.now) ≡ Some e) × WiringFor self.new d x) }
     {
         if !is_transport(net.protocol) {
             return Err(ErrorCode::NotSupported);
@@ -171,12 +170,12 @@ impl Wiring {
 
 impl Wired for Wiring {
     ghost use Rattle.slave_desc.specs.declared.descriptions.SlaveDesc.{SlaveDesc};
-    ghost use Rattle.slave_wiring.specs.Payloads.{Wires};
+    ghost use Rattle.slave_wiring.specs.Payloads.{WiringState};
     ghost use Rattle.wirings.specs.Standing.{WiringFor};
 
     ghost stands = { λ w d x. WiringFor w d x };
 
-    #[tactic(auto, unfolding(slave_wiring::specs::Refusals::refusal))]
+    #[tactic(auto, unfolding(slave_wiring::specs::Refusals::refusal_of_setting))]
     fn apply(&mut self, body: &Cfg) -> Result<(), ErrorCode> {
         match body {
             Cfg::Clear => {

@@ -5,7 +5,7 @@ ghost use Rattle.commands.specs.Said.{text_of};
 ghost use Rattle.commands.specs.SaysDecoded.{SaysDecoded, decode_word};
 
 use crate::refusals::refuse_byte;
-use crate::said::{Said, Text};
+use crate::said::{Statement, Text};
 use crate::statuses::Judgement;
 use dcp_types::OutOfMemory;
 use pdu_codec::{DecodeWhy, decode};
@@ -13,7 +13,7 @@ use pdu_text::print_pdu;
 use std::alloc::Global;
 
 /// The line of the message that the bytes spell, or where and why they spell none.
-pub fn say_decoded(alloc: Global, input: &[u8]) -> Result<Said, OutOfMemory>
+pub fn say_decoded(alloc: Global, input: &[u8]) -> Result<Statement, OutOfMemory>
     ensures { IfOk result (λ said. SaysDecoded input.now said.judgement (text_of said.text)) }
 {
     let pdu = match decode(input) {
@@ -21,7 +21,7 @@ pub fn say_decoded(alloc: Global, input: &[u8]) -> Result<Said, OutOfMemory>
         Err(fault) => return refuse_byte(alloc, fault.at, decode_word(fault.why)),
     };
     let line = print_pdu(alloc, &pdu)?;
-    Ok(Said {
+    Ok(Statement {
         judgement: Judgement::Good,
         text: Text::Whole(line.into_bytes()),
     })

@@ -7,14 +7,14 @@ ghost use Rattle.commands.specs.SaysEncoded.{SaysEncoded};
 
 use crate::inputs::LIMIT;
 use crate::refusals::{refuse_line, refuse_past_limit};
-use crate::said::{Said, Text};
+use crate::said::{Statement, Text};
 use crate::statuses::Judgement;
 use dcp_types::OutOfMemory;
 use pdu_text::{PduTextRefused, put_pdu_text};
 use std::alloc::Global;
 
 /// The bytes of the message that the line says, or the first rule that it breaks.
-pub fn say_encoded(alloc: Global, input: &[u8]) -> Result<Said, OutOfMemory>
+pub fn say_encoded(alloc: Global, input: &[u8]) -> Result<Statement, OutOfMemory>
     ensures { IfOk result (λ said. OfText SaysEncoded input.now said.judgement (text_of said.text)) }
 {
     if input.len() > LIMIT {
@@ -27,7 +27,7 @@ pub fn say_encoded(alloc: Global, input: &[u8]) -> Result<Said, OutOfMemory>
         Err(PduTextRefused::OutOfMemory) => return Err(OutOfMemory),
     };
     let bytes = room[..length].to_vec(alloc)?;
-    Ok(Said {
+    Ok(Statement {
         judgement: Judgement::Good,
         text: Text::Whole(bytes),
     })

@@ -7,7 +7,7 @@ ghost use Rattle.commands.specs.SaysReference.{SaysReference};
 
 use crate::inputs::LIMIT;
 use crate::refusals::{refuse_past_limit, refuse_text};
-use crate::said::{Said, Text};
+use crate::said::{Statement, Text};
 use crate::statuses::Judgement;
 use dcp_types::OutOfMemory;
 use lockstep::reference;
@@ -15,7 +15,7 @@ use scenario_text::read_scenario;
 use std::alloc::Global;
 
 /// The rows of the scenario and the line after them, or the first line that is refused.
-pub fn say_reference(alloc: Global, input: &[u8]) -> Result<Said, OutOfMemory>
+pub fn say_reference(alloc: Global, input: &[u8]) -> Result<Statement, OutOfMemory>
     ensures { IfOk result (λ said. OfText SaysReference input.now said.judgement (text_of said.text)) }
 {
     if input.len() > LIMIT {
@@ -27,7 +27,7 @@ pub fn say_reference(alloc: Global, input: &[u8]) -> Result<Said, OutOfMemory>
     };
     let steps = scenario.steps;
     let reference = reference(alloc, &scenario)?;
-    Ok(Said {
+    Ok(Statement {
         judgement: Judgement::Good,
         text: Text::Rows { steps, reference },
     })

@@ -5,10 +5,10 @@ ghost use Rattle.commands.specs.Limits.{trace_limit};
 ghost use Rattle.commands.specs.Replays.{GivesReplay, IsOpened, RefusesHeader, SaysStop};
 ghost use Rattle.commands.specs.SaysReplay.{named_by};
 
-use crate::answers::Answer;
+use crate::answers::CommandAnswer;
 use crate::inputs::TRACE_LIMIT;
 use crate::refusals::refuse_byte;
-use crate::said::{Said, Text};
+use crate::said::{Statement, Text};
 use crate::statuses::Judgement;
 use dcp_ends::LogEntry;
 use dcp_record::{TraceRefused, read_record};
@@ -34,7 +34,7 @@ pub enum Opened {
         hosted: Hosted,
         entries: Items<LogEntry>,
     },
-    Refused(Said),
+    Refused(Statement),
 }
 
 /// The ends that these bits name, bit 0 the master and bit s slave s, of a scenario of so many slaves, at
@@ -88,7 +88,7 @@ fn open(alloc: Global, input: &[u8]) -> Result<Opened, OutOfMemory>
 }
 
 /// What is said of a trace that does not go through.
-fn say_stop(alloc: Global, fault: ReplayFault) -> Result<Said, OutOfMemory>
+fn say_stop(alloc: Global, fault: ReplayFault) -> Result<Statement, OutOfMemory>
     ensures { IfOk result (SaysStop fault) }
 {
     let line = match fault {
@@ -96,7 +96,7 @@ fn say_stop(alloc: Global, fault: ReplayFault) -> Result<Said, OutOfMemory>
         ReplayFault::Unended { entries } => format!(in alloc; "unended {entries}\n")?,
         ReplayFault::OutOfMemory => return Err(OutOfMemory),
     };
-    Ok(Said {
+    Ok(Statement {
         judgement: Judgement::Differs,
         text: Text::Whole(line.into_bytes()),
     })
@@ -104,11 +104,11 @@ fn say_stop(alloc: Global, fault: ReplayFault) -> Result<Said, OutOfMemory>
 
 /// Goes through the trace, and gives the master with the rows and the report that it goes to, or where it
 /// differs or breaks off, or why the bytes are refused.
-pub fn say_replay(alloc: Global, input: &[u8]) -> Result<Answer, OutOfMemory>
+pub fn say_replay(alloc: Global, input: &[u8]) -> Result<CommandAnswer, OutOfMemory>
     ensures gives { IfOk result (GivesReplay input.now) }
 {
     if input.len() > TRACE_LIMIT {
-        return Ok(Answer::Said(refuse_byte(alloc, 0, "LIMIT")?));
+        return Ok(CommandAnswer::Said(refuse_byte(alloc, 0, "LIMIT")?));
     }
     let (scenario, hosted, entries) = match open(alloc, input)? {
         Opened::Trace {
@@ -116,10 +116,10 @@ pub fn say_replay(alloc: Global, input: &[u8]) -> Result<Answer, OutOfMemory>
             hosted,
             entries,
         } => (scenario, hosted, entries),
-        Opened::Refused(said) => return Ok(Answer::Said(said)),
+        Opened::Refused(said) => return Ok(CommandAnswer::Said(said)),
     };
     match replay(alloc, &scenario, hosted, entries.as_slice()) {
-        Ok(replayed) => Ok(Answer::Replayed { scenario, replayed }),
-        Err(fault) => Ok(Answer::Said(say_stop(alloc, fault)?)),
+        Ok(replayed) => Ok(CommandAnswer::Replayed { scenario, replayed }),
+        Err(fault) => Ok(CommandAnswer::Said(say_stop(alloc, fault)?)),
     }
 }

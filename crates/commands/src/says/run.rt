@@ -1,11 +1,11 @@
 //! The command `run`: a run of a scenario over the network.
 
 ghost use Rattle.std.specs.Prelude.{◌≡◌, IfOk, IfErr};
-ghost use Rattle.commands.specs.Answers.{Gives, IsRefusal, IsWritableAnswer, RanOrRefused};
+ghost use Rattle.commands.specs.Answers.{GivesAnswer, IsRefusal, IsWritableAnswer, RanOrRefused};
 ghost use Rattle.commands.specs.SaysRun.{StopsRun};
 ghost use Rattle.commands.specs.declared.command_words.Command.TheVariants.{Run};
 
-use crate::answers::{Answer, Unsaid};
+use crate::answers::{CommandAnswer, Unsaid};
 use crate::inputs::LIMIT;
 use crate::refusals::{refuse_past_limit, refuse_text};
 use dcp_net::Net;
@@ -16,8 +16,8 @@ use std::alloc::Global;
 
 /// Runs the scenario with all its ends over the network until the master reports, or gives the first line
 /// of the text that is refused. The network is not called for a text that is refused.
-pub fn say_run<N: Net>(alloc: Global, input: &[u8], net: &mut N) -> Result<Answer, Unsaid>
-    ensures says { IfOk result (Gives Run (record { calls = N.calls net.new; opening = N.opening net.new }) input.now) }
+pub fn say_run<N: Net>(alloc: Global, input: &[u8], net: &mut N) -> Result<CommandAnswer, Unsaid>
+    ensures says { IfOk result (GivesAnswer Run (record { calls = N.calls net.new; opening = N.opening net.new }) input.now) }
     ensures writable { IfOk result (IsWritableAnswer input.now) }
     ensures ran { IfOk result RanOrRefused }
     ensures refused { IfOk result (λ answer. IsRefusal answer → net.new ≡ net.old) }
@@ -25,14 +25,14 @@ pub fn say_run<N: Net>(alloc: Global, input: &[u8], net: &mut N) -> Result<Answe
     ensures stopped { IfErr result (StopsRun input.now (N.count net.old) (N.count net.new)) }
 {
     if input.len() > LIMIT {
-        return Ok(Answer::Said(refuse_past_limit()));
+        return Ok(CommandAnswer::Said(refuse_past_limit()));
     }
     let scenario = match read_scenario(alloc, input) {
         Ok(scenario) => scenario,
-        Err(refused) => return Ok(Answer::Said(refuse_text(alloc, refused)?)),
+        Err(refused) => return Ok(CommandAnswer::Said(refuse_text(alloc, refused)?)),
     };
     match run_scenario(alloc, scenario, net) {
-        Ok(host) => Ok(Answer::Ran(host)),
+        Ok(host) => Ok(CommandAnswer::Ran(host)),
         Err(Stopped::Unmade) => Err(Unsaid::OutOfMemory),
         Err(Stopped::Faulted(host)) => match host.fault() {
             Some(HostFault::Net { .. }) => Err(Unsaid::NetFault),

@@ -1,11 +1,11 @@
 //! The command `soak`: a run of the scenario of a number over the network.
 
 ghost use Rattle.std.specs.Prelude.{◌≡◌, IfOk, IfErr};
-ghost use Rattle.commands.specs.Answers.{Gives, IsAlone, IsRefusal, IsWritableAnswer};
+ghost use Rattle.commands.specs.Answers.{GivesAnswer, IsAlone, IsRefusal, IsWritableAnswer};
 ghost use Rattle.commands.specs.SaysRun.{StopsRun};
 ghost use Rattle.commands.specs.declared.command_words.Command.TheVariants.{Soak};
 
-use crate::answers::{Answer, Unsaid};
+use crate::answers::{CommandAnswer, Unsaid};
 use crate::says::run::say_run;
 use dcp_net::Net;
 use std::alloc::Global;
@@ -16,8 +16,8 @@ pub fn say_soak<N: Net>(
     number: u32,
     input: &[u8],
     net: &mut N,
-) -> Result<Answer, Unsaid>
-    ensures says { IfOk result (Gives (Soak number) (record { calls = N.calls net.new; opening = N.opening net.new }) input.now) }
+) -> Result<CommandAnswer, Unsaid>
+    ensures says { IfOk result (GivesAnswer (Soak number) (record { calls = N.calls net.new; opening = N.opening net.new }) input.now) }
     ensures writable { IfOk result (IsWritableAnswer input.now) }
     ensures alone { IfOk result IsAlone }
     ensures refused { IfOk result (λ answer. IsRefusal answer → net.new ≡ net.old) }
@@ -25,7 +25,7 @@ pub fn say_soak<N: Net>(
     ensures stopped { IfErr result (StopsRun input.now (N.count net.old) (N.count net.new)) }
 {
     match say_run(alloc, input, net)? {
-        Answer::Ran(host) => Ok(Answer::Soaked { number, host }),
+        CommandAnswer::Ran(host) => Ok(CommandAnswer::Soaked { number, host }),
         answer => Ok(answer),
     }
 }

@@ -8,7 +8,7 @@ ghost use Rattle.commands.specs.SaysTalk.{SaysTalk, talk_lines};
 
 use crate::inputs::LIMIT;
 use crate::refusals::{refuse_past_limit, refuse_text};
-use crate::said::{Said, Text};
+use crate::said::{Statement, Text};
 use crate::statuses::Judgement;
 use dcp_slave::new_slave;
 use dcp_types::OutOfMemory;
@@ -31,7 +31,7 @@ fn talk_lines(alloc: Global, talk: Talk) -> Result<Vec<u8>, OutOfMemory>
 }
 
 /// What the slave says, or the first line of the text that is refused.
-pub fn say_talk(alloc: Global, input: &[u8]) -> Result<Said, OutOfMemory>
+pub fn say_talk(alloc: Global, input: &[u8]) -> Result<Statement, OutOfMemory>
     ensures { IfOk result (λ said. OfText SaysTalk input.now said.judgement (text_of said.text)) }
 {
     if input.len() > LIMIT {
@@ -42,7 +42,7 @@ pub fn say_talk(alloc: Global, input: &[u8]) -> Result<Said, OutOfMemory>
         Err(refused) => return refuse_text(alloc, refused),
     };
     let text = talk_lines(alloc, talk)?;
-    Ok(Said {
+    Ok(Statement {
         judgement: Judgement::Good,
         text: Text::Whole(text),
     })

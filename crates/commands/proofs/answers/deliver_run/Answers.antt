@@ -7,7 +7,7 @@ use Rattle.scenario.specs.declared.scenarios.Scenario.{Scenario}
 use Rattle.master_spec.specs.declared.reports.Report.{Report}
 use Rattle.master_spec.specs.declared.setups.Setup.{Setup}
 use Rattle.master_core.specs.declared.records.MasterCore.{MasterCore}
-use Rattle.master_core.specs.Standing.{StandsAfter, setup_of}
+use Rattle.master_core.specs.Standing.{StandsAfter, core_setup}
 use Rattle.master_spec.specs.Setup.{setup_from}
 use Rattle.host.specs.declared.hosted.Hosted.{Hosted}
 use Rattle.run_text.specs.Runs.{DeliversBoth, all_bits, text_after}
@@ -28,17 +28,17 @@ returns g c =
     let master = c.end.result.now in
     let events = events_at host.scenario.master host.log in
     let Stands : MasterCore → Type 0 = λ m. StandsAfter m events in
-    let Made : MasterCore → Type 0 = λ m. setup_of m ≡ setup_from host.scenario in
+    let Made : MasterCore → Type 0 = λ m. core_setup m ≡ setup_from host.scenario in
     let stands : StandsAfter master events = subst Stands (sym c.end.ensures) c.in-Some.ensures.stands in
-    let made : setup_of master ≡ setup_from host.scenario = subst Made (sym c.end.ensures) c.in-Some.ensures.made in
+    let made : core_setup master ≡ setup_from host.scenario = subst Made (sym c.end.ensures) c.in-Some.ensures.made in
     let report = c.in-Some-report.report in
     let delivery = c.write_run-delivery.result in
     let Master : Hosted → Option Report = λ h. if h.master then report_after host else None in
     let Both : Scenario → Setup → List LogEntry → Type 0 = λ sc setup log. DeliversBoth (g.K.Sink.written c.args.out.now) (g.K.Sink.written c.write_run-delivery.new.out) (g.K.Sink.faults c.args.out.now) (g.K.Sink.faults c.write_run-delivery.new.out)
     (g.R.Sink.written c.args.trace.now) (g.R.Sink.written c.write_run-delivery.new.trace) (g.R.Sink.faults c.args.trace.now) (g.R.Sink.faults c.write_run-delivery.new.trace)
     (text_after sc setup (reverse events) report) (trace_bytes (all_bits (length sc.slaves)) c.args.input.now log) delivery in
-    let Scenarios : Scenario → Type 0 = λ sc. Both sc (setup_of master) c.log.result.now in
-    let Logs : List LogEntry → Type 0 = λ log. Both host.scenario (setup_of master) log in
+    let Scenarios : Scenario → Type 0 = λ sc. Both sc (core_setup master) c.log.result.now in
+    let Logs : List LogEntry → Type 0 = λ log. Both host.scenario (core_setup master) log in
     let Setups : Setup → Type 0 = λ setup. Both host.scenario setup host.log in
     record {
       report = report;

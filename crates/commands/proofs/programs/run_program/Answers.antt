@@ -1,12 +1,12 @@
 use Rattle.std.proofs.Common.{◌≡◌, ◌⊎◌, inl, inr, ℕ, ap, subst, sym, ◌∙◌}
-use Rattle.commands.specs.Changes.{Change}
+use Rattle.commands.specs.Changes.{RunChange}
 use Rattle.commands.specs.Outcomes.{Outcome}
 use Rattle.commands.specs.Programs.{RunsInStep, SoaksInStep, change_of, sure_change}
 use Rattle.commands.specs.SaysRun.{NetTold}
 use Rattle.commands.proofs.Outcomes.{change, same_change}
 use Rattle.commands.proofs.Memory.{is_in_step, is_sure, soaks_in_step, told_in_memory}
 use Rattle.commands.proofs.Named.{one_not_two}
-use Rattle.net_world.specs.World.{calls_of, opening_of}
+use Rattle.net_world.specs.World.{calls_of, carried_opening}
 use Rattle.commands.proofs.programs.run_program.Goals as goal
 
 pub returns-clause-outcome : goal.returns-clause-outcome
@@ -22,13 +22,13 @@ returns-clause-outcome g c =
     let written = same_change (ap (λ w. contents w) c.new-out.ensures.inner) (ap (λ w. contents w) (sym c.into_inner-2.ensures)) c.new-out.ensures.faults out.faults in
     let traced = same_change (ap (λ w. texts w) c.new-trace.ensures.inner) (ap (λ w. texts w) (sym c.into_inner-3.ensures)) c.new-trace.ensures.faults trace.faults in
     let run = c.run_words-status.new.net in
-    let told : NetTold = record { calls = calls_of run.traffic; opening = opening_of run.traffic } in
+    let told : NetTold = record { calls = calls_of run.traffic; opening = carried_opening run.traffic } in
     let net = sure_change told in
-    let Read : Change → Type 0 = λ read. Outcome c.args.words.now read (change (contents c.new-out.result.inner) (contents out.inner) c.new-out.result.faults out.faults)
+    let Read : RunChange → Type 0 = λ read. Outcome c.args.words.now read (change (contents c.new-out.result.inner) (contents out.inner) c.new-out.result.faults out.faults)
     (change (texts c.new-trace.result.inner) (texts trace.inner) c.new-trace.result.faults trace.faults) net status in
-    let Written : Change → Type 0 = λ written. Outcome c.args.words.now (change_of (remaining c.args.reader) (remaining c.into_inner.result) source.faults) written
+    let Written : RunChange → Type 0 = λ written. Outcome c.args.words.now (change_of (remaining c.args.reader) (remaining c.into_inner.result) source.faults) written
     (change (texts c.new-trace.result.inner) (texts trace.inner) c.new-trace.result.faults trace.faults) net status in
-    let Traced : Change → Type 0 = λ traced. Outcome c.args.words.now (change_of (remaining c.args.reader) (remaining c.into_inner.result) source.faults)
+    let Traced : RunChange → Type 0 = λ traced. Outcome c.args.words.now (change_of (remaining c.args.reader) (remaining c.into_inner.result) source.faults)
     (change_of (contents c.args.writer) (contents c.into_inner-2.result) out.faults) traced net status in (
       status,
       source.faults,

@@ -2,7 +2,7 @@ use Rattle.std.proofs.Common.{List, ℕ, refl, sym, subst, ◌∙◌, inl, inr}
 use Rattle.commands.specs.declared.answers.Unsaid.{Unsaid}
 use Rattle.commands.specs.declared.command_words.Command.{Command}
 use Rattle.commands.specs.declared.statuses.Status.{Status}
-use Rattle.commands.specs.Answers.{Gives}
+use Rattle.commands.specs.Answers.{GivesAnswer}
 use Rattle.commands.specs.Changes.{NetChange}
 use Rattle.commands.specs.CommandWords.{Names}
 use Rattle.commands.specs.Given.{TakesFor}
@@ -22,7 +22,7 @@ returns-in-Ok-clause-outcome g c =
     let net : NetChange = record { told = told; before = g.N.Net.count c.args.net.now; now = g.N.Net.count c.say.new.net } in
     let command = c.in-Some.command in
     let input = c.as_slice-in-Ok.result.now in
-    let Given : List ℕ → Type 0 = λ bytes. Gives command told bytes c.in-Ok.answer in
+    let Given : List ℕ → Type 0 = λ bytes. GivesAnswer command told bytes c.in-Ok.answer in
     let Taken : List ℕ → Type 0 = λ bytes. TakesFor source.was source.is command bytes in
     let Ended : Status → Type 0 = λ status. Outcome c.args.words.now source out trace net status in
     let done = c.deliver.ensures.delivered command told (subst Given (c.as_slice.ensures ∙ sym c.as_slice-in-Ok.ensures) c.in-Ok.ensures.says) in

@@ -3,7 +3,7 @@ use Rattle.commands.proofs.Outcomes.{change}
 use Rattle.commands.specs.declared.statuses.Status.{Status}
 use Rattle.commands.specs.Inputs.{TakesInput}
 use Rattle.live_commands.specs.declared.hosting.LiveFault.{LiveFault}
-use Rattle.live_commands.specs.Answers.{Gives}
+use Rattle.live_commands.specs.Answers.{GivesLive}
 use Rattle.live_commands.specs.Changes.{LiveChange}
 use Rattle.live_commands.specs.Outcomes.{Outcome}
 use Rattle.live_commands.specs.Parts.{IsLive}
@@ -21,7 +21,7 @@ returns-in-Ok-clause-outcome g c =
     record { told = record { calls = g.N.Net.calls c.say_live.new.net; opening = g.N.Net.opening c.say_live.new.net }; before = g.N.Net.count c.args.net.now; now = g.N.Net.count c.say_live.new.net; waits_before = g.P.Ready.waits c.args.ready.now; waits_now = g.P.Ready.waits c.say_live.new.ready; failed_before = g.P.Ready.count c.args.ready.now; failed_now = g.P.Ready.count c.say_live.new.ready } in
     let live : IsLive words = rw c.as_slice.ensures at (c.is_live.ensures.yes c.if-not-is_live.false) in
     let input = c.as_slice-in-Ok.result.now in
-    let Given : List ℕ → Type 0 = λ bytes. Gives words net bytes c.in-Ok.answer in
+    let Given : List ℕ → Type 0 = λ bytes. GivesLive words net bytes c.in-Ok.answer in
     let Taken : List ℕ → Type 0 = λ bytes. TakesInput 1048576 source.was source.is bytes in
     let Ended : Status → Type 0 = λ status. Outcome words source out trace net status in
     let done = c.deliver.ensures.delivered words net (subst Given (c.as_slice-2.ensures ∙ sym c.as_slice-in-Ok.ensures) c.in-Ok.ensures.says) in

@@ -3,7 +3,7 @@ use Rattle.std.specs.Prelude.{All}
 use Rattle.std.proofs.lemmas.Option.{slice_get_read}
 use Rattle.fixed_models.specs.Domains.{IsInput}
 use Rattle.slave_desc.specs.declared.descriptions.SlaveDesc.{SlaveDesc}
-use Rattle.lockstep.specs.Parts.{StandsAt}
+use Rattle.lockstep.specs.Parts.{PartStandsAt}
 use Rattle.lockstep.proofs.Filled.{filled_none, filled_more, filled_all, same_rows, more_rows, shown_rows}
 use Rattle.lockstep.proofs.filling.fill.Goals as goal
 use Rattle.lockstep.proofs.filling.fill.Goals.{After-index-slaves-index}
@@ -31,7 +31,7 @@ serve-requires-clause-width c = c.loop-index.invariant.kept.width ∙ c.requires
 pub serve-requires-clause-stands : goal.serve-requires-clause-stands
 serve-requires-clause-stands c =
     let at = desc_at (goal.at.serve-requires-clause-stands c).After-index-slaves-index in
-    subst (λ (x : List (List ℤ)). StandsAt c.args.scenario.now x c.args.at.run (c.args.at.step - 1) (c.loop-index.index + 1) c.index-slaves-index.result c.index_mut-part.result.now) (sym c.loop-index.invariant.kept.rows)
+    subst (λ (x : List (List ℤ)). PartStandsAt c.args.scenario.now x c.args.at.run (c.args.at.step - 1) (c.loop-index.index + 1) c.index-slaves-index.result c.index_mut-part.result.now) (sym c.loop-index.invariant.kept.rows)
     (c.loop-index.invariant.filled.still c.loop-index.index c.index-slaves-index.result c.index_mut-part.result.now (omega arith) at
     (slice_get_read c.loop-index.parts.items (length c.loop-index.parts.items) c.loop-index.index c.index_mut-part.result.now refl (omega (arith, c.loop-index.invariant.filled.count, ap (λ (x : List SlaveDesc). length x) c.as_slice-slaves.ensures.items)) c.index_mut-part.ensures.value))
 
@@ -41,7 +41,7 @@ loop-index-preserved c =
     let given = rw c.in-Ok-Ok.field-0-is at c.in-Ok-Ok.ensures.served in
     let rows = c.loop-index.invariant.kept.rows in
     let shows = shown_rows c.args.scenario.now c.args.rows.now.rows c.loop-index.rows.rows (c.loop-index.index + 1) c.index-slaves-index.result c.args.at.run c.args.at.step (Ok given.0) rows given.1 in
-    let stands = subst (λ (x : List (List ℤ)). StandsAt c.args.scenario.now x c.args.at.run c.args.at.step (c.loop-index.index + 1) c.index-slaves-index.result c.serve.new.part) rows given.3 in
+    let stands = subst (λ (x : List (List ℤ)). PartStandsAt c.args.scenario.now x c.args.at.run c.args.at.step (c.loop-index.index + 1) c.index-slaves-index.result c.serve.new.part) rows given.3 in
     record {
       filled =
           filled_more c.args.scenario.now c.args.rows.now.rows c.args.at.run c.args.at.step c.loop-index.index c.index-slaves-index.result c.loop-index.parts.items c.serve.new.part

@@ -1,7 +1,7 @@
 use Rattle.std.proofs.Common.{length, subst, Result}
 use Rattle.std.proofs.lemmas.Result.{IfOk-weaker}
 use Rattle.dcp_types.specs.declared.fault_codes.FaultCode.{FaultCode}
-use Rattle.lockstep.specs.Parts.{Reaches, Shows, Serves, StandsAt}
+use Rattle.lockstep.specs.Parts.{Reaches, Shows, Serves, PartStandsAt}
 use Rattle.lockstep.proofs.Serving.{ports_ok, types_ok, feeds_ok, reach_err, reach_ok, serves}
 use Rattle.lockstep.proofs.filling.serve.Goals as goal
 use Rattle.lockstep.proofs.filling.serve.Goals.{In-Ok}
@@ -19,7 +19,7 @@ returns-in-Err-clause-served c =
     reach_err c.args.scenario.now c.args.rows.now.rows c.args.at.run c.args.at.step c.args._slave c.args.desc.now c.args.part.now c.reach.new.self c.in-Err.code c.requires.place c.requires.stands
     (subst (λ (x : Result (Unit {0}) FaultCode). Reaches c.args.rows.now.rows c.args.part.now c.reach.new.self c.args.at.step c.args.scenario.now.micro x) c.in-Err.is c.in_ok-reach.ensures)
 
-stands : (c : In-Ok) → StandsAt c.args.scenario.now c.args.rows.now.rows c.args.at.run c.args.at.step c.args._slave c.args.desc.now c.reach.new.self
+stands : (c : In-Ok) → PartStandsAt c.args.scenario.now c.args.rows.now.rows c.args.at.run c.args.at.step c.args._slave c.args.desc.now c.reach.new.self
 stands c =
     reach_ok c.args.scenario.now c.args.rows.now.rows c.args.at.run c.args.at.step c.args._slave c.args.desc.now c.args.part.now c.reach.new.self c.in-Ok.field-0 c.requires.place c.requires.stands
     (subst (λ (x : Result (Unit {0}) FaultCode). Reaches c.args.rows.now.rows c.args.part.now c.reach.new.self c.args.at.step c.args.scenario.now.micro x) c.in-Ok.is c.in_ok-reach.ensures)

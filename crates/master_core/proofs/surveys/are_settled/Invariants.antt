@@ -1,10 +1,10 @@
 use Rattle.std.proofs.Common.{◌≡◌, List, take, true}
 use Rattle.std.specs.List.{list_all}
 use Rattle.dcp_types.specs.declared.limits.Limits.{Limits}
-use Rattle.master_spec.specs.Course.{Talk as Said, is_settled}
+use Rattle.master_spec.specs.Course.{CourseTalk as Said, is_settled}
 use Rattle.master_core.specs.Each.{Each}
-use Rattle.master_core.specs.Talking.{StandsAt, Now}
+use Rattle.master_core.specs.Talking.{TalkStandsAt, Now}
 use Rattle.master_core.proofs.surveys.are_settled.Given as goal
 
 abbrev pub invariant-loop-talk : goal.invariant-loop-talk
-invariant-loop-talk l = (limits : Limits) (now : Now) (said : List Said) → Each (StandsAt limits now) l.talks said → list_all is_settled (take l.talk-index said) ≡ true
+invariant-loop-talk l = (limits : Limits) (now : Now) (said : List Said) → Each (TalkStandsAt limits now) l.talks said → list_all is_settled (take l.talk-index said) ≡ true

@@ -1,7 +1,7 @@
 use Rattle.std.proofs.Common.{◌≡◌, ℕ, zero, suc, ◌<◌, Bool, List, [], ◌∷◌, length, map, drop, Bor, Err, refl, sym, ap, ◌∙◌, arith}
 use Rattle.pdu_layout.specs.declared.fields.Field.{Field}
 use Rattle.pdu_layout.specs.Table.{rows_of}
-use Rattle.pdu_text.specs.Contents.{value_in}
+use Rattle.pdu_text.specs.Contents.{value_of_said}
 use Rattle.pdu_text.specs.Machine.{fields_said}
 use Rattle.pdu_text.specs.declared.reasons.PduTextWhy.TheVariants.{Words}
 use Rattle.pdu_text.proofs.Fronts.{with_front}
@@ -23,5 +23,5 @@ returns-in-empty c =
     let i = c.loop-field.field-index in
     let l = c.loop-field in
     sym l.invariant
-    ∙ ap (λ ws. with_front (map value_in l.values.items) (fields_said (rows_of (drop i fields)) l.room l.last c.args.more ws)) (none_left l.rest.now c.in-empty.len_below)
-    ∙ ap (with_front (map value_in l.values.items)) (no_word fields i l.room l.last c.args.more c.loop-field-test.true)
+    ∙ ap (λ ws. with_front (map value_of_said l.values.items) (fields_said (rows_of (drop i fields)) l.room l.last c.args.more ws)) (none_left l.rest.now c.in-empty.len_below)
+    ∙ ap (with_front (map value_of_said l.values.items)) (no_word fields i l.room l.last c.args.more c.loop-field-test.true)

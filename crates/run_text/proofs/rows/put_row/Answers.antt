@@ -5,7 +5,7 @@ use Rattle.std.proofs.lemmas.List.{take_all}
 use Rattle.std.proofs.lemmas.Option.{slice_get_read}
 use Rattle.slave_desc.specs.declared.descriptions.SlaveDesc.{SlaveDesc}
 use Rattle.slave_desc.specs.declared.ports.Port.{Port}
-use Rattle.master_core.specs.Standing.{setup_of}
+use Rattle.master_core.specs.Standing.{core_setup}
 use Rattle.report_text.specs.Puts.{Puts}
 use Rattle.report_text.specs.Rows.{spaced_value}
 use Rattle.report_text.proofs.Growth.{Puts-then}
@@ -24,7 +24,7 @@ loop-place-preserved g c = λ events stands.
     let at : slice_get slaves place ≡ Some desc = ap (λ (l : List SlaveDesc). slice_get l place) (sym c.as_slice-slaves.ensures.items) ∙ slice_get_read given (length given) place desc refl c.loop-place-test.true c.index-slaves-place.is in
     let ports : length c.as_slice.result.now ≡ length desc.outputs = ap (λ (l : List Port). length l) c.as_slice.ensures ∙ ap (λ (d : SlaveDesc). length d.outputs) (sym c.index-slaves-place.is) in
     let number = decimal c.args.k in
-    let value = value_after (setup_of c.args.master.now) (reverse events) c.args.k in
+    let value = value_after (core_setup c.args.master.now) (reverse events) c.args.k in
     let so_far = flat_map spaced_value (outputs_of value 1 (take place slaves)) in
     let more : ℕ → List ℕ = λ n. flat_map spaced_value (ports_of (value (place + 1)) n) in
     let Put : List ℕ → Type 0 = λ text. Puts (W c.args.out.now) (W c.put_slave.new.out) (F c.args.out.now) (F c.put_slave.new.out) c.args.spool.now c.put_slave.new.spool text in
@@ -41,7 +41,7 @@ returns g c = λ events stands.
     let place = c.loop-place.place in
     let past : length slaves ≤ place = omega (arith, c.loop-place-test.false, ap (λ (l : List SlaveDesc). length l) c.as_slice-slaves.ensures.items) in
     let number = decimal c.args.k in
-    let value = value_after (setup_of c.args.master.now) (reverse events) c.args.k in
+    let value = value_after (core_setup c.args.master.now) (reverse events) c.args.k in
     let so_far = flat_map spaced_value (outputs_of value 1 (take place slaves)) in
     let Put : List ℕ → Type 0 = λ text. Puts (W c.args.out.now) (W c.put_row_end.new.out) (F c.args.out.now) (F c.put_row_end.new.out) c.args.spool.now c.put_row_end.new.spool text in
     subst Put

@@ -3,7 +3,7 @@ use Rattle.std.proofs.Common.{◌++◌, List, take, decimal}
 use Rattle.std.specs.Prelude.{reverse}
 use Rattle.std.specs.List.{flat_map}
 use Rattle.dcp_ends.specs.Events.{Event}
-use Rattle.master_core.specs.Standing.{StandsAfter, setup_of}
+use Rattle.master_core.specs.Standing.{StandsAfter, core_setup}
 use Rattle.report_text.specs.Puts.{Puts}
 use Rattle.report_text.specs.Rows.{spaced_value}
 use Rattle.run_text.specs.Tables.{outputs_of, value_after}
@@ -13,4 +13,4 @@ abbrev pub invariant-loop-place : goal.invariant-loop-place
 invariant-loop-place g l =
     (events : List Event) → StandsAfter l.master events
     → Puts (g.K.Sink.written l.fn.out) (g.K.Sink.written l.out) (g.K.Sink.faults l.fn.out) (g.K.Sink.faults l.out) l.fn.spool l.spool
-    (decimal l.k ++ flat_map spaced_value (outputs_of (value_after (setup_of l.master) (reverse events) l.k) 1 (take l.place l.scenario.slaves)))
+    (decimal l.k ++ flat_map spaced_value (outputs_of (value_after (core_setup l.master) (reverse events) l.k) 1 (take l.place l.scenario.slaves)))

@@ -2,7 +2,7 @@
 use Rattle.std.proofs.Common.{List}
 use Rattle.std.specs.Prelude.{reverse}
 use Rattle.dcp_ends.specs.Events.{Event}
-use Rattle.master_core.specs.Standing.{StandsAfter, setup_of}
+use Rattle.master_core.specs.Standing.{StandsAfter, core_setup}
 use Rattle.report_text.specs.Puts.{Puts}
 use Rattle.report_text.specs.Rows.{rows_text}
 use Rattle.run_text.specs.Tables.{first_rows, row_after}
@@ -12,4 +12,4 @@ abbrev pub invariant-loop-k : goal.invariant-loop-k
 invariant-loop-k g l =
     (events : List Event) → StandsAfter l.master events
     → Puts (g.K.Sink.written l.fn.out) (g.K.Sink.written l.out) (g.K.Sink.faults l.fn.out) (g.K.Sink.faults l.out) l.fn.spool l.spool
-    (rows_text 0 (first_rows (row_after l.scenario (setup_of l.master) (reverse events)) l.k))
+    (rows_text 0 (first_rows (row_after l.scenario (core_setup l.master) (reverse events)) l.k))

@@ -1,7 +1,7 @@
 use Rattle.std.proofs.Common.{List, ℕ, subst}
 use Rattle.std.specs.Prelude.{reverse}
 use Rattle.std.specs.List.{flat_map}
-use Rattle.master_core.specs.Standing.{setup_of}
+use Rattle.master_core.specs.Standing.{core_setup}
 use Rattle.report_text.specs.Puts.{Puts}
 use Rattle.report_text.specs.Rows.{spaced_value}
 use Rattle.report_text.proofs.Growth.{Puts-then}
@@ -14,7 +14,7 @@ loop-port-preserved g c = λ events stands.
     let W = g.K.Sink.written in
     let F = g.K.Sink.faults in
     let port = c.loop-port.port in
-    let value = value_after (setup_of c.args.master.now) (reverse events) c.args.k c.args.slave in
+    let value = value_after (core_setup c.args.master.now) (reverse events) c.args.k c.args.slave in
     let Put : List ℕ → Type 0 = λ text. Puts (W c.args.out.now) (W c.put_port.new.out) (F c.args.out.now) (F c.put_port.new.out) c.args.spool.now c.put_port.new.spool text in
     subst Put (port_more value port)
     (Puts-then _ _ _ _ _ _ _ _ _ (flat_map spaced_value (ports_of value port)) (spaced_if (value port)) (c.loop-port.invariant events stands) (c.put_port.ensures events stands))

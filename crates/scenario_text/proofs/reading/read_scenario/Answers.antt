@@ -4,7 +4,7 @@ use Rattle.std.specs.Str.Lines.{lines}
 use Rattle.text_lines.specs.Outcomes.{GivesText}
 use Rattle.text_lines.specs.Runs.{run_of}
 use Rattle.text_lines.specs.declared.reasons.TextRefused.{TextRefused}
-use Rattle.scenario_text.specs.Machine.{start, take_line, finished}
+use Rattle.scenario_text.specs.Machine.{reader_at_start, take_scenario_line, scenario_finished}
 use Rattle.scenario.specs.Sound.{IsScenario}
 use Rattle.scenario.specs.declared.scenarios.Scenario.{Scenario}
 use Rattle.scenario_text.proofs.Kept.{text_gives}
@@ -12,7 +12,7 @@ use Rattle.scenario_text.proofs.Judged.{answered_fault}
 use Rattle.scenario_text.proofs.Answered.{answered_ok, answered_only}
 use Rattle.scenario_text.proofs.reading.read_scenario.Goals as goal
 
-in_range : (text : List ℕ) (r : Result Scenario TextRefused) → GivesText r (run_of take_line finished 1 start (lines text)) → IfOk r (λ s. IsScenario s)
+in_range : (text : List ℕ) (r : Result Scenario TextRefused) → GivesText r (run_of take_scenario_line scenario_finished 1 reader_at_start (lines text)) → IfOk r (λ s. IsScenario s)
 in_range text (Ok s) e = text_gives (lines text) s e
 in_range text (Err f) e = tt
 

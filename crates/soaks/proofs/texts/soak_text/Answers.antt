@@ -1,7 +1,7 @@
 use Rattle.std.proofs.Common.{◌≡◌, ◌+◌, ◌%◌, ◌++◌, ◌∷◌, [], List, ℕ, ap, ◌∙◌, map, arith}
 use Rattle.std.specs.List.{flat_map, range_with_len}
 use Rattle.text_lines.specs.Printed.{line_of}
-use Rattle.soaks.specs.Texts.{chaos_words, counter_words, drawn_at, first_words, slave_count, step_count, wired_at}
+use Rattle.soaks.specs.Texts.{chaos_words, counter_words, drawn_at, opening_words, slave_count, step_count, wired_at}
 use Rattle.soaks.proofs.Growing.{joined_lines}
 use Rattle.soaks.proofs.texts.soak_text.Goals as goal
 
@@ -9,7 +9,7 @@ pub returns : goal.returns
 returns c =
     let number = c.args.number in
     let later = 1 + number % 15 in
-    let first = first_words (step_count number) in
+    let first = opening_words (step_count number) in
     let drawn = flat_map (drawn_at number) (range_with_len 0 later) in
     let wired : ℕ → List (List (List ℕ)) = λ slaves. map (wired_at number slaves) (range_with_len 0 later) in
     let slaves : later + 1 ≡ slave_count number = omega arith in

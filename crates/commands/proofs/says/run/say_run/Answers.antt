@@ -1,8 +1,7 @@
 use Rattle.std.proofs.Common.{◌≡◌, IfSome, refl, sym, subst}
 use Rattle.scenario.specs.declared.scenarios.Scenario.{Scenario}
 use Rattle.scenario_text.specs.Reads.{ReadsAsScenario}
-use Rattle.host.specs.Hosting.{opening_of}
-use Rattle.scenario_runs.specs.Runs.{all_ends}
+use Rattle.host.specs.Hosting.{all_ends, opening_of}
 use Rattle.commands.proofs.Outcomes.{refused_run}
 use Rattle.commands.proofs.says.run.say_run.Goals as goal
 

@@ -5,7 +5,7 @@ use Rattle.fixed_models.specs.Views.{View, accepts}
 use Rattle.slave_desc.specs.declared.ports.Port.{Port}
 use Rattle.scenario.specs.Settings.{parameters}
 use Rattle.lockstep.specs.Feeds.{feeds_of}
-use Rattle.lockstep.specs.Parts.{types_of}
+use Rattle.lockstep.specs.Parts.{types_of_outputs}
 use Rattle.lockstep.proofs.Due.{accepted}
 use Rattle.lockstep.proofs.parts.Part.new.Goals as goal
 
@@ -14,7 +14,7 @@ begin-requires c =
     let sc = c.args.scenario.now in
     let d = c.args.desc.now in
     let ps : c.as_slice-3.result.now ≡ parameters sc c.args.slave d c.args.run = c.as_slice-3.ensures.value ∙ c.in_ok-parameters.ensures in
-    let ts : c.as_slice-4.result.now ≡ types_of d = c.as_slice-4.ensures.value ∙ c.in_ok-types.ensures ∙ ap (λ (x : List Port). map (λ p. p.kind) x) c.as_slice.ensures in
+    let ts : c.as_slice-4.result.now ≡ types_of_outputs d = c.as_slice-4.ensures.value ∙ c.in_ok-types.ensures ∙ ap (λ (x : List Port). map (λ p. p.kind) x) c.as_slice.ensures in
     ap (λ (x : List ℤ). accepts d.kind x (length c.as_slice-4.result.now)) ps
     ∙ ap (λ (x : List DataType). accepts d.kind (parameters sc c.args.slave d c.args.run) (length x)) ts
     ∙ accepted sc c.args.slave c.args.run d c.requires.scenario c.requires.slave c.requires.number c.requires.desc
@@ -24,7 +24,7 @@ returns c rows =
     let sc = c.args.scenario.now in
     let d = c.args.desc.now in
     let ps : c.as_slice-3.result.now ≡ parameters sc c.args.slave d c.args.run = c.as_slice-3.ensures.value ∙ c.in_ok-parameters.ensures in
-    let ts : c.as_slice-4.result.now ≡ types_of d = c.as_slice-4.ensures.value ∙ c.in_ok-types.ensures ∙ ap (λ (x : List Port). map (λ p. p.kind) x) c.as_slice.ensures in
+    let ts : c.as_slice-4.result.now ≡ types_of_outputs d = c.as_slice-4.ensures.value ∙ c.in_ok-types.ensures ∙ ap (λ (x : List Port). map (λ p. p.kind) x) c.as_slice.ensures in
     let is = c.in_ok-model.ensures in
     record {
       kind = ap (λ (v : View). v.kind) is;

@@ -5,7 +5,7 @@ use Rattle.std.proofs.lemmas.List.Elements.{recursion_from_All, All-nil}
 use Rattle.master_spec.specs.declared.setups.Slave.{Slave}
 use Rattle.master_core.specs.declared.records.Talk.{Talk}
 use Rattle.master_core.specs.Askable.{IsScriptAskable}
-use Rattle.master_core.specs.Talking.{IsFresh, slave_in, outputs_width}
+use Rattle.master_core.specs.Talking.{IsFreshTalk, slave_talked_to, outputs_width}
 use Rattle.master_core.proofs.Fresh.{fresh_stand, slaves_few, first_behind, empty_rows}
 use Rattle.master_core.proofs.Planned.{all_askable}
 use Rattle.master_core.proofs.records.MasterCore.new.Goals as goal
@@ -30,7 +30,7 @@ returns-clause-stands c =
         parts = record {
           phase_is = refl;
           some = omega (arith, few, c.requires.sound.few_slaves.0);
-          talks_stand = fresh_stand sc.limits c.new-3.result ts (recursion_from_All (λ (t : Talk). IsFresh sc.limits t) ts c.in_ok-talks.ensures.fresh) asks;
+          talks_stand = fresh_stand sc.limits c.new-3.result ts (recursion_from_All (λ (t : Talk). IsFreshTalk sc.limits t) ts c.in_ok-talks.ensures.fresh) asks;
           rows_are = empty_rows c.new-3.result sc.steps sc.runs (outputs_width ts) c.width_of.result c.in_ok-rows.rows width c.in_ok-rows.ensures.width c.in_ok-rows.ensures.counted c.in_ok-rows.ensures.values c.in_ok-rows.ensures.room c.new-3.ensures.steps c.new-3.ensures.runs;
           report_is = refl;
         };

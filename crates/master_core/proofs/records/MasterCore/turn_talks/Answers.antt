@@ -1,12 +1,12 @@
 use Rattle.std.proofs.Common.{◌≡◌, ℕ, Bool, Some, List, ◌++◌, map, refl, sym, ap, subst, ◌∙◌}
 use Rattle.std.specs.List.{list_all, flat_map}
 use Rattle.master_spec.specs.Marks.{Turned}
-use Rattle.master_spec.specs.Course.{Course, Talk as Said, marked, sends_after, is_settled}
+use Rattle.master_spec.specs.Course.{Course, CourseTalk as Said, marked, sends_after, is_settled}
 use Rattle.master_core.specs.declared.records.MasterCore.{MasterCore}
 use Rattle.master_core.specs.declared.records.Talk.{Talk}
 use Rattle.master_core.specs.Each.{Each}
-use Rattle.master_core.specs.Talking.{StandsAt, now_in}
-use Rattle.master_core.specs.Standing.{Meets, setup_of}
+use Rattle.master_core.specs.Talking.{TalkStandsAt, now_in}
+use Rattle.master_core.specs.Standing.{Meets, core_setup}
 use Rattle.master_core.proofs.Onward.{marked_stands, meets_as}
 use Rattle.dcp_ends.specs.Events.{Send}
 use Rattle.master_core.proofs.records.MasterCore.turn_talks.Goals as goal
@@ -15,7 +15,7 @@ pub returns-clause-meets : goal.returns-clause-meets
 returns-clause-meets c = λ x s.
     let m = c.args.self.now in
     let now = now_in x.phase m.schedule in
-    let settled : c.are_settled-settled.result ≡ list_all is_settled x.talks = c.are_settled-settled.ensures m.limits now x.talks (subst (λ (ts : List Talk). Each (StandsAt m.limits now) ts x.talks) (sym c.deref.ensures.value) s.parts.talks_stand) in
+    let settled : c.are_settled-settled.result ≡ list_all is_settled x.talks = c.are_settled-settled.ensures m.limits now x.talks (subst (λ (ts : List Talk). Each (TalkStandsAt m.limits now) ts x.talks) (sym c.deref.ensures.value) s.parts.talks_stand) in
     let made : Bool → Course = λ b. record {
       phase = x.phase;
       talks = map (λ (talk : Said). marked m.limits talk (Some (Turned b))) x.talks;

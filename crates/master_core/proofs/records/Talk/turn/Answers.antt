@@ -4,7 +4,7 @@ use Rattle.dcp_ends.specs.Events.{Send}
 use Rattle.conversation.specs.declared.records.Conversation.{Conversation}
 use Rattle.conversation.specs.Standing.{Stands, due_of}
 use Rattle.master_spec.specs.Marks.{Turned}
-use Rattle.master_spec.specs.Conversation.{after}
+use Rattle.master_spec.specs.Conversation.{marks_after}
 use Rattle.master_core.proofs.Carried.{carry_heard, old_after, turned_carried}
 use Rattle.master_core.proofs.Cleared.{can_after, sent_after}
 use Rattle.master_core.proofs.records.Talk.turn.Goals as goal

@@ -14,5 +14,5 @@ send_values-requires-clause-fit g c =
     let model = c.args.self.now.works.model in
     let made = c.args.self.now.works.made in
     let p = c.in-Ok.ensures in
-    subst (λ (vs : List ℤ). payloads.all_fit s.desc.outputs vs ≡ true) (sym p.1)
+    subst (λ (vs : List ℤ). payloads.values_fit_ports s.desc.outputs vs ≡ true) (sym p.1)
     (ports_fit s.desc.outputs (values model) (value_count s model made) (subst (λ (ts : List DataType). all_fit ts (values model) ≡ true) made.types p.0))

@@ -1,11 +1,11 @@
 use Rattle.std.proofs.Common.{refl, ap, ◌∙◌}
 use Rattle.dcp_types.specs.declared.error_codes.ErrorCode.TheVariants.{NotSupported}
-use Rattle.slave_wiring.specs.Refusals.{unless}
+use Rattle.slave_wiring.specs.Refusals.{refused_unless}
 use Rattle.wirings.proofs.Whole.{time_judged, time_told}
 use Rattle.wirings.proofs.wirings.Wiring.set_time.Goals as goal
 
 pub returns-then-not-has_resolution : goal.returns-then-not-has_resolution
-returns-then-not-has_resolution c = λ d x h. (time_judged d x.changes _ _ _ (c.has_resolution.ensures d x h) ∙ ap (λ b. unless b NotSupported) c.if-not-has_resolution.true, h)
+returns-then-not-has_resolution c = λ d x h. (time_judged d x.changes _ _ _ (c.has_resolution.ensures d x h) ∙ ap (λ b. refused_unless b NotSupported) c.if-not-has_resolution.true, h)
 
 pub returns : goal.returns
-returns c = λ d x h. (time_judged d x.changes _ _ _ (c.has_resolution.ensures d x h) ∙ ap (λ b. unless b NotSupported) c.if-not-has_resolution.false, time_told c.args.self.now _ d x _ _ h refl refl refl refl refl)
+returns c = λ d x h. (time_judged d x.changes _ _ _ (c.has_resolution.ensures d x h) ∙ ap (λ b. refused_unless b NotSupported) c.if-not-has_resolution.false, time_told c.args.self.now _ d x _ _ h refl refl refl refl refl)

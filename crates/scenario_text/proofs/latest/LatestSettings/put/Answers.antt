@@ -5,7 +5,7 @@ use Rattle.std.proofs.lemmas.List.Kept.{AllPairs-filter}
 use Rattle.scenario_text.specs.LastSettings.{same_parameter}
 use Rattle.scenario.specs.declared.scenarios.Setting.{Setting}
 use Rattle.scenario_text.proofs.LastSettings.{put_same, put_apart}
-use Rattle.scenario_text.proofs.latest.Latest.put.Goals as goal
+use Rattle.scenario_text.proofs.latest.LatestSettings.put.Goals as goal
 
 pub returns : goal.returns
 returns c =
