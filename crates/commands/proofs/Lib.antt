@@ -1,5 +1,6 @@
 pub mod Pieces
-pub mod Named
+pub mod Lines
+pub mod Naming
 pub mod InStep
 pub mod Summed
 pub mod Outcomes

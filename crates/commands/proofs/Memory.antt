@@ -38,7 +38,7 @@ use Rattle.soaks.specs.Texts.{soak_text}
 use Rattle.commands.specs.Statuses.{judgement_of_report, status_after, status_code}
 use Rattle.commands.proofs.InStep.{sums_in_step}
 use Rattle.commands.proofs.Summed.{sum_is_whole}
-use Rattle.commands.proofs.Named.{one_not_two}
+use Rattle.commands.proofs.Naming.{one_not_two}
 use Rattle.commands.proofs.Outcomes.{stops_rose}
 
 -- what a network in memory tells

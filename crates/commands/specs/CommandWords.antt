@@ -1,8 +1,11 @@
 -- The words that name a command.
-use Rattle.std.specs.Prelude.{◌≡◌, ◌⊎◌, ℕ, ◌≤◌, Option, Some, None, Ok, List, [], ◌∷◌, length, codes}
+use Rattle.std.specs.Prelude.{◌≡◌, ◌⊎◌, ℕ, ◌≤◌, true, Option, Some, None, Ok, List, [], ◌∷◌, length, codes}
 use Rattle.text_lines.specs.Numbers.{number_from}
+use Rattle.command_line.specs.Lines.{is_line}
 use Rattle.commands.specs.declared.command_words.Command.{Command}
 use Rattle.commands.specs.declared.command_words.Command.TheVariants.{Decode, Encode, Describe, Reference, Talk, Run, Replay, Soak}
+use Rattle.commands.specs.declared.word_lists.Named.{Named}
+use Rattle.commands.specs.declared.word_lists.Named.TheVariants as named
 
 -- one to six decimal digits
 abbrev pub IsSoakNumber : (word : List ℕ) → (number : ℕ) → Type 0
@@ -21,6 +24,12 @@ Names words (Soak number) = (word : List ℕ) × (words ≡ codes "soak" ∷ wor
 
 abbrev pub IsCommand : List (List ℕ) → Type 0
 IsCommand words = (command : Command) × Names words command
+
+-- what words come to: memory can be wanting only to read one or two words of which none begins with `-`
+abbrev pub ReadsWords : List (List ℕ) → Named → Type 0
+ReadsWords words (named.Command command) = Names words command
+ReadsWords words named.Nothing = IsCommand words → ⊥
+ReadsWords words named.OutOfMemory = is_line words ≡ true
 
 -- the number of the scenario that the command makes by itself, and does not read
 abbrev pub own_number : Command → Option ℕ

@@ -1,5 +1,6 @@
 -- What a call of the program answers, by its status: why, what of the source was taken, and what was written.
-use Rattle.std.specs.Prelude.{◌≡◌, ◌⊎◌, ℕ, List, [], codes}
+use Rattle.std.specs.Prelude.{◌≡◌, ◌⊎◌, ℕ, true, List, [], codes}
+use Rattle.command_line.specs.Lines.{is_line}
 use Rattle.commands.specs.declared.command_words.Command.{Command}
 use Rattle.commands.specs.declared.answers.Unsaid.TheVariants as unsaid
 use Rattle.commands.specs.declared.statuses.Status.{Status}
@@ -32,6 +33,10 @@ module _ (words : List (List ℕ)) (source out trace : RunChange) (net : NetChan
       × Names words command × TakesFor source.was source.is command input × HasNotFailed source
       × Says command net.told input judgement text traced × Wrote text traced delivery × (net.now ≡ net.before)
 
+  -- to read these words wanted memory, which comes only where there are one or two and none begins with `-`; nothing was taken, written or called
+  abbrev pub IsUnread : Type 0
+  IsUnread = (is_line words ≡ true) × (source.is ≡ source.was) × HasNotFailed source × WritesNothing × (net.now ≡ net.before)
+
   abbrev pub Outcome : Status → Type 0
   Outcome Done = Answered Good Whole
   Outcome RunFailed = Answered Failed Whole
@@ -42,7 +47,7 @@ module _ (words : List (List ℕ)) (source out trace : RunChange) (net : NetChan
   Outcome NetFault =
       (command : Command) × (input : List ℕ) × Names words command × TakesFor source.was source.is command input × HasNotFailed source
       × Stops command input net.before net.now unsaid.NetFault × WritesNothing
-  Outcome OutOfMemory = (command : Command) × Names words command × TakesSomeFor source.was source.is command × HasNotFailed source × WritesNothing × (net.now ≡ net.before)
+  Outcome OutOfMemory = IsUnread ⊎ ((command : Command) × Names words command × TakesSomeFor source.was source.is command × HasNotFailed source × WritesNothing × (net.now ≡ net.before))
   Outcome Differs = Answered judged.Differs Whole
 
 -- the answers to a command whose objects do not fail

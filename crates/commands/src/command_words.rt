@@ -1,10 +1,12 @@
 //! The commands by their words.
 
 ghost use Rattle.std.specs.Prelude.{◌≡◌, ◌∷◌, [], ℕ, MatchOption};
+ghost use Rattle.command_line.specs.Lines.{words_in_line};
 ghost use Rattle.commands.specs.CommandWords.{IsCommand, IsSoakNumber, Names, own_number};
 ghost use Rattle.commands.specs.Limits.{limit_of};
 
 use crate::inputs::{LIMIT, TRACE_LIMIT};
+use command_line::CommandLine;
 use text_lines::number_from;
 
 /// The most digits of the number of `soak`.
@@ -32,8 +34,18 @@ pub enum Command {
 }
 
 impl Command {
+    /// The command that this line names; none where it names none.
+    pub fn from_line(line: CommandLine<'_>) -> Option<Command>
+        ensures { MatchOption result (IsCommand (words_in_line line.entry) → ⊥) (Names (words_in_line line.entry)) }
+    {
+        match line.operand {
+            None => Command::from_word(line.command),
+            Some(number) => Command::from_two_words(line.command, number),
+        }
+    }
+
     /// The command that is named by this word alone; none where there is none.
-    pub fn from_word(word: &str) -> Option<Command>
+    fn from_word(word: &str) -> Option<Command>
         ensures { MatchOption result (IsCommand (word.now ∷ []) → ⊥) (Names (word.now ∷ [])) }
     {
         if word == "decode" {
@@ -61,7 +73,7 @@ impl Command {
     }
 
     /// The command that is named by these two words; none where there is none.
-    pub fn from_two_words(word: &str, number: &str) -> Option<Command>
+    fn from_two_words(word: &str, number: &str) -> Option<Command>
         ensures { MatchOption result (IsCommand (word.now ∷ number.now ∷ []) → ⊥) (Names (word.now ∷ number.now ∷ [])) }
     {
         if word != "soak" {

@@ -24,4 +24,4 @@ pub use refusals::{refuse_line, refuse_past_limit, refuse_text};
 pub use said::{Statement, Text, write_text};
 pub use statuses::{Judgement, Status};
 pub use top_calls::run_words;
-pub use word_lists::Words;
+pub use word_lists::{Named, Words};

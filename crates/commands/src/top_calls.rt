@@ -11,7 +11,7 @@ use crate::answers::{Unsaid, deliver};
 use crate::inputs::{Gathered, input_for};
 use crate::says::say;
 use crate::statuses::Status;
-use crate::word_lists::Words;
+use crate::word_lists::{Named, Words};
 use byte_spool::write_all;
 use dcp_io::{Sink, Source};
 use dcp_net::Net;
@@ -43,9 +43,13 @@ pub fn run_words<S: Source, K: Sink, R: Sink, N: Net>(
     ensures complete { IsCommand words.now → (Rose (S.faults source.old) (S.faults source.new) → ⊥) → (Rose (K.faults out.old) (K.faults out.new) → ⊥)
         → (Rose (R.faults trace.old) (R.faults trace.new) → ⊥) → (Rose (N.count net.old) (N.count net.new) → ⊥) → IsFree result }
 {
-    let Some(command) = words.command() else {
-        let _ = write_all(out, b"usage\n");
-        return Status::Usage;
+    let command = match words.named(alloc) {
+        Named::Command(command) => command,
+        Named::Nothing => {
+            let _ = write_all(out, b"usage\n");
+            return Status::Usage;
+        }
+        Named::OutOfMemory => return Status::OutOfMemory,
     };
     let input = match input_for(alloc, command, source) {
         Gathered::Bytes(input) => input,

@@ -1,12 +1,25 @@
 //! The words of the command line.
 
-ghost use Rattle.std.specs.Prelude.{◌≡◌, ◌++◌, ◌∷◌, [], OnOk, OnErr, MatchOption, map, string_bytes};
-ghost use Rattle.commands.specs.CommandWords.{IsCommand, Names};
+ghost use Rattle.std.specs.Prelude.{◌≡◌, ◌++◌, ◌∷◌, [], None, Ok, OnOk, OnErr, IfOk, MatchOption, false, map, string_bytes};
+ghost use Rattle.command_line.specs.Lines.{is_line, words_in_line};
+ghost use Rattle.commands.specs.CommandWords.{ReadsWords};
 
 use crate::command_words::Command;
+use command_line::{CommandLine, read_words};
 use dcp_types::OutOfMemory;
 use std::alloc::Global;
 use std::marker::Model;
+
+/// What words come to.
+#[derive(Clone, Copy, Debug, PartialEq, Eq)]
+pub enum Named {
+    /// They name this command.
+    Command(Command),
+    /// They name none.
+    Nothing,
+    /// To read them wanted memory.
+    OutOfMemory,
+}
 
 /// The words after the program's name, in order. Contracts see the list of their texts.
 #[derive(Debug, Drop)]
@@ -53,14 +66,26 @@ impl Words {
         self.words.as_slice()
     }
 
-    /// The command that the words name; none where they name none.
-    pub fn command(&self) -> Option<Command>
-        ensures { MatchOption result (IsCommand self.now → ⊥) (Names self.now) }
+    /// The words as `clap` reads them: a command and its operand. None where there are none or more than two,
+    /// or one begins with `-`; then no memory is taken.
+    pub fn line(&self, alloc: Global) -> Result<Option<CommandLine<'_>>, OutOfMemory>
+        ensures line { IfOk result (λ line. MatchOption line (is_line self.now ≡ false) (λ l. words_in_line l ≡ self.now)) }
+        ensures unasked { is_line self.now ≡ false → result ≡ Ok None }
     {
-        match self.words.as_slice() {
-            [word] => Command::from_word(word.as_str()),
-            [word, number] => Command::from_two_words(word.as_str(), number.as_str()),
-            _ => None,
+        read_words(alloc, self.words.as_slice())
+    }
+
+    /// What the words come to.
+    pub fn named(&self, alloc: Global) -> Named
+        ensures { ReadsWords self.now result }
+    {
+        match self.line(alloc) {
+            Ok(Some(line)) => match Command::from_line(line) {
+                Some(command) => Named::Command(command),
+                None => Named::Nothing,
+            },
+            Ok(None) => Named::Nothing,
+            Err(OutOfMemory) => Named::OutOfMemory,
         }
     }
 }

@@ -65,6 +65,8 @@ fn what_is_refused_leaves_a_line_and_no_trace(rt: HostRuntime) -> Result<(), Fai
         ("slave", COUNTER, 1, "usage/"),
         ("slave count count", COUNTER, 1, "usage/"),
         ("live count", COUNTER, 1, "usage/"),
+        ("slave -x", COUNTER, 1, "usage/"),
+        ("slave 9x", COUNTER, 1, "usage/"),
         ("Master", COUNTER, 1, "usage/"),
         ("run", COUNTER, 1, "usage/"),
         ("", COUNTER, 1, "usage/"),

@@ -1,21 +1,30 @@
--- One word, or two.
-use Rattle.std.proofs.Common.{◌≡◌, ◌⊎◌, ℕ, ◌+◌, zero, suc, ◌<◌, ◌≤◌, List, [], ◌∷◌, length, map, slice_index_or, arith, subst, sym, Option}
-use Rattle.std.specs.Prelude.{codes, slice_get, IsSomeAnd}
+-- Words that name a command over sockets, and the slaves that they name.
+use Rattle.std.proofs.Common.{◌≡◌, ◌⊎◌, ℕ, Bool, true, false, inl, inr, ap, ◌∙◌, slice_index, ◌+◌, zero, suc, ◌<◌, ◌≤◌, List, [], ◌∷◌, length, map, slice_index_or, arith, subst, sym, Option}
+use Rattle.std.specs.Prelude.{codes, slice_get, IsSomeAnd, ◌==◌, ◌&&◌, nat_le, not}
+use Rattle.std.specs.Char.{is_ascii_alphabetic}
+use Rattle.std.specs.List.{list_all}
+use Rattle.std.proofs.lemmas.Bool.{and_parts}
+use Rattle.std.proofs.lemmas.Bool.Decides.{nat_tests}
+use Rattle.dcp_types.specs.Names.{is_name, is_name_byte}
+use Rattle.command_line.specs.Lines.{is_line}
 use Rattle.slave_desc.specs.declared.descriptions.SlaveDesc.{SlaveDesc}
 use Rattle.scenario.specs.Lookups.{slave_at}
 use Rattle.live_commands.specs.Parts.{IsLive, IsNamed}
 
-module _ {A : Type 0} (text : A → List ℕ) where
-  pub one_word : (words : List A) (d : A) → 1 ≤ length words → length words < 2 → (text (slice_index_or words 0 d) ≡ codes "live") ⊎ (text (slice_index_or words 0 d) ≡ codes "master") → IsLive (map text words)
-  one_word [] d some few is = absurd (omega (arith, some))
-  one_word (w ∷ []) d some few is = is
-  one_word (w ∷ x ∷ rest) d some few is = absurd (omega (arith, few))
+-- a letter is no `-`
+letter : (n : ℕ) → is_ascii_alphabetic n ≡ true → (n == 45) ≡ false
+letter n is = grind (arith, nat_tests)
 
-  pub two_words : (words : List A) (d : A) → 2 ≤ length words → length words < 3 → text (slice_index_or words 0 d) ≡ codes "slave" → IsLive (map text words)
-  two_words [] d some few is = absurd (omega (arith, some))
-  two_words (w ∷ []) d some few is = absurd (omega (arith, some))
-  two_words (w ∷ x ∷ []) d some few is = is
-  two_words (w ∷ x ∷ y ∷ rest) d some few is = absurd (omega (arith, few))
+-- words that name a command over sockets are a line
+pub live_is_line : (words : List (List ℕ)) → IsLive words → is_line words ≡ true
+live_is_line [] is = absurd is
+live_is_line (word ∷ []) (inl is) = ap (λ (w : List ℕ). is_line (w ∷ [])) is
+live_is_line (word ∷ []) (inr is) = ap (λ (w : List ℕ). is_line (w ∷ [])) is
+live_is_line (word ∷ name ∷ []) is =
+    let front = and_parts (is_ascii_alphabetic (slice_index name 0) && nat_le (length name) 32) (list_all is_name_byte name) is.1 in
+    let first = and_parts (is_ascii_alphabetic (slice_index name 0)) (nat_le (length name) 32) front.0 in
+    ap (λ (w : List ℕ). is_line (w ∷ name ∷ [])) is.0 ∙ ap (λ (option : Bool). not option) (letter (slice_index name 0) first.0)
+live_is_line (word ∷ name ∷ more ∷ rest) is = absurd is
 
 get_at : {A : Type 0} (xs : List A) (n : ℕ) (d : A) (Holds : A → Type 0) → n < length xs → Holds (slice_index_or xs n d) → IsSomeAnd (slice_get xs n) Holds
 get_at [] n d Holds in_it h = absurd (omega (arith, in_it))

@@ -1,5 +1,6 @@
 -- The words of the commands over sockets, and the ends that they name.
 use Rattle.std.specs.Prelude.{◌≡◌, ◌≢◌, ◌⊎◌, ℕ, ◌≤◌, ◌-◌, ◌^◌, true, false, List, [], ◌∷◌, codes, All, IsSomeAnd, is_some}
+use Rattle.dcp_types.specs.Names.{is_name}
 use Rattle.slave_desc.specs.declared.descriptions.SlaveDesc.{SlaveDesc}
 use Rattle.scenario.specs.declared.scenarios.Scenario.{Scenario}
 use Rattle.scenario.specs.Lookups.{slave_at}
@@ -9,11 +10,11 @@ use Rattle.run_text.specs.Runs.{all_bits}
 use Rattle.live_commands.specs.declared.parts.Part.{Part}
 use Rattle.live_commands.specs.declared.parts.Part.TheVariants as parts
 
--- `live`, `master`, or `slave` and a name
+-- `live`, `master`, or `slave` and a word that can be a name
 abbrev pub IsLive : List (List ℕ) → Type 0
 IsLive [] = ⊥
 IsLive (word ∷ []) = (word ≡ codes "live") ⊎ (word ≡ codes "master")
-IsLive (word ∷ name ∷ []) = word ≡ codes "slave"
+IsLive (word ∷ name ∷ []) = (word ≡ codes "slave") × (is_name name ≡ true)
 IsLive (word ∷ name ∷ more ∷ rest) = ⊥
 
 -- this slave has this name

@@ -1,11 +1,17 @@
 //! The ends that the words name.
 
-ghost use Rattle.std.specs.Prelude.{◌≡◌, ◌⊎◌, codes, ◌≢◌, ◌≤◌, ◌<◌, ◌^◌, ⊤, true, length, map, string_bytes, All, MatchOption};
+ghost use Rattle.std.specs.Prelude.{◌≡◌, ◌⊎◌, codes, ◌≢◌, ◌≤◌, ◌<◌, ◌^◌, ⊤, true, length, map, string_bytes, All, IfOk, MatchOption};
+ghost use Rattle.dcp_types.specs.Names.{is_name};
+ghost use Rattle.command_line.specs.Lines.{words_in_line};
 ghost use Rattle.live_commands.specs.Parts.{HasNoPart, IsLive, IsPart, IsNamed, NamesPart, bits_in, hosted_of};
 
+use command_line::CommandLine;
+use commands::Words;
+use dcp_types::{OutOfMemory, is_name};
 use host::Hosted;
 use scenario::Scenario;
 use slave_desc::SlaveDesc;
+use std::alloc::Global;
 
 /// The ends of a scenario that one process hosts.
 #[derive(Clone, Copy, Debug, PartialEq, Eq)]
@@ -64,12 +70,12 @@ fn is_alone(word: &str) -> bool
     word == "live" || word == "master"
 }
 
-/// Whether this word stands before a name.
-fn is_slave(word: &str) -> bool
-    ensures yes { result ≡ true → word.now ≡ codes "slave" }
-    ensures no { word.now ≡ codes "slave" → result ≡ true }
+/// Whether this word stands before a name, and the next one can be a name.
+fn is_slave(word: &str, name: &str) -> bool
+    ensures yes { result ≡ true → (word.now ≡ codes "slave") × (is_name name.now ≡ true) }
+    ensures no { (word.now ≡ codes "slave") × (is_name name.now ≡ true) → result ≡ true }
 {
-    word == "slave"
+    word == "slave" && is_name(name.as_bytes())
 }
 
 /// Whether the words name a command over sockets.
@@ -79,7 +85,7 @@ pub fn is_live(words: &[String]) -> bool
 {
     match words {
         [word] => is_alone(word.as_str()),
-        [word, _name] => is_slave(word.as_str()),
+        [word, name] => is_slave(word.as_str(), name.as_str()),
         _ => false,
     }
 }
@@ -97,19 +103,30 @@ fn slave_named(slaves: &[SlaveDesc], name: &str) -> Option<u8>
     None
 }
 
-/// The ends of the scenario that the words name; none where it has no such slave.
-pub(crate) fn part_of(words: &[String], scenario: &Scenario) -> Option<Part>
-    requires live { IsLive (map string_bytes words.now) }
+/// The ends of the scenario that the line names; none where it has no such slave.
+pub(crate) fn part_of(line: CommandLine<'_>, scenario: &Scenario) -> Option<Part>
+    requires live { IsLive (words_in_line line) }
     requires few { length scenario.now.slaves ≤ 16 }
-    ensures part { MatchOption result (HasNoPart (map string_bytes words.now) scenario.now) (NamesPart (map string_bytes words.now) scenario.now) }
+    ensures part { MatchOption result (HasNoPart (words_in_line line.entry) scenario.now) (NamesPart (words_in_line line.entry) scenario.now) }
     ensures few { MatchOption result ⊤ IsPart }
 {
-    match words {
-        [_word, name] => match slave_named(scenario.slaves.as_slice(), name.as_str()) {
+    match line.operand {
+        Some(name) => match slave_named(scenario.slaves.as_slice(), name) {
             Some(slave) => Some(Part::Slave(slave)),
             None => None,
         },
-        [word] if word.as_str() == "live" => Some(Part::All),
-        _ => Some(Part::Master),
+        None if line.command == "live" => Some(Part::All),
+        None => Some(Part::Master),
+    }
+}
+
+/// The words as `clap` reads them, which takes memory.
+pub(crate) fn line_of_live(alloc: Global, words: &Words) -> Result<CommandLine<'_>, OutOfMemory>
+    requires { IsLive words.now }
+    ensures { IfOk result (λ line. words_in_line line ≡ words.now) }
+{
+    match words.line(alloc)? {
+        Some(line) => Ok(line),
+        None => unreachable!(),
     }
 }

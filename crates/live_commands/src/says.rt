@@ -1,6 +1,7 @@
 //! What a command over sockets says of a text.
 
 ghost use Rattle.std.specs.Prelude.{◌≡◌, IfOk, IfErr};
+ghost use Rattle.command_line.specs.Lines.{words_in_line};
 ghost use Rattle.live_commands.specs.Answers.{GivesLive, IsLiveRefusal, IsWritableLive};
 ghost use Rattle.live_commands.specs.Parts.{IsLive};
 ghost use Rattle.live_commands.specs.Stops.{StopsLive};
@@ -9,24 +10,25 @@ use crate::answers::LiveAnswer;
 use crate::endings::ended;
 use crate::hosting::{LiveFault, host_part};
 use crate::parts::part_of;
-use commands::{LIMIT, Words, refuse_line, refuse_past_limit, refuse_text};
+use command_line::CommandLine;
+use commands::{LIMIT, refuse_line, refuse_past_limit, refuse_text};
 use dcp_net::{Net, Ready};
 use scenario_text::read_scenario;
 use std::alloc::Global;
 use std::sync::Wait;
 
-/// Runs the ends of the scenario that the words name until they are done, or says why the text is refused.
+/// Runs the ends of the scenario that the line names until they are done, or says why the text is refused.
 /// Neither the network nor a wait is called for a text that is refused.
 pub(crate) fn say_live<W: Wait, N: Net, P: Ready>(
     rt: &W,
     alloc: Global,
-    words: &Words,
+    line: CommandLine<'_>,
     input: &[u8],
     net: &mut N,
     ready: &mut P,
 ) -> Result<LiveAnswer, LiveFault>
-    requires { IsLive words.now }
-    ensures says { IfOk result (GivesLive words.now (record {
+    requires { IsLive (words_in_line line) }
+    ensures says { IfOk result (GivesLive (words_in_line line.entry) (record {
       told = record { calls = N.calls net.new; opening = N.opening net.new };
       before = N.count net.old;
       now = N.count net.new;
@@ -47,7 +49,7 @@ pub(crate) fn say_live<W: Wait, N: Net, P: Ready>(
         Ok(scenario) => scenario,
         Err(refused) => return Ok(LiveAnswer::Refused(refuse_text(alloc, refused)?)),
     };
-    let Some(part) = part_of(words.as_slice(), &scenario) else {
+    let Some(part) = part_of(line, &scenario) else {
         return Ok(LiveAnswer::Refused(refuse_line(alloc, 0, "UNKNOWN_SLAVE")?));
     };
     let host = host_part(rt, alloc, scenario, part, net, ready)?;

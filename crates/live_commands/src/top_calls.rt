@@ -9,7 +9,7 @@ ghost use Rattle.live_commands.specs.Parts.{IsLive};
 
 use crate::answers::deliver;
 use crate::hosting::LiveFault;
-use crate::parts::is_live;
+use crate::parts::{is_live, line_of_live};
 use crate::says::say_live;
 use byte_spool::write_all;
 use commands::{Gathered, LIMIT, Status, Words, read_input};
@@ -56,12 +56,15 @@ pub fn live_words<W: Wait, S: Source, K: Sink, R: Sink, N: Net, P: Ready>(
         let _ = write_all(out, b"usage\n");
         return Status::Usage;
     }
+    let Ok(line) = line_of_live(alloc, words) else {
+        return Status::OutOfMemory;
+    };
     let input = match read_input(alloc, source, LIMIT) {
         Gathered::Bytes(input) => input,
         Gathered::Failed => return Status::ReadFault,
         Gathered::OutOfMemory => return Status::OutOfMemory,
     };
-    match say_live(rt, alloc, words, input.as_slice(), net, ready) {
+    match say_live(rt, alloc, line, input.as_slice(), net, ready) {
         Ok(answer) => deliver(out, trace, answer, input.as_slice()),
         Err(LiveFault::Net) => Status::NetFault,
         Err(LiveFault::Wait) => Status::NetFault,

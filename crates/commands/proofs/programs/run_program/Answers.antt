@@ -5,7 +5,7 @@ use Rattle.commands.specs.Programs.{RunsInStep, SoaksInStep, change_of, sure_cha
 use Rattle.commands.specs.SaysRun.{NetTold}
 use Rattle.commands.proofs.Outcomes.{change, same_change}
 use Rattle.commands.proofs.Memory.{is_in_step, is_sure, soaks_in_step, told_in_memory}
-use Rattle.commands.proofs.Named.{one_not_two}
+use Rattle.commands.proofs.Naming.{one_not_two}
 use Rattle.net_world.specs.World.{calls_of, carried_opening}
 use Rattle.commands.proofs.programs.run_program.Goals as goal
 
