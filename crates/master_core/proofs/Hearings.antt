@@ -22,7 +22,7 @@ use Rattle.master_spec.specs.Course as course
 use Rattle.master_core.specs.declared.records.Talk.{Talk}
 use Rattle.master_core.specs.declared.stages.Schedule.{Schedule}
 use Rattle.master_core.specs.Stages.{list_in}
-use Rattle.master_core.specs.Slots.{sends_to}
+use Rattle.master_core.specs.Sends.{sends_to}
 use Rattle.master_core.specs.Talking.{TalkStandsAt, Now, IsNow, HasKept}
 use Rattle.master_core.proofs.Sendable.{IsHeard, OnMark, mark_heard}
 use Rattle.master_core.proofs.Carried.{heard_carried, kept_by}

@@ -32,7 +32,7 @@ use Rattle.conversation.specs.Askable.{IsSpelled}
 use Rattle.conversation.specs.Standing.{CanSend, CanSendAfter}
 use Rattle.conversation.proofs.Spelling.{spelled_is}
 use Rattle.master_core.specs.Askable.{IsAskable, AreAskable, IsLatestAskable, IsJobAskable, IsPresentAskable}
-use Rattle.master_core.specs.Slots.{sends_to}
+use Rattle.master_core.specs.Sends.{sends_to}
 
 -- what a reaction sends has a spelling under every number
 abbrev pub Sendable : List Mark → Reaction → Type 0

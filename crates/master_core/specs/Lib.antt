@@ -1,6 +1,6 @@
 pub mod Stages
 pub mod Rest
-pub mod Slots
+pub mod Sends
 pub mod Each
 pub mod Askable
 pub mod Talking

@@ -6,13 +6,11 @@
 
 mod ends;
 mod masters;
-mod outbox;
 mod records;
 mod rows;
 mod schedules;
 mod setups;
 mod sizes;
-mod slots;
 mod stages;
 mod surveys;
 mod talks;

@@ -13,8 +13,7 @@ ghost use Rattle.master_core.specs.Columns.{column_value};
 ghost use Rattle.master_core.specs.Talking.{Now};
 ghost use Rattle.master_core.specs.Standing.{StandsIn, StandsFor, StandsAfter, Meets, IsBehind, core_setup, is_row_due, with_counted, with_talks_turned, with_gram_heard};
 
-use crate::outbox::MasterOutbox;
-use crate::records::MasterCore;
+use crate::records::{MasterCore, MasterOutbox};
 use crate::rows::Rows;
 use crate::setups::talks_of;
 use crate::stages::Schedule;

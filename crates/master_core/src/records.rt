@@ -2,12 +2,19 @@
 
 ghost use Rattle.std.specs.Prelude.{◌≡◌, ◌≤◌, false, length};
 
-use crate::outbox::MasterOutbox;
 use crate::rows::Rows;
 use crate::stages::Schedule;
 use conversation::Conversation;
 use dcp_types::{Address, Limits};
 use master_spec::{Report, Slave};
+use outboxes::Outbox;
+
+/// A master sends so many messages at most after one event: two to each slave, since a turn can end a
+/// phase and begin the next one.
+const MASTER_SENDS: usize = 32;
+
+/// The messages that a master is to send after one event.
+pub(crate) type MasterOutbox = Outbox<MASTER_SENDS>;
 
 /// A conversation with a slave, and the outputs of the present phase once they have come.
 #[derive(Debug, Drop)]

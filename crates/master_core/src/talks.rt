@@ -10,11 +10,10 @@ ghost use Rattle.conversation.specs.Standing.{due_of};
 ghost use Rattle.dcp_ends.specs.Logs.{same_address};
 ghost use Rattle.master_spec.specs.News.{news_of};
 ghost use Rattle.master_core.specs.Stages as stages;
-ghost use Rattle.master_core.specs.Slots.{sends_to};
+ghost use Rattle.master_core.specs.Sends.{sends_to};
 ghost use Rattle.master_core.specs.Talking.{TalkStandsAt, IsFreshTalk, IsNow, Now, at_stage};
 
-use crate::outbox::MasterOutbox;
-use crate::records::Talk;
+use crate::records::{MasterOutbox, Talk};
 use crate::sizes::payload_size;
 use crate::stages::Schedule;
 use conversation::{Conversation, hear};
@@ -27,6 +26,18 @@ fn same_address(a: Address, b: Address) -> bool
     a.ip == b.ip && a.port == b.port
 }
 
+/// Puts the bytes of a message behind the others, where there are some.
+fn put_some(to: Address, message: &[u8], out: &mut MasterOutbox)
+    requires room { length out.old < 32 }
+    requires few { length message.now ≤ 1024 }
+    ensures sends { out.new ≡ out.old ++ sends_to to message.now }
+    ensures room { length out.new ≤ length out.old + 1 }
+{
+    if !message.is_empty() {
+        out.put_bytes(to, message);
+    }
+}
+
 /// What is due to a slave goes out.
 fn send_due(conversation: &mut Conversation, to: Address, out: &mut MasterOutbox)
     requires { length out.old < 32 }
@@ -35,7 +46,7 @@ fn send_due(conversation: &mut Conversation, to: Address, out: &mut MasterOutbox
     ensures room { length out.new ≤ length out.old + 1 }
 {
     if let Some(bytes) = conversation.due() {
-        out.put(to, bytes);
+        put_some(to, bytes, out);
     }
     conversation.clear_due();
 }

@@ -9,8 +9,7 @@ ghost use Rattle.master_core.specs.Stages.{job_at};
 ghost use Rattle.master_core.specs.Each.{Each};
 ghost use Rattle.master_core.specs.Talking.{TalkStandsAt, Now, at_stage, IsNow, slave_talked_to};
 
-use crate::outbox::MasterOutbox;
-use crate::records::Talk;
+use crate::records::{MasterOutbox, Talk};
 use crate::stages::Schedule;
 use dcp_types::Address;
 

@@ -13,8 +13,7 @@ use crate::fates::{is_register, placed, placed_late, same_address, session_with}
 use crate::hearing::{Hearing, hear};
 use crate::inner::Inner;
 use crate::kept::Kept;
-use crate::messages::put_nack;
-use crate::outbox::Outbox;
+use crate::messages::{SlaveOutbox, put_nack};
 use dcp_ends::End;
 use dcp_types::{Address, ErrorCode, FaultCode, OutOfMemory, State};
 use seq_window::{next, place};
@@ -49,7 +48,7 @@ pub struct SlaveCore<M: Inner> {
     kept: Kept,
     /// The turns since that request.
     quiet: u32,
-    out: Outbox,
+    out: SlaveOutbox,
 }
 
 impl<M: Inner> SlaveCore<M> {
@@ -61,7 +60,7 @@ impl<M: Inner> SlaveCore<M> {
         ensures inner { IfOk result (λ s. s.inner ≡ inner) }
         ensures quiet { IfOk result (λ s. s.out ≡ []) }
     {
-        let out = Outbox::new(alloc)?;
+        let out = SlaveOutbox::new(alloc)?;
         Ok(SlaveCore {
             inner,
             session: Session::Before,

@@ -12,7 +12,7 @@ use crate::changes::is_deregister;
 use crate::devices::Device;
 use dcp_types::{Address, ErrorCode, State};
 use pdu_layout::{Cfg, Inf, Stc};
-use slave_core::{Outbox, put_ack, put_entries, put_error, put_nack, put_state};
+use slave_core::{SlaveOutbox, put_ack, put_entries, put_error, put_nack, put_state};
 use slave_spec::{Asked, SlaveRequest};
 use slave_wiring::Wired;
 
@@ -25,7 +25,7 @@ impl<W: Wired> Device<W> {
         request: &SlaveRequest,
         asked: &Inf,
         next: u16,
-        out: &mut Outbox,
+        out: &mut SlaveOutbox,
     )
         requires { out.old ≡ [] }
         ensures after { (p : Plant) → DeviceFor W.stands self.old p → DeviceFor W.stands self.new (answers self.old.works.setup (Asked.Question asked.now) p).after }
@@ -65,7 +65,7 @@ impl<W: Wired> Device<W> {
         request: &SlaveRequest,
         next: u16,
         code: ErrorCode,
-        out: &mut Outbox,
+        out: &mut SlaveOutbox,
     )
         requires { out.old ≡ [] }
         ensures after { (p : Plant) → DeviceFor W.stands self.old p → DeviceFor W.stands self.new (answered_with (Nack code) (refused_notes code) p).after }
@@ -80,7 +80,13 @@ impl<W: Wired> Device<W> {
     }
 
     /// Acknowledges a change of state, and notes it.
-    fn accept_change(&mut self, from: Address, request: &SlaveRequest, next: u16, out: &mut Outbox)
+    fn accept_change(
+        &mut self,
+        from: Address,
+        request: &SlaveRequest,
+        next: u16,
+        out: &mut SlaveOutbox,
+    )
         requires { out.old ≡ [] }
         ensures after { (p : Plant) → DeviceFor W.stands self.old p → DeviceFor W.stands self.new (answered_with Ack (note 1 3 (state_code p.state) ∷ []) p).after }
         ensures sends { (p : Plant) → DeviceFor W.stands self.old p → out.new ≡ answering from request.now next (answered_with Ack (note 1 3 (state_code p.state) ∷ []) p) }
@@ -100,7 +106,7 @@ impl<W: Wired> Device<W> {
         named: State,
         body: &Stc,
         next: u16,
-        out: &mut Outbox,
+        out: &mut SlaveOutbox,
     ) -> bool
         requires { out.old ≡ [] }
         ensures after { (p : Plant) → DeviceFor W.stands self.old p → DeviceFor W.stands self.new (answers self.old.works.setup (Asked.Change named body.now) p).after }
@@ -128,7 +134,7 @@ impl<W: Wired> Device<W> {
         request: &SlaveRequest,
         body: &Cfg,
         next: u16,
-        out: &mut Outbox,
+        out: &mut SlaveOutbox,
     )
         requires { out.old ≡ [] }
         ensures after { (p : Plant) → DeviceFor W.stands self.old p → DeviceFor W.stands self.new (answers self.old.works.setup (Asked.Setting body.now) p).after }

@@ -6,7 +6,7 @@ use crate::acts::Act;
 use crate::devices::Device;
 use dcp_types::{Address, ErrorCode, FaultCode, State};
 use pdu_layout::Stc;
-use slave_core::{Inner, Outbox};
+use slave_core::{Inner, SlaveOutbox};
 use slave_spec::{Asked, SlaveRequest};
 use slave_wiring::Wired;
 
@@ -53,7 +53,7 @@ impl<W: Wired> Inner for Device<W> {
         from: Address,
         request: &SlaveRequest,
         next: u16,
-        out: &mut Outbox,
+        out: &mut SlaveOutbox,
     ) -> bool {
         match &request.asked {
             Asked::Change {
@@ -71,7 +71,7 @@ impl<W: Wired> Inner for Device<W> {
         }
     }
 
-    fn turn(&mut self, quiet: u32, master: Address, id: u8, out: &mut Outbox) {
+    fn turn(&mut self, quiet: u32, master: Address, id: u8, out: &mut SlaveOutbox) {
         match self.act(quiet) {
             Act::Stay => {}
             Act::Wait(left) => self.busy_left = left,

@@ -9,13 +9,13 @@ ghost use Rattle.slave_device.specs.Devices.{DeviceFor};
 
 use crate::devices::Device;
 use dcp_types::Address;
-use slave_core::{Outbox, put_noted};
+use slave_core::{SlaveOutbox, put_noted};
 use slave_log::{Noted, SlaveLog};
 use slave_spec::LogRemark;
 use slave_wiring::Wired;
 
 /// Notes an entry, and puts its notice where it is to be sent.
-fn note(log: &mut SlaveLog, step: u32, entry: LogRemark, to: Address, id: u8, out: &mut Outbox)
+fn note(log: &mut SlaveLog, step: u32, entry: LogRemark, to: Address, id: u8, out: &mut SlaveOutbox)
     requires room { length out.old < 21 }
     requires category { (1 ≤ entry.category) × (entry.category ≤ 3) }
     requires level { (1 ≤ entry.level) × (entry.level ≤ 3) }
@@ -36,7 +36,7 @@ impl<W: Wired> Device<W> {
         code: u8,
         to: Address,
         id: u8,
-        out: &mut Outbox,
+        out: &mut SlaveOutbox,
     )
         requires room { length out.old < 21 }
         requires category { (1 ≤ category) × (category ≤ 3) }
@@ -55,7 +55,7 @@ impl<W: Wired> Device<W> {
     }
 
     /// Notes the state that a turn has reached.
-    pub(crate) fn note_state(&mut self, master: Address, id: u8, out: &mut Outbox)
+    pub(crate) fn note_state(&mut self, master: Address, id: u8, out: &mut SlaveOutbox)
         requires { length out.old < 21 }
         ensures stands { (p : Plant) → DeviceFor W.stands self.old p → DeviceFor W.stands self.new (record p { log = noted_all p.log p.steps (note 1 2 (state_code p.state) ∷ []) }) }
         ensures out { (p : Plant) → DeviceFor W.stands self.old p → out.new ≡ out.old ++ notice_sends master id (notices p.log p.steps (note 1 2 (state_code p.state) ∷ [])) }

@@ -13,7 +13,7 @@ ghost use Rattle.slave_device.specs.Sending.{data_sends};
 
 use crate::devices::Device;
 use dcp_types::{FaultCode, State};
-use slave_core::Outbox;
+use slave_core::SlaveOutbox;
 use slave_wiring::Wired;
 
 impl<W: Wired> Device<W> {
@@ -34,7 +34,7 @@ impl<W: Wired> Device<W> {
     }
 
     /// Puts the data message of an output id, by its place among them, where it is due.
-    fn send_one(&self, target: usize, values: &[i128], out: &mut Outbox)
+    fn send_one(&self, target: usize, values: &[i128], out: &mut SlaveOutbox)
         requires room { length out.old < 21 }
         ensures out { (p : Plant) → DeviceFor W.stands self.now p → (id : ℕ) → slice_get (ids output p.wires.changes) target ≡ Some id
             → payloads.values_fit_ports self.now.works.setup.desc.outputs values.now ≡ true
@@ -50,7 +50,7 @@ impl<W: Wired> Device<W> {
     }
 
     /// Puts the data messages that are due, of these outputs.
-    fn send_values(&self, values: &[i128], out: &mut Outbox)
+    fn send_values(&self, values: &[i128], out: &mut SlaveOutbox)
         requires out { out.old ≡ [] }
         requires fit { payloads.values_fit_ports self.now.works.setup.desc.outputs values.now ≡ true }
         ensures out { (p : Plant) → DeviceFor W.stands self.now p
@@ -63,7 +63,7 @@ impl<W: Wired> Device<W> {
     }
 
     /// Puts the data messages that are due, where the outputs lie in their types.
-    fn send_data(&self, out: &mut Outbox)
+    fn send_data(&self, out: &mut SlaveOutbox)
         requires { out.old ≡ [] }
         ensures out { (p : Plant) → DeviceFor W.stands self.now p → all_fit p.model.types (values p.model) ≡ true
             → out.new ≡ map parcel_send (data_parcels self.now.works.setup.desc p.wires.changes p.steps (values p.model)) }
@@ -76,7 +76,7 @@ impl<W: Wired> Device<W> {
     }
 
     /// Puts the data messages of a sending state.
-    pub(crate) fn send_outputs(&self, out: &mut Outbox)
+    pub(crate) fn send_outputs(&self, out: &mut SlaveOutbox)
         requires { out.old ≡ [] }
         ensures out { (p : Plant) → DeviceFor W.stands self.now p → IsSoundPlant p → out.new ≡ map parcel_send (parcels self.now.works.setup p) }
         ensures few { length out.new ≤ 17 }

@@ -13,7 +13,7 @@ ghost use Rattle.slave_device.specs.Devices.{DeviceFor, Acts};
 use crate::acts::Act;
 use crate::devices::Device;
 use dcp_types::{Address, FaultCode, State};
-use slave_core::{Outbox, put_changed};
+use slave_core::{SlaveOutbox, put_changed};
 use slave_spec::LogRemark;
 use slave_states::next_on_turn;
 use slave_wiring::Wired;
@@ -98,7 +98,7 @@ impl<W: Wired> Device<W> {
     }
 
     /// Tells the state that was reached.
-    fn tell(&self, master: Address, id: u8, out: &mut Outbox)
+    fn tell(&self, master: Address, id: u8, out: &mut SlaveOutbox)
         requires { length out.old < 21 }
         ensures out { (p : Plant) → DeviceFor W.stands self.now p → out.new ≡ out.old ++ send master (notice_message id (Changed p.state)) ∷ [] }
         ensures count { length out.new ≡ length out.old + 1 }
@@ -107,7 +107,7 @@ impl<W: Wired> Device<W> {
     }
 
     /// Tells the state that was reached, and notes first what has led to it.
-    fn reach_by(&mut self, first: LogRemark, master: Address, id: u8, out: &mut Outbox)
+    fn reach_by(&mut self, first: LogRemark, master: Address, id: u8, out: &mut SlaveOutbox)
         requires out { out.old ≡ [] }
         requires category { (1 ≤ first.category) × (first.category ≤ 3) }
         requires level { (1 ≤ first.level) × (first.level ≤ 3) }
@@ -121,7 +121,7 @@ impl<W: Wired> Device<W> {
     }
 
     /// Falls into the error state.
-    pub(crate) fn fall(&mut self, code: FaultCode, master: Address, id: u8, out: &mut Outbox)
+    pub(crate) fn fall(&mut self, code: FaultCode, master: Address, id: u8, out: &mut SlaveOutbox)
         requires { out.old ≡ [] }
         ensures after { (p : Plant) → DeviceFor W.stands self.old p → DeviceFor W.stands self.new (turned self.old.works.setup p (turns.Fault code)).after }
         ensures sends { (p : Plant) → DeviceFor W.stands self.old p → out.new ≡ turned_sends master id (turned self.old.works.setup p (turns.Fault code)) }
@@ -138,7 +138,7 @@ impl<W: Wired> Device<W> {
     }
 
     /// Counts the step that the model has taken.
-    pub(crate) fn advance(&mut self, master: Address, id: u8, out: &mut Outbox)
+    pub(crate) fn advance(&mut self, master: Address, id: u8, out: &mut SlaveOutbox)
         requires { out.old ≡ [] }
         ensures after { (p : Plant) → DeviceFor W.stands self.old p → DeviceFor W.stands self.new (reached [] (note 2 3 0 ∷ []) (record p { state = State.Computed; steps = turns.counted p.steps })).after }
         ensures sends { (p : Plant) → DeviceFor W.stands self.old p → out.new ≡ turned_sends master id (reached [] (note 2 3 0 ∷ []) (record p { state = State.Computed; steps = turns.counted p.steps })) }
@@ -155,7 +155,7 @@ impl<W: Wired> Device<W> {
     }
 
     /// Enters the state that the slave passes to.
-    fn reach(&mut self, master: Address, id: u8, out: &mut Outbox)
+    fn reach(&mut self, master: Address, id: u8, out: &mut SlaveOutbox)
         requires { length out.old ≤ 17 }
         ensures after { (p : Plant) → DeviceFor W.stands self.old p → DeviceFor W.stands self.new (turned self.old.works.setup p turns.Pass).after }
         ensures sends { (p : Plant) → DeviceFor W.stands self.old p → out.new ≡ out.old ++ notice_sends master id (turned self.old.works.setup p turns.Pass).notices }
@@ -170,7 +170,7 @@ impl<W: Wired> Device<W> {
     }
 
     /// Passes on to the next state, where data messages are sent first in a sending one.
-    pub(crate) fn pass_on(&mut self, master: Address, id: u8, out: &mut Outbox)
+    pub(crate) fn pass_on(&mut self, master: Address, id: u8, out: &mut SlaveOutbox)
         requires { out.old ≡ [] }
         ensures after { (p : Plant) → DeviceFor W.stands self.old p → DeviceFor W.stands self.new (turned self.old.works.setup p turns.Pass).after }
         ensures sends { (p : Plant) → DeviceFor W.stands self.old p → IsSoundPlant p → out.new ≡ turned_sends master id (turned self.old.works.setup p turns.Pass) }
