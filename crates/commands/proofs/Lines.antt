@@ -40,7 +40,7 @@ line_of words (Soak number) named = ap is_line named.1 ∙ ap (λ (option : Bool
 
 -- so words that are no line name none
 pub no_line : (words : List (List ℕ)) → is_line words ≡ false → IsCommand words → ⊥
-no_line words no command = off (sym (line_of words command.0 command.1) ∙ no)
+no_line words other command = off (sym (line_of words command.0 command.1) ∙ other)
   where
     off : true ≡ false → ⊥
     off e = cc

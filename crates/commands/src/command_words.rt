@@ -36,7 +36,7 @@ pub enum Command {
 impl Command {
     /// The command that this line names; none where it names none.
     pub fn from_line(line: CommandLine<'_>) -> Option<Command>
-        ensures { MatchOption result (IsCommand (words_in_line line) → ⊥) (Names (words_in_line line)) }
+        ensures { MatchOption result (IsCommand (words_in_line line.entry) → ⊥) (Names (words_in_line line.entry)) }
     {
         match line.operand {
             None => Command::from_word(line.command),

@@ -4,11 +4,9 @@ use Rattle.std.proofs.lemmas.List.{length-append}
 use Rattle.dcp_ends.specs.declared.entries.LogEntry.{LogEntry}
 use Rattle.dcp_record.specs.declared.faults.TraceWhy.{TraceWhy}
 use Rattle.dcp_record.specs.declared.faults.TraceWhy.TheVariants.{Header, Tag, Short, Length}
-use Rattle.dcp_record.specs.declared.faults.TraceRefused.{TraceRefused}
-use Rattle.dcp_record.specs.declared.faults.TraceRefused.TheVariants.{Fault, OutOfMemory}
 use Rattle.dcp_record.specs.Traces.{IsTrace, header_bytes, trace_bytes, all_entry_bytes}
-use Rattle.dcp_record.specs.Refusals.{TraceRefusal, RefusedEntry, IsRefusedTrace, entry_place}
-use Rattle.dcp_record.specs.Cuts.{IsHead, AreEntries, BadEntry, EntriesRefused}
+use Rattle.dcp_record.specs.Refusals.{TraceRefusal, RefusedEntry, entry_place}
+use Rattle.dcp_record.specs.Cuts.{IsHead, AreEntries, BadEntry}
 
 place_is : (b head all rest tail : List ℕ) (at place : ℕ) → b ≡ head ++ rest → rest ≡ all ++ tail → at ≡ (length b - length rest) + length all + place → at ≡ length (head ++ all) + place
 place_is b head all rest tail at place e f here =
@@ -36,10 +34,6 @@ module _ (b : List ℕ) (hosted : ℕ) (scenario rest : List ℕ) (head : IsHead
   fault_behind at Tag h = bad_behind at Tag h
   fault_behind at Length h = bad_behind at Length h
   fault_behind at Short h = bad_behind at Short h
-
-  pub refused_behind : (refused : TraceRefused) → EntriesRefused (length b - length rest) rest refused → IsRefusedTrace b refused
-  refused_behind (Fault fault) h = fault_behind fault.at fault.why h
-  refused_behind OutOfMemory h = tt
 
   pub whole_behind : (entries : List LogEntry) → AreEntries rest entries → IsTrace b hosted scenario entries
   whole_behind entries k = record {

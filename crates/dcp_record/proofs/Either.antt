@@ -1,7 +1,7 @@
 -- Bytes are a trace or are refused.
 use Rattle.std.proofs.Common.{◌≡◌, ◌≢◌, ℕ, zero, suc, ◌+◌, ◌-◌, ◌<◌, ◌≤◌, ◌^◌, ◌⊎◌, List, [], ◌∷◌, ◌++◌, length, get_or, take, drop, refl, sym, ap, ◌∙◌, append_assoc, inl, inr, arith}
 use Rattle.std.specs.Int.{to_le_bytes, w16, w32}
-use Rattle.std.proofs.lemmas.List.{take-append-drop, length-take-le, length-append}
+use Rattle.std.proofs.lemmas.List.{take-append-drop, length-take-le}
 use Rattle.std.proofs.lemmas.List.Elements.{All-nil, All-cons}
 use Rattle.std.proofs.lemmas.Bool.{cases_lt, cases_eq}
 use Rattle.dcp_types.specs.declared.addresses.Address.{Address}
@@ -16,6 +16,7 @@ use Rattle.dcp_record.specs.Laws.{IsBytes}
 use Rattle.dcp_record.proofs.Numbers.{front_16, front_32, front_place, bytes_behind, after_two}
 use Rattle.dcp_record.proofs.Fronts.{cut_in_form, cut_in_hosted, cut_in_length, cut_in_scenario, cut_in_first, cut_in_second, cut_in_size, cut_in_payload, cut_in_idle, cut_in_turn, out_is, sent_refused, got_refused, after_hosted}
 use Rattle.dcp_record.proofs.Behind.{fault_behind, whole_behind}
+use Rattle.dcp_record.proofs.Next.{entry_some}
 
 -- where bytes differ from a form, what is behind it, or that they end within it
 abbrev Differs : List ℕ → List ℕ → Type 0
@@ -193,12 +194,6 @@ first_or (suc (suc (suc (suc (suc n))))) x h = inr (Tag, record { tag = suc (suc
 -- entries to the end, or where one is refused
 abbrev EntriesOr : ℕ → List ℕ → Type 0
 EntriesOr start b = ((entries : List LogEntry) × AreEntries b entries) ⊎ ((at : ℕ) × (why : TraceWhy) × BadEntry start b at why)
-
-entry_some : (e : LogEntry) (rest : List ℕ) → length rest < length (log_entry_bytes e ++ rest)
-entry_some (Sent a b p) rest = omega (arith, length-append p rest)
-entry_some (Got a b p) rest = omega (arith, length-append p rest)
-entry_some (Idle a) rest = omega arith
-entry_some (Turn a) rest = omega arith
 
 refused_first : (start : ℕ) (b : List ℕ) (why : TraceWhy) → EntryRefused b why → EntriesOr start b
 refused_first start b why k = inr (start + entry_place b why, why, record { entries = []; rest = b; recordable = All-nil IsRecordable; parts = refl; refused = k; here = omega arith })

@@ -3,4 +3,6 @@ pub mod Numbers
 pub mod Fronts
 pub mod Behind
 pub mod OneTrace
+pub mod Next
 pub mod Either
+mod Walks

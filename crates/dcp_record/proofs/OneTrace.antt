@@ -11,10 +11,8 @@ use Rattle.dcp_ends.specs.declared.entries.LogEntry.{LogEntry}
 use Rattle.dcp_ends.specs.declared.entries.LogEntry.TheVariants.{Sent, Got, Idle, Turn}
 use Rattle.dcp_record.specs.declared.faults.TraceWhy.{TraceWhy}
 use Rattle.dcp_record.specs.declared.faults.TraceWhy.TheVariants.{Header, Tag, Short, Length}
-use Rattle.dcp_record.specs.declared.faults.TraceRefused.{TraceRefused}
-use Rattle.dcp_record.specs.declared.faults.TraceRefused.TheVariants.{Fault, OutOfMemory}
 use Rattle.dcp_record.specs.Traces.{form, address_bytes, payload_bytes, log_entry_bytes, all_entry_bytes, header_bytes, trace_bytes, IsTraceAddress, IsRecordable, IsTrace}
-use Rattle.dcp_record.specs.Refusals.{FormDiffers, HostedBeyond, HeaderCut, HeaderRefused, HasNoTag, HasBadLength, IsTruncated, EntryRefused, entry_place, RefusedEntry, TraceRefusal, IsRefusedTrace}
+use Rattle.dcp_record.specs.Refusals.{FormDiffers, HostedBeyond, HeaderCut, HeaderRefused, HasNoTag, HasBadLength, IsTruncated, EntryRefused, entry_place, RefusedEntry, TraceRefusal}
 
 same_parts : (a c x y : List ℕ) → length a ≡ length c → a ++ x ≡ c ++ y → (a ≡ c) × (x ≡ y)
 same_parts a c x y l e = (
@@ -60,7 +58,7 @@ same_first : (m n : ℕ) (x y : List ℕ) → m ∷ x ≡ n ∷ y → m ≡ n
 same_first m n x y e = ap (λ (l : List ℕ). get_or l 0 0) e
 
 -- an entry is known by the bytes that begin with it
-same_entry : (e f : LogEntry) (x y : List ℕ) → IsRecordable e → IsRecordable f → log_entry_bytes e ++ x ≡ log_entry_bytes f ++ y → (e ≡ f) × (x ≡ y)
+pub same_entry : (e f : LogEntry) (x y : List ℕ) → IsRecordable e → IsRecordable f → log_entry_bytes e ++ x ≡ log_entry_bytes f ++ y → (e ≡ f) × (x ≡ y)
 same_entry (Sent a b p) (Sent c d q) x y he hf h =
     let s = same_exchange a b c d p q x y he.places.0 he.places.1 hf.places.0 hf.places.1 (omega (arith, he.in_range.1)) (omega (arith, hf.in_range.1)) (ap (drop 1) h) in
     (λ i. Sent (s.0 i) (s.1 i) (s.2 i), s.3)
@@ -72,7 +70,7 @@ same_entry (Turn a) (Turn c) x y he hf h = let s = same_place a c x y he.places 
 same_entry e f x y he hf h = absurd (omega (arith, same_first _ _ _ _ h))
 
 -- no entry stands whole at the front
-abbrev NoEntry : List ℕ → Type 0
+abbrev pub NoEntry : List ℕ → Type 0
 NoEntry rest = (e : LogEntry) (more : List ℕ) → IsRecordable e → rest ≡ log_entry_bytes e ++ more → ⊥
 
 same_entries : (es fs : List LogEntry) (x y : List ℕ) → All IsRecordable es → All IsRecordable fs → NoEntry x → NoEntry y → all_entry_bytes es ++ x ≡ all_entry_bytes fs ++ y → (es ≡ fs) × (x ≡ y)
@@ -87,7 +85,7 @@ same_entries (e ∷ es) (f ∷ fs) x y he hf nx ny h =
     let q = same_entries es fs x y (All-tail IsRecordable e es he) (All-tail IsRecordable f fs hf) nx ny p.1 in
     (λ i. p.0 i ∷ q.0 i, q.1)
 
-no_entry_in_none : NoEntry []
+pub no_entry_in_none : NoEntry []
 no_entry_in_none (Sent a b p) more k h = cc
 no_entry_in_none (Got a b p) more k h = cc
 no_entry_in_none (Idle a) more k h = cc
@@ -128,7 +126,7 @@ cut_has_none rest k e more r h =
     let s = same_entry e k.entry (more ++ k.missing) [] r k.recordable whole in
     omega (arith, k.lacks, length-append more k.missing, ap length s.1)
 
-refused_has_none : (rest : List ℕ) (why : TraceWhy) → EntryRefused rest why → NoEntry rest
+pub refused_has_none : (rest : List ℕ) (why : TraceWhy) → EntryRefused rest why → NoEntry rest
 refused_has_none rest Header k e more r h = k
 refused_has_none rest Tag k e more r h = tag_not rest [] more e k (append-nil rest ∙ h)
 refused_has_none rest Length k e more r h = length_not rest [] more e k r (append-nil rest ∙ h)
@@ -312,7 +310,3 @@ module _ (b : List ℕ) (hosted : ℕ) (scenario : List ℕ) (entries : List Log
 pub one_trace : (b : List ℕ) (m n : ℕ) (s t : List ℕ) (es fs : List LogEntry) → IsTrace b m s es → IsTrace b n t fs → (m ≡ n) × (s ≡ t) × (es ≡ fs)
 unfolding trace_stops
 one_trace b m n s t es fs h k = let p = same_stop b (trace_stops b m s es h) (trace_stops b n t fs k) in (p.0, p.1, p.2)
-
-pub only_memory : (b : List ℕ) (hosted : ℕ) (scenario : List ℕ) (entries : List LogEntry) → IsTrace b hosted scenario entries → (refused : TraceRefused) → IsRefusedTrace b refused → refused ≡ OutOfMemory
-only_memory b hosted scenario entries t (Fault fault) k = absurd (never_both b hosted scenario entries t fault.at fault.why k)
-only_memory b hosted scenario entries t OutOfMemory k = refl

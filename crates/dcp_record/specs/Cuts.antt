@@ -6,10 +6,6 @@ use Rattle.dcp_types.specs.declared.addresses.Address.{Address}
 use Rattle.dcp_ends.specs.declared.entries.LogEntry.{LogEntry}
 use Rattle.dcp_record.specs.declared.faults.TraceWhy.{TraceWhy}
 use Rattle.dcp_record.specs.declared.faults.TraceWhy.TheVariants.{Header, Tag, Short, Length}
-use Rattle.dcp_record.specs.declared.faults.TraceRefused.{TraceRefused}
-use Rattle.dcp_record.specs.declared.faults.TraceRefused.TheVariants.{Fault, OutOfMemory}
-use Rattle.dcp_record.specs.declared.entries_in.CutRefused.{CutRefused}
-use Rattle.dcp_record.specs.declared.entries_in.CutRefused.TheVariants as cuts
 use Rattle.dcp_record.specs.Traces.{address_bytes, header_bytes, payload_bytes, all_entry_bytes, log_entry_bytes, IsTraceAddress, IsRecordable}
 use Rattle.dcp_record.specs.Refusals.{EntryRefused, entry_place}
 
@@ -61,10 +57,6 @@ pub record IsFirstEntry (b : List ℕ) (entry : LogEntry) (rest : List ℕ) : Ty
   pub recordable : IsRecordable entry
   pub parts : b ≡ log_entry_bytes entry ++ rest
 
-abbrev pub FirstRefused : List ℕ → CutRefused → Type 0
-FirstRefused b (cuts.Why why) = EntryRefused b why
-FirstRefused b cuts.OutOfMemory = Unit {0}
-
 -- entries to the end of the bytes
 pub record AreEntries (b : List ℕ) (entries : List LogEntry) : Type 0 where
   pub recordable : All IsRecordable entries
@@ -78,7 +70,3 @@ pub record BadEntry (start : ℕ) (b : List ℕ) (at : ℕ) (why : TraceWhy) : T
   pub parts : b ≡ all_entry_bytes entries ++ rest
   pub refused : EntryRefused rest why
   pub here : at ≡ start + length (all_entry_bytes entries) + entry_place rest why
-
-abbrev pub EntriesRefused : ℕ → List ℕ → TraceRefused → Type 0
-EntriesRefused start b (Fault fault) = BadEntry start b fault.at fault.why
-EntriesRefused start b OutOfMemory = Unit {0}

@@ -5,8 +5,6 @@ use Rattle.dcp_types.specs.declared.addresses.Address.{Address}
 use Rattle.dcp_ends.specs.declared.entries.LogEntry.{LogEntry}
 use Rattle.dcp_record.specs.declared.faults.TraceWhy.{TraceWhy}
 use Rattle.dcp_record.specs.declared.faults.TraceWhy.TheVariants.{Header, Tag, Short, Length}
-use Rattle.dcp_record.specs.declared.faults.TraceRefused.{TraceRefused}
-use Rattle.dcp_record.specs.declared.faults.TraceRefused.TheVariants.{Fault, OutOfMemory}
 use Rattle.dcp_record.specs.Traces.{form, address_bytes, header_bytes, log_entry_bytes, IsRecordable, IsTrace}
 
 -- the first of the bytes 0 to 4 that is there and differs from the form
@@ -98,8 +96,3 @@ TraceRefusal b at Header = HeaderRefused b at
 TraceRefusal b at Tag = RefusedEntry b at Tag
 TraceRefusal b at Length = RefusedEntry b at Length
 TraceRefusal b at Short = RefusedEntry b at Short
-
--- want of memory has no cause in the bytes
-abbrev pub IsRefusedTrace : List ℕ → TraceRefused → Type 0
-IsRefusedTrace b (Fault fault) = TraceRefusal b fault.at fault.why
-IsRefusedTrace b OutOfMemory = Unit {0}

@@ -1,5 +1,5 @@
 -- The bytes of a trace.
-use Rattle.std.specs.Prelude.{◌≡◌, ℕ, ◌<◌, ◌≤◌, ◌^◌, List, [], ◌∷◌, ◌++◌, length}
+use Rattle.std.specs.Prelude.{◌≡◌, ℕ, ◌<◌, ◌^◌, List, [], ◌∷◌, ◌++◌, length}
 use Rattle.std.specs.List.{All}
 use Rattle.std.specs.Int.{to_le_bytes, w16, w32}
 use Rattle.dcp_types.specs.declared.addresses.Address.{Address}

@@ -3,9 +3,7 @@
 ghost use Rattle.std.specs.Prelude.{◌≡◌, Some};
 ghost use Rattle.std.specs.Fmt.{padded};
 ghost use Rattle.dcp_record.specs.Words.{trace_word};
-ghost use Rattle.dcp_record.specs.declared.faults.TraceRefused.TheVariants.{Fault, OutOfMemory};
 
-use dcp_types::OutOfMemory;
 use std::{error, fmt};
 use thiserror::Error;
 
@@ -56,30 +54,4 @@ pub struct TraceFault {
     /// Counted from 0. Where the bytes end too early, their number.
     pub at: u64,
     pub why: TraceWhy,
-}
-
-/// Why a trace was not read.
-#[derive(Clone, Copy, Debug, PartialEq, Eq, Error)]
-pub enum TraceRefused {
-    /// The bytes are no trace.
-    #[error("{0}")]
-    Fault(TraceFault),
-    #[error("out of memory")]
-    OutOfMemory,
-}
-
-impl From<TraceFault> for TraceRefused {
-    ghost from_gives = { λ fault e. e ≡ Fault fault };
-
-    fn from(fault: TraceFault) -> TraceRefused {
-        TraceRefused::Fault(fault)
-    }
-}
-
-impl From<OutOfMemory> for TraceRefused {
-    ghost from_gives = { λ _ e. e ≡ OutOfMemory };
-
-    fn from(_error: OutOfMemory) -> TraceRefused {
-        TraceRefused::OutOfMemory
-    }
 }

@@ -1,15 +1,12 @@
 //! What holds of the bytes of all traces.
 
-ghost use Rattle.std.specs.Prelude.{◌≡◌, ◌<◌, ◌^◌, length, MatchResult};
+ghost use Rattle.std.specs.Prelude.{◌≡◌, ◌<◌, ◌^◌, length};
 ghost use Rattle.std.specs.List.{All};
 ghost use Rattle.dcp_record.specs.Traces.{IsRecordable, trace_bytes};
 ghost use Rattle.dcp_record.specs.Laws.{ReadOrRefused, NeverBothOfTrace, TracesDiffer, OneTraceRefusal};
-ghost use Rattle.dcp_record.specs.declared.faults.TraceRefused.TheVariants.{OutOfMemory};
 
-use crate::faults::TraceRefused;
 use crate::readers::{Trace, read_record};
 use dcp_ends::LogEntry;
-use std::alloc::Global;
 
 /// Bytes are the one trace that has them, or are refused for one cause at one place.
 pub fn traces_read_or_are_refused()
@@ -19,20 +16,23 @@ pub fn traces_read_or_are_refused()
     ensures one_refusal { OneTraceRefusal }
 {}
 
-/// Reads what `write_record` wrote of these, all of it, to an empty sink: they come back as they were,
-/// unless memory is short.
+/// Reads what `write_record` wrote of these, all of it, to an empty sink: they come back as they were.
 pub fn written_and_read_back<'a>(
-    alloc: Global,
     hosted: u32,
     scenario: &[u8],
     entries: &[LogEntry],
     written: &'a [u8],
-) -> Result<Trace<'a>, TraceRefused>
+) -> Trace<'a>
     requires hosted { hosted < 2 ^ 17 }
     requires scenario { length scenario.now < 2 ^ 32 }
     requires entries { All IsRecordable entries.now }
     requires written { written.now ≡ trace_bytes hosted scenario.now entries.now }
-    ensures { MatchResult result (λ trace. (trace.hosted ≡ hosted) × (trace.scenario.now ≡ scenario.now) × (trace.entries ≡ entries.now)) (λ refused. refused ≡ OutOfMemory) }
+    ensures hosted { result.hosted ≡ hosted }
+    ensures scenario { result.scenario.now ≡ scenario.now }
+    ensures entries { result.entries ≡ entries.now }
 {
-    read_record(alloc, written)
+    let Ok(trace) = read_record(written) else {
+        unreachable!();
+    };
+    trace
 }

@@ -2,17 +2,22 @@
 //!
 //! What it promises: what is written is the spelling of the trace byte for byte, or a front of it where
 //! the sink failed; what is read is the one trace that has these bytes, or else the bytes are refused for
-//! one cause at one place. Writing takes no memory.
+//! one cause at one place. Neither takes memory: the log that was read stands in the bytes.
 #![tactic(auto)]
 
 mod entries_in;
+mod entry_refs;
 mod faults;
 mod laws;
+mod logs;
 mod numbers_in;
 mod readers;
+mod told_logs;
 mod writers;
 
-pub use faults::{TraceFault, TraceRefused, TraceWhy};
+pub use entry_refs::EntryRef;
+pub use faults::{TraceFault, TraceWhy};
 pub use laws::{traces_read_or_are_refused, written_and_read_back};
+pub use logs::{Entries, EntryCursor};
 pub use readers::{Trace, read_record};
 pub use writers::{SinkFault, write_record};

@@ -1,19 +1,16 @@
 //! Reading a trace.
 
-ghost use Rattle.std.specs.Prelude.{◌≡◌, ◌++◌, ℕ, List, IfOk, IfErr, MatchResult};
+ghost use Rattle.std.specs.Prelude.{◌≡◌, ◌++◌, ℕ, List, IfOk, IfErr};
+ghost use Rattle.std.specs.Result.{IsOkAnd};
 ghost use Rattle.dcp_ends.specs.declared.entries.LogEntry.{LogEntry};
-ghost use Rattle.dcp_record.specs.declared.faults.TraceRefused.TheVariants.{OutOfMemory};
 ghost use Rattle.dcp_record.specs.Traces.{form, IsTrace};
-ghost use Rattle.dcp_record.specs.Refusals.{HeaderRefused, IsRefusedTrace};
+ghost use Rattle.dcp_record.specs.Refusals.{HeaderRefused, TraceRefusal};
 ghost use Rattle.dcp_record.specs.Cuts.{IsHead};
 
-use crate::entries_in::cut_entries;
-use crate::faults::{TraceFault, TraceRefused, TraceWhy};
+use crate::faults::{TraceFault, TraceWhy};
+use crate::logs::{Entries, cut_entries};
 use crate::numbers_in::cut_u32;
 use crate::writers::FORM;
-use dcp_ends::LogEntry;
-use dcp_types::Items;
-use std::alloc::Global;
 
 /// Where the hosted ends begin.
 const HOSTED_AT: usize = 5;
@@ -22,14 +19,14 @@ const HOSTED_AT: usize = 5;
 const HOSTED_END: u32 = 131_072;
 
 /// A trace that was read.
-#[derive(Debug, Drop)]
+#[derive(Drop)]
 pub struct Trace<'a> {
     /// Which ends were hosted: bit 0 for the master, bit s for slave s.
     pub hosted: u32,
     /// The text of the scenario, a part of the bytes that were read.
     pub scenario: &'a [u8],
-    /// The log.
-    pub entries: Items<LogEntry>,
+    /// The log, in the bytes that were read.
+    pub entries: Entries<'a>,
 }
 
 /// What stands before the entries.
@@ -39,27 +36,27 @@ struct Head<'a> {
     scenario: &'a [u8],
 }
 
-/// Reads the trace of a run. The entries take memory, the scenario's text takes none.
-pub fn read_record(alloc: Global, bytes: &[u8]) -> Result<Trace<'_>, TraceRefused>
+/// Reads the trace of a run. It takes no memory: what is read stands in the bytes.
+pub fn read_record(bytes: &[u8]) -> Result<Trace<'_>, TraceFault>
     ensures ok { IfOk result (λ trace. IsTrace bytes.now trace.hosted trace.scenario.now trace.entries) }
 
-    // A trace is read as what it is, unless memory runs out.
+    // A trace is read as what it is.
     ensures only { (hosted : ℕ) (scenario : List ℕ) (entries : List LogEntry) → IsTrace bytes.now hosted scenario entries
-        → MatchResult result (λ trace. (trace.hosted ≡ hosted) × (trace.scenario.now ≡ scenario) × (trace.entries ≡ entries)) (λ refused. refused ≡ OutOfMemory) }
+        → IsOkAnd result (λ trace. (trace.hosted ≡ hosted) × (trace.scenario.now ≡ scenario) × (trace.entries ≡ entries)) }
 
     // Else the bytes are refused.
-    ensures err { IfErr result (λ refused. IsRefusedTrace bytes.now refused) }
+    ensures err { IfErr result (λ fault. TraceRefusal bytes.now fault.at fault.why) }
 {
     let (head, rest) = match cut_head(bytes) {
         Ok(cut) => cut,
         Err(at) => {
-            return Err(TraceRefused::Fault(TraceFault {
+            return Err(TraceFault {
                 at: at as u64,
                 why: TraceWhy::Header,
-            }));
+            });
         }
     };
-    let entries = cut_entries(alloc, bytes.len() - rest.len(), rest)?;
+    let entries = cut_entries(bytes.len() - rest.len(), rest)?;
     Ok(Trace {
         hosted: head.hosted,
         scenario: head.scenario,

@@ -107,7 +107,7 @@ fn slave_named(slaves: &[SlaveDesc], name: &str) -> Option<u8>
 pub(crate) fn part_of(line: CommandLine<'_>, scenario: &Scenario) -> Option<Part>
     requires live { IsLive (words_in_line line) }
     requires few { length scenario.now.slaves ≤ 16 }
-    ensures part { MatchOption result (HasNoPart (words_in_line line) scenario.now) (NamesPart (words_in_line line) scenario.now) }
+    ensures part { MatchOption result (HasNoPart (words_in_line line.entry) scenario.now) (NamesPart (words_in_line line.entry) scenario.now) }
     ensures few { MatchOption result ⊤ IsPart }
 {
     match line.operand {

@@ -28,7 +28,7 @@ pub(crate) fn say_live<W: Wait, N: Net, P: Ready>(
     ready: &mut P,
 ) -> Result<LiveAnswer, LiveFault>
     requires { IsLive (words_in_line line) }
-    ensures says { IfOk result (GivesLive (words_in_line line) (record {
+    ensures says { IfOk result (GivesLive (words_in_line line.entry) (record {
       told = record { calls = N.calls net.new; opening = N.opening net.new };
       before = N.count net.old;
       now = N.count net.new;

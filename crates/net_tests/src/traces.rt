@@ -1,16 +1,18 @@
 //! Traces, byte for byte: one that is written, bytes that are read or refused, and a trace with each of its
 //! bytes damaged.
 
+ghost use Rattle.std.specs.Prelude.{◌≡◌, IfOk};
+ghost use Rattle.dcp_record.specs.EntryRefs.{entry_told};
 ghost use Rattle.dcp_record.specs.Traces.{IsTrace};
 
 use dcp_ends::{Bytes, LogEntry};
 use dcp_io::MemorySink;
 use dcp_record::{
-    SinkFault, Trace, TraceRefused, read_record, traces_read_or_are_refused, write_record,
+    Entries, EntryRef, SinkFault, Trace, read_record, traces_read_or_are_refused, write_record,
     written_and_read_back,
 };
 use dcp_types::Address;
-use std::alloc::Global;
+use std::alloc::{AllocError, Global};
 use std::test::Fail;
 
 /// A trace of 59 bytes: the master and slave 1 are hosted, the scenario is one letter, and the log has an
@@ -93,23 +95,52 @@ reads 52:TAG reads 52:TAG
 57:SHORT reads reads reads
 58:SHORT reads reads reads";
 
+/// The same entry, in memory of its own.
+fn owned(alloc: Global, entry: &EntryRef<'_>) -> Result<LogEntry, AllocError>
+    ensures { IfOk result (λ own. own ≡ entry_told entry.now) }
+{
+    let own = match entry {
+        EntryRef::Sent { from, to, bytes } => LogEntry::Sent {
+            from: *from,
+            to: *to,
+            bytes: Bytes::copied(alloc, bytes)?,
+        },
+        EntryRef::Got { at, from, bytes } => LogEntry::Got {
+            at: *at,
+            from: *from,
+            bytes: Bytes::copied(alloc, bytes)?,
+        },
+        EntryRef::Idle { at } => LogEntry::Idle { at: *at },
+        EntryRef::Turn { at } => LogEntry::Turn { at: *at },
+    };
+    Ok(own)
+}
+
+/// The same entries, in memory of their own.
+fn all_owned(alloc: Global, entries: &Entries<'_>) -> Result<Vec<LogEntry>, AllocError>
+    ensures { IfOk result (λ all. all.items ≡ entries.now) }
+{
+    let mut all = Vec::new(alloc);
+    let mut cursor = entries.cursor();
+    'entries: while let Some(entry) = cursor.next() {
+        all.push(owned(alloc, &entry)?)?;
+    }
+    Ok(all)
+}
+
 /// Whether the trace is written as these bytes.
 fn is_written(alloc: Global, trace: &Trace<'_>, bytes: &[u8]) -> Result<bool, Fail>
     requires { IsTrace bytes.now trace.now.hosted trace.now.scenario.now trace.now.entries }
 {
     let mut sink = MemorySink::new([0; 64].to_vec(alloc)?, Vec::new(alloc));
-    let written = write_record(
-        trace.hosted,
-        trace.scenario,
-        trace.entries.as_slice(),
-        &mut sink,
-    );
+    let entries = all_owned(alloc, &trace.entries)?;
+    let written = write_record(trace.hosted, trace.scenario, &entries, &mut sink);
     Ok(written.is_ok() && sink.written() == bytes)
 }
 
 /// What is said of bytes: `reads`, or the place and the cause.
 fn told(alloc: Global, bytes: &[u8]) -> Result<String, Fail> {
-    match read_record(alloc, bytes) {
+    match read_record(bytes) {
         Ok(trace) => {
             let word = if is_written(alloc, &trace, bytes)? {
                 "reads"
@@ -118,12 +149,11 @@ fn told(alloc: Global, bytes: &[u8]) -> Result<String, Fail> {
             };
             Ok(String::from_str(alloc, word)?)
         }
-        Err(TraceRefused::Fault(fault)) => {
+        Err(fault) => {
             let at = fault.at;
             let word = fault.why.word();
             Ok(format!(in alloc; "{at}:{word}")?)
         }
-        Err(TraceRefused::OutOfMemory) => Ok(String::new(alloc)),
     }
 }
 
@@ -172,11 +202,16 @@ fn an_entry_reads_back(rt: HostRuntime) -> Result<(), Fail> {
     if write_record(1, b"ab", entries.as_slice(), &mut sink).is_err() {
         return Err(Fail::new("the trace is not written"));
     }
-    let back = written_and_read_back(alloc, 1, b"ab", entries.as_slice(), sink.written())?;
+    let back = written_and_read_back(1, b"ab", entries.as_slice(), sink.written());
     assert_eq!(rt; (back.hosted, back.scenario), (1, b"ab".as_slice()));
-    assert!(rt; matches!(back.entries.as_slice(), [LogEntry::Turn { at: place }] if *place == at));
-    let refused = read_record(alloc, b"DCP").err();
-    let said = format!(in alloc; "{}", refused.unwrap_or(TraceRefused::OutOfMemory))?;
+    assert_eq!(rt; back.entries.len(), 1);
+    let mut cursor = back.entries.cursor();
+    assert!(rt; matches!(cursor.next(), Some(EntryRef::Turn { at: place }) if place == at));
+    assert!(rt; cursor.next().is_none());
+    let Err(fault) = read_record(b"DCP") else {
+        return Err(Fail::new("a front of the form reads"));
+    };
+    let said = format!(in alloc; "{fault}")?;
     assert_eq!(rt; said.as_str(), "byte 3: HEADER");
     Ok(())
 }

@@ -1,5 +1,5 @@
 -- One entry, whoever's it is: what follows for all ends.
-use Rattle.std.proofs.Common.{◌≡◌, ℕ, ◌+◌, ◌<◌, List, ◌∷◌, ◌++◌, [], length, map, take, set, get_or, true, false, ◌||◌, Option, None, Some, Ok, Err, refl, sym, ap, ◌∙◌, arith, suc, inl, inr}
+use Rattle.std.proofs.Common.{◌≡◌, ℕ, ◌+◌, ◌<◌, List, ◌∷◌, ◌++◌, [], length, map, take, set, get_or, true, false, ◌||◌, Option, None, Some, Ok, Err, refl, sym, ap, subst, ◌∙◌, arith, suc, inl, inr}
 use Rattle.std.proofs.Math.ListN.{get_or-map}
 use Rattle.std.proofs.lemmas.List.{append-nil, get_or_default, length-map}
 use Rattle.std.proofs.lemmas.Option.{slice_get_cases}
@@ -15,6 +15,7 @@ use Rattle.rounds.specs.Rounds.{has_report, hosted, places_of}
 use Rattle.rounds.specs.Told.{Apart}
 use Rattle.rounds.proofs.Logs.{events_at-append}
 use Rattle.rounds.proofs.Parts.{take_found}
+use Rattle.dcp_record.specs.Places.{LogPlace}
 use Rattle.replays.specs.Differences.{FirstDiffers, IsEnded, StopsReplayAt}
 use Rattle.replays.specs.Expected.{AreRight, is_hosted_at}
 use Rattle.replays.specs.Visits.{AreAt, IsFoundPlace, Passes, PassesUnless, WentOn, event_in, is_found_at, place_in, visit_sends}
@@ -69,9 +70,12 @@ module _ {M S : Type 0} (first : Ghosts M) (end : Ghosts S) (slaves : List S) (e
     here = is ∙ ap Some (sym (same_is_one (first.rules m).place place same))
 
     module _ (right : AreRight (Some (first.rules m)) (map end.rules slaves) (take at entries)) (going : has_report (Some (first.rules m)) (take at entries) ≡ false) where
-      pub first_stops : (stop : Stop) → ((events : List Event) → first.stands m events → PassesUnless (first.rules m) events entry entries (at + 1) (Err stop)) → StopsReplayAt (Some (first.rules m)) (map end.rules slaves) entries stop
-      first_stops stop passes =
-          master_stops (first.rules m) (map end.rules slaves) (take at entries) entry here apart (all_follow first end (Some m) slaves _ ends) going right entries at refl found stop (passes _ ends.told_master.stands_for)
+      pub first_stops : (stop : Stop) (next : LogPlace) → next ≡ record { entries = entries; at = at + 1 }
+          → ((events : List Event) → first.stands m events → PassesUnless (first.rules m) events entry next.entries next.at (Err stop)) → StopsReplayAt (Some (first.rules m)) (map end.rules slaves) entries stop
+      first_stops stop next is passes =
+          let Passed : LogPlace → Type 0 = λ p. PassesUnless (first.rules m) (events_at (first.rules m).place (take at entries)) entry p.entries p.at (Err stop) in
+          master_stops (first.rules m) (map end.rules slaves) (take at entries) entry here apart (all_follow first end (Some m) slaves _ ends) going right entries at refl found stop
+          (subst Passed is (passes _ ends.told_master.stands_for))
 
       pub first_goes : (next : ℕ) → ((events : List Event) → first.stands m events → PassesUnless (first.rules m) events entry entries (at + 1) (Ok next)) → WentOn (Some (first.rules m)) (map end.rules slaves) entries at next
       first_goes next passes =
@@ -121,10 +125,12 @@ module _ {M S : Type 0} (first : Ghosts M) (end : Ghosts S) (slaves : List S) (e
       slave_right : AreRight m ss (take at entries ++ entry ∷ [])
       slave_right = step_entry m ss (take at entries) entry r slave_place.0 slave_place.1 slave_place.2 here_slave apart (all_follow first end master slaves _ ends) going right
 
-      pub slave_stops : (stop : Stop) → ((events : List Event) → end.stands (get_or slaves i w) events → Passes r.place (visit_sends r events entry) entries (at + 1) (Err stop)) → StopsReplayAt m ss entries stop
-      slave_stops stop passes =
+      pub slave_stops : (stop : Stop) (next : LogPlace) → next ≡ record { entries = entries; at = at + 1 }
+          → ((events : List Event) → end.stands (get_or slaves i w) events → Passes r.place (visit_sends r events entry) next.entries next.at (Err stop)) → StopsReplayAt m ss entries stop
+      slave_stops stop next next_is passes =
+          let Passed : LogPlace → Type 0 = λ p. Passes r.place (visit_sends r (events_at r.place (take at entries)) entry) p.entries p.at (Err stop) in
           step_stops m ss (take at entries) entry r slave_place.0 slave_place.1 slave_place.2 here_slave apart (all_follow first end master slaves _ ends) entries at refl found slave_right (inl (same_report ∙ going)) stop
-          (passes _ (ends.told_slaves i w within).stands_for)
+          (subst Passed next_is (passes _ (ends.told_slaves i w within).stands_for))
 
       pub slave_goes : (next : ℕ) → ((events : List Event) → end.stands (get_or slaves i w) events → Passes r.place (visit_sends r events entry) entries (at + 1) (Ok next)) → WentOn m ss entries at next
       slave_goes next passes =

@@ -55,6 +55,11 @@ pub record HasNoMore (place : Address) (sends : List Send) (entries : List LogEn
   pub left : List Send
   pub first : HasFirst place sends (send ∷ left) entries start (length entries)
 
+-- the place that was reached, or where it stopped
+abbrev pub place_reached : {T : Type 0} → (at : ℕ) → Result T Stop → Result ℕ Stop
+place_reached at (Ok done) = Ok at
+place_reached at (Err stop) = Err stop
+
 -- from `start` on stand all of these sends, up to the place that is answered; or this is what comes in their place
 abbrev pub Passes : Address → List Send → List LogEntry → (start : ℕ) → Result ℕ Stop → Type 0
 Passes place sends entries start (Ok at) = HasFirst place sends [] entries start at

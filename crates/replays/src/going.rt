@@ -14,7 +14,8 @@ ghost use Rattle.replays.specs.Visits.{AreAt, IsFoundPlace, WentOn, is_found_at}
 use crate::entries::place_in;
 use crate::stops::Stop;
 use crate::visits::{visit, visit_master};
-use dcp_ends::{End, LogEntry};
+use dcp_ends::End;
+use dcp_record::{Entries, EntryCursor};
 use dcp_types::Address;
 
 /// Whether this end is there, and is found at this address.
@@ -50,44 +51,46 @@ fn find(places: &[Address], place: Address) -> Option<usize>
     None
 }
 
-/// Goes on past the entry at this place and what its end then sends. The answer is the place behind them.
-/// `places` are the addresses of the slaves.
+/// Goes on past the next entry and what its end then sends. `places` are the addresses of the slaves.
 fn go_on<M: End, S: End>(
     master: &mut Option<M>,
     slaves: &mut [S],
     places: &[Address],
-    entries: &[LogEntry],
-    at: usize,
-) -> Result<usize, Stop>
-    requires here { at < length entries.now }
+    cursor: &mut EntryCursor<'_>,
+) -> Result<(), Stop>
+    requires here { cursor.old.at < length cursor.old.entries }
     requires places { places.now ≡ places_of (map S.rules slaves.old) }
     requires apart { Apart (hosted (option_map M.rules master.old) (map S.rules slaves.old)) }
-    requires right { AreRight (option_map M.rules master.old) (map S.rules slaves.old) (take at entries.now) }
-    requires going { has_report (option_map M.rules master.old) (take at entries.now) ≡ false }
-    requires ends { AreAt M.End S.End master.old slaves.old (take at entries.now) }
+    requires right { AreRight (option_map M.rules master.old) (map S.rules slaves.old) (take cursor.old.at cursor.old.entries) }
+    requires going { has_report (option_map M.rules master.old) (take cursor.old.at cursor.old.entries) ≡ false }
+    requires ends { AreAt M.End S.End master.old slaves.old (take cursor.old.at cursor.old.entries) }
+    ensures entries { cursor.new.entries ≡ cursor.old.entries }
     ensures rules_master { option_map M.rules master.new ≡ option_map M.rules master.old }
     ensures rules_slaves { map S.rules slaves.new ≡ map S.rules slaves.old }
     ensures made { option_map M.made master.new ≡ option_map M.made master.old }
-    ensures ok { IfOk result (λ next. WentOn (option_map M.rules master.old) (map S.rules slaves.old) entries.now at next) }
-    ensures ends { IfOk result (λ next. AreAt M.End S.End master.new slaves.new (take next entries.now)) }
-    ensures err { IfErr result (λ stop. StopsReplayAt (option_map M.rules master.old) (map S.rules slaves.old) entries.now stop) }
+    ensures ok { OnOk result (WentOn (option_map M.rules master.old) (map S.rules slaves.old) cursor.old.entries cursor.old.at cursor.new.at) }
+    ensures ends { OnOk result (AreAt M.End S.End master.new slaves.new (take cursor.new.at cursor.old.entries)) }
+    ensures err { IfErr result (λ stop. StopsReplayAt (option_map M.rules master.old) (map S.rules slaves.old) cursor.old.entries stop) }
 {
-    let entry = &entries[at];
-    let Some(place) = place_in(entry) else {
+    let at = cursor.at();
+    let Some(entry) = cursor.next() else {
+        unreachable!();
+    };
+    let Some(place) = place_in(&entry) else {
         return Err(Stop::Differs { at });
     };
     if is_at(master, place) {
         let Some(end) = master else {
             unreachable!();
         };
-        let next = visit_master(end, entry, entries, at + 1)?;
-        return Ok(next);
+        visit_master(end, &entry, cursor)?;
+        return Ok(());
     }
     let Some(i) = find(places, place) else {
         return Err(Stop::Differs { at });
     };
-    let next = visit(&mut slaves[i], entry, entries, at + 1)?;
-    Ok(next)
+    visit(&mut slaves[i], &entry, cursor)?;
+    Ok(())
 }
 
 /// Goes through the entries with a master, if it is hosted, and slaves to which nothing has come. `places`
@@ -96,7 +99,7 @@ pub(crate) fn go_through<M: End, S: End>(
     master: &mut Option<M>,
     slaves: &mut [S],
     places: &[Address],
-    entries: &[LogEntry],
+    entries: &Entries<'_>,
 ) -> Result<(), Stop>
     requires places { places.now ≡ places_of (map S.rules slaves.old) }
     requires apart { Apart (hosted (option_map M.rules master.old) (map S.rules slaves.old)) }
@@ -106,12 +109,12 @@ pub(crate) fn go_through<M: End, S: End>(
     ensures made { option_map M.made master.new ≡ option_map M.made master.old }
     ensures stands { OnOk result (IfSome master.new (λ m. M.stands m (events_at (M.rules m).place entries.now))) }
 {
-    let mut at = 0;
-    'entries: while at < entries.len() {
+    let mut cursor = entries.cursor();
+    'entries: while !cursor.is_at_end() {
         if reports(master) {
-            return Err(Stop::Differs { at });
+            return Err(Stop::Differs { at: cursor.at() });
         }
-        at = go_on(master, slaves, places, entries, at)?;
+        go_on(master, slaves, places, &mut cursor)?;
     }
     if reports(master) {
         Ok(())

@@ -8,7 +8,7 @@ use crate::faults::ReplayFault;
 use crate::going::go_through;
 use crate::making::{new_master, new_slaves, places_of};
 use crate::stops::Stop;
-use dcp_ends::LogEntry;
+use dcp_record::Entries;
 use host::Hosted;
 use master_core::{MasterCore, Report};
 use scenario::Scenario;
@@ -42,7 +42,7 @@ pub fn replay(
     alloc: Global,
     scenario: &Scenario,
     hosted: Hosted,
-    entries: &[LogEntry],
+    entries: &Entries<'_>,
 ) -> Result<Replayed, ReplayFault>
     requires { IsScenario scenario.now }
     ensures answers { Answers scenario.now hosted entries.now result }

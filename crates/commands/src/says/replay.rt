@@ -10,9 +10,8 @@ use crate::inputs::TRACE_LIMIT;
 use crate::refusals::refuse_byte;
 use crate::said::{Statement, Text};
 use crate::statuses::Judgement;
-use dcp_ends::LogEntry;
-use dcp_record::{TraceRefused, read_record};
-use dcp_types::{Items, OutOfMemory};
+use dcp_record::{Entries, read_record};
+use dcp_types::OutOfMemory;
 use host::Hosted;
 use replays::{ReplayFault, replay};
 use scenario::Scenario;
@@ -28,11 +27,11 @@ const HOSTED_AT: usize = 5;
 
 /// What stands in a trace, or why it is refused.
 #[derive(Drop)]
-pub enum Opened {
+pub enum Opened<'a> {
     Trace {
         scenario: Scenario,
         hosted: Hosted,
-        entries: Items<LogEntry>,
+        entries: Entries<'a>,
     },
     Refused(Statement),
 }
@@ -53,24 +52,23 @@ fn named_by(bits: u32, slaves: usize) -> Option<Hosted>
 }
 
 /// Refuses the bytes at this place of the header.
-fn refuse_header(alloc: Global, at: usize) -> Result<Opened, OutOfMemory>
+fn refuse_header<'a>(alloc: Global, at: usize) -> Result<Opened<'a>, OutOfMemory>
     ensures { IfOk result (RefusesHeader at) }
 {
     Ok(Opened::Refused(refuse_byte(alloc, at, "HEADER")?))
 }
 
 /// Reads a trace of at most 1,073,741,824 bytes and the scenario in it.
-fn open(alloc: Global, input: &[u8]) -> Result<Opened, OutOfMemory>
+fn open(alloc: Global, input: &[u8]) -> Result<Opened<'_>, OutOfMemory>
     requires { length input.now ≤ trace_limit }
     ensures { IfOk result (IsOpened input.now) }
 {
-    let trace = match read_record(alloc, input) {
+    let trace = match read_record(input) {
         Ok(trace) => trace,
-        Err(TraceRefused::Fault(fault)) => {
+        Err(fault) => {
             let said = refuse_byte(alloc, fault.at as usize, fault.why.word())?;
             return Ok(Opened::Refused(said));
         }
-        Err(TraceRefused::OutOfMemory) => return Err(OutOfMemory),
     };
     let scenario = match read_scenario(alloc, trace.scenario) {
         Ok(scenario) => scenario,
@@ -118,7 +116,7 @@ pub fn say_replay(alloc: Global, input: &[u8]) -> Result<CommandAnswer, OutOfMem
         } => (scenario, hosted, entries),
         Opened::Refused(said) => return Ok(CommandAnswer::Said(said)),
     };
-    match replay(alloc, &scenario, hosted, entries.as_slice()) {
+    match replay(alloc, &scenario, hosted, &entries) {
         Ok(replayed) => Ok(CommandAnswer::Replayed { scenario, replayed }),
         Err(fault) => Ok(CommandAnswer::Said(say_stop(alloc, fault)?)),
     }

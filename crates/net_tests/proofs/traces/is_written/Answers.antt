@@ -1,3 +1,4 @@
+use Rattle.std.proofs.Common.{◌∙◌}
 use Rattle.std.proofs.lemmas.List.Elements.{All-weaker, All-same}
 use Rattle.dcp_ends.specs.Logs.{IsInRange}
 use Rattle.dcp_record.specs.Traces.{IsRecordable}
@@ -11,4 +12,4 @@ write_record-written-requires-clause-scenario c = c.requires.measured
 
 pub write_record-written-requires-clause-entries : goal.write_record-written-requires-clause-entries
 write_record-written-requires-clause-entries c =
-    All-same IsInRange c.as_slice.result.now _ c.as_slice.ensures (All-weaker IsRecordable IsInRange (λ e h. h.in_range) _ c.requires.recordable)
+    All-same IsInRange c.deref.result.now _ (c.deref.ensures.value ∙ c.in_ok-entries.ensures) (All-weaker IsRecordable IsInRange (λ e h. h.in_range) _ c.requires.recordable)

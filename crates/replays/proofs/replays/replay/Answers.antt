@@ -10,7 +10,7 @@ go_through-requires-clause-apart c =
 pub returns-in-Err-clause-answers : goal.returns-in-Err-clause-answers
 returns-in-Err-clause-answers c =
     let slaves = rw (← c.deref_mut.ensures.value) at c.in_ok-slaves.ensures.rules in
-    rw c.fault_of.ensures (stops_answer c.args.scenario.now c.args.hosted c.args.entries.now c.in-Err.stop (stops_same _ _ _ _ c.in_ok-master.ensures.rules slaves c.args.entries.now c.in-Err.stop c.in-Err.ensures.result))
+    rw (c.fault_of.ensures, c.len.ensures) (stops_answer c.args.scenario.now c.args.hosted c.args.entries.now c.in-Err.stop (stops_same _ _ _ _ c.in_ok-master.ensures.rules slaves c.args.entries.now c.in-Err.stop c.in-Err.ensures.result))
 
 pub returns-clause-answers : goal.returns-clause-answers
 returns-clause-answers c =

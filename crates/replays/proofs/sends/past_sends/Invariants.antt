@@ -6,9 +6,10 @@ abbrev pub invariant-sends : goal.invariant-sends
 invariant-sends g l =
     record {
       in_range : l.count ≤ length (g.E.End.outs l.end);
-      place : l.at ≡ l.start + l.count;
-      within : l.at ≤ length l.entries;
-      there : take l.at l.entries ≡ take l.start l.entries ++ sent_by (g.E.End.rules l.end).place (take l.count (g.E.End.outs l.end));
+      entries : l.cursor.entries ≡ l.fn.cursor.entries;
+      place : l.cursor.at ≡ l.fn.cursor.at + l.count;
+      within : l.cursor.at ≤ length l.fn.cursor.entries;
+      there : take l.cursor.at l.fn.cursor.entries ≡ take l.fn.cursor.at l.fn.cursor.entries ++ sent_by (g.E.End.rules l.end).place (take l.count (g.E.End.outs l.end));
     }
 
 abbrev pub decreases-sends : goal.decreases-sends

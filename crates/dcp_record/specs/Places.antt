@@ -1,0 +1,21 @@
+-- Logs in bytes, and places in them.
+use Rattle.std.specs.Prelude.{◌≡◌, ℕ, ◌<◌, ◌≤◌, ◌^◌, List, length, drop}
+use Rattle.dcp_ends.specs.declared.entries.LogEntry.{LogEntry}
+use Rattle.dcp_record.specs.Cuts.{AreEntries}
+
+-- a place in a log: so many of its entries are behind
+pub record LogPlace : Type 0 where
+  pub entries : List LogEntry
+  pub at : ℕ
+
+-- these bytes are these entries, so many
+pub record IsLogIn (b : List ℕ) (count : ℕ) (entries : List LogEntry) : Type 0 where
+  pub all : AreEntries b entries
+  pub counted : count ≡ length entries
+  pub few : length entries < 2 ^ 64
+
+-- these bytes are the entries from this place on
+pub record IsLeftFrom (b : List ℕ) (entries : List LogEntry) (at : ℕ) : Type 0 where
+  pub within : at ≤ length entries
+  pub few : length entries < 2 ^ 64
+  pub left : AreEntries b (drop at entries)
