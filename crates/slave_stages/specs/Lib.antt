@@ -1,0 +1,3 @@
+-- The state to which the exchanges with a slave have led it.
+pub mod Stages
+pub mod Laws
