@@ -21,7 +21,7 @@ use Rattle.slave_spec.specs.declared.words.Asked.TheVariants.{Change, Setting, Q
 use Rattle.slave_spec.specs.Heard.{Heard, Asks, Nothing, heard, heard_as, state_from}
 use Rattle.slave_core.specs.Hearing.{heard_of}
 
-state_is : (s : State) → state_from (state_code s) ≡ s
+pub state_is : (s : State) → state_from (state_code s) ≡ s
 state_is Alive = refl
 state_is Configuration = refl
 state_is Preparing = refl

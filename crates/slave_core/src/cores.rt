@@ -12,7 +12,7 @@ ghost use Rattle.slave_core.specs.Core.{CoreStands, CoreStandsFor, bytes_again};
 use crate::fates::{is_register, placed, placed_late, same_address, session_with};
 use crate::hearing::{Hearing, hear};
 use crate::inner::Inner;
-use crate::kept::Kept;
+use crate::kept::KeptAnswer;
 use crate::messages::{SlaveOutbox, put_nack};
 use dcp_ends::End;
 use dcp_types::{Address, ErrorCode, FaultCode, OutOfMemory, State};
@@ -45,7 +45,7 @@ pub struct SlaveCore<M: Inner> {
     /// The number of the next request.
     expected: u16,
     /// The answer to the newest request that was taken.
-    kept: Kept,
+    kept: KeptAnswer,
     /// The turns since that request.
     quiet: u32,
     out: SlaveOutbox,
@@ -65,7 +65,7 @@ impl<M: Inner> SlaveCore<M> {
             inner,
             session: Session::Before,
             expected: 0,
-            kept: Kept::new(),
+            kept: KeptAnswer::new(),
             quiet: 0,
             out,
         })

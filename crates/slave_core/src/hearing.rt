@@ -9,7 +9,7 @@ use pdu_layout::Pdu;
 use slave_spec::{Asked, SlaveRequest};
 
 /// A request, a data message, or nothing that a slave heeds.
-pub(crate) enum Hearing<'a> {
+pub enum Hearing<'a> {
     Asks(SlaveRequest),
     Brings {
         number: u16,
@@ -72,7 +72,7 @@ fn hearing_of(message: Pdu<'_>) -> Hearing<'_>
 }
 
 /// What a slave hears in these bytes.
-pub(crate) fn hear(bytes: &[u8]) -> Hearing<'_>
+pub fn hear(bytes: &[u8]) -> Hearing<'_>
     ensures { as_heard result ≡ heard bytes.now }
 {
     match read(bytes) {
