@@ -1,0 +1,13 @@
+pub mod Changing
+pub mod Asked
+pub mod Reacting
+pub mod Noting
+pub mod Replies
+pub mod Answering
+pub mod Turning
+pub mod Modelling
+pub mod Sampling
+pub mod Parcels
+pub mod Ending
+pub mod Steps
+pub mod Judging

@@ -1,0 +1,3 @@
+-- What holds of the logs of own slaves, as those of slaves whose model is not known.
+pub mod Runs
+pub mod Laws

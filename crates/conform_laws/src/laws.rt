@@ -1,0 +1,24 @@
+//! What holds of the logs of own slaves.
+
+ghost use Rattle.conform_laws.specs.Laws.{CutRunsAreAllowed, HostFrontsAreAllowed, HostLogsAreAllowed, RoundsAreCut};
+
+/// In a log of whole rounds the sends of each end stand right behind the events at which they were sent.
+pub fn rounds_are_cut()
+    ensures { RoundsAreCut }
+{}
+
+/// A log in which a slave of a description does what its rules say at each of its events is allowed of that
+/// description.
+pub fn cut_runs_are_allowed()
+    ensures { CutRunsAreAllowed }
+{}
+
+/// In each log of whole rounds of a host each hosted slave is allowed.
+pub fn host_logs_are_allowed()
+    ensures { HostLogsAreAllowed }
+{}
+
+/// Where a round was stopped by a refusal, an allowed log begins with what each hosted slave has done.
+pub fn host_fronts_are_allowed()
+    ensures { HostFrontsAreAllowed }
+{}
