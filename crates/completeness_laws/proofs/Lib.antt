@@ -1,0 +1,4 @@
+pub mod Causes
+pub mod Delivery
+pub mod Timely
+pub mod Honest

@@ -1,0 +1,12 @@
+pub mod StepPhases
+pub mod AnswerCauses
+pub mod Moments
+pub mod Unheard
+pub mod Unshown
+pub mod Undelivered
+pub mod Timely
+pub mod Small
+pub mod Lacking
+pub mod Reasons
+pub mod Completes
+pub mod Honest

@@ -1,0 +1,17 @@
+pub mod Lists
+pub mod Nets
+pub mod Fronts
+pub mod Looks
+pub mod Comes
+pub mod Emptied
+pub mod Plain
+pub mod Told
+pub mod Mute
+pub mod Muted
+pub mod Links
+pub mod Sends
+pub mod Little
+pub mod Again
+pub mod Requests
+pub mod Late
+pub mod Once

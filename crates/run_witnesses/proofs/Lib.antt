@@ -1,0 +1,10 @@
+pub mod Sound
+pub mod References
+pub mod Standing
+pub mod Following
+pub mod Tabled
+pub mod InTime
+pub mod Loop
+pub mod Late
+pub mod Fault
+pub mod Roomy
