@@ -6,3 +6,4 @@ pub mod Hosted
 pub mod Rounds
 pub mod ReadRows
 pub mod ReadSlaves
+pub mod Reported

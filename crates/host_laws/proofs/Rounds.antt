@@ -32,7 +32,7 @@ starts_in_rounds sc (Ok host) same =
 starts_in_rounds sc (Err e) same = tt
 
 -- no fault stopped a round: the log is whole rounds
-whole_rounds : (host : HostView) → host.fault ≡ None → IsInRounds host → (n : ℕ) × Rounds (master_in host) (slaves_in host) n host.log
+pub whole_rounds : (host : HostView) → host.fault ≡ None → IsInRounds host → (n : ℕ) × Rounds (master_in host) (slaves_in host) n host.log
 whole_rounds host none x =
     let no_part : x.part ≡ [] = subst (λ (f : Option HostFault). Behind (master_in host) (slaves_in host) x.before x.part f) none x.front in
     let same : host.log ≡ x.before = x.form ∙ ap (λ (p : List LogEntry). x.before ++ p) no_part ∙ append-nil x.before in

@@ -1,2 +1,3 @@
 pub mod Lockstep
 pub mod Readings
+pub mod Reports

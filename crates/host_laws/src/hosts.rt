@@ -7,6 +7,7 @@ ghost use Rattle.rounds.specs.Steps.{AddsPart, Caused};
 ghost use Rattle.host.specs.Hosting.{all_ends, opening_of};
 ghost use Rattle.host.specs.Views.{fault_of, is_done, master_in, progress_of, slaves_in, Tells};
 ghost use Rattle.host_laws.specs.Lockstep.{HostsAll, IsInRounds, HostKeepsInStep};
+ghost use Rattle.host_laws.specs.Reports.{HostFailsForReason, HostIsComplete};
 
 use dcp_net::Net;
 use dcp_types::OutOfMemory;
@@ -45,7 +46,8 @@ pub fn begin<N: Net>(host: &mut Host, net: &mut N) -> Result<(), HostFault>
 }
 
 /// Runs one round of a host of all ends. The log has what was done also where the round was stopped, and keeps to
-/// the reference of the scenario.
+/// the reference of the scenario. Where no fault stopped it, a failure that the master then reports has its reason in
+/// the log, and where nothing was lost or late, the report is what the reference gives.
 pub fn round<N: Net>(host: &mut Host, net: &mut N) -> Result<Progress, HostFault>
     requires all { HostsAll host.old }
     requires in_rounds { IsInRounds host.old }
@@ -63,9 +65,12 @@ pub fn round<N: Net>(host: &mut Host, net: &mut N) -> Result<Progress, HostFault
     ensures all { HostsAll host.new }
     ensures in_rounds { IsInRounds host.new }
     ensures in_step { HostKeepsInStep host.new }
+    ensures reasons { HostFailsForReason host.new }
+    ensures complete { HostIsComplete host.new }
 {
     let result = host.round(net);
     keeps_in_step(host);
+    reports_for_reason(host);
     result
 }
 
@@ -75,6 +80,17 @@ pub fn keeps_in_step(host: &Host)
     requires all { HostsAll host.now }
     requires in_rounds { IsInRounds host.now }
     ensures { HostKeepsInStep host.now }
+{
+    let _log = host.log();
+}
+
+/// What a host of all ends has reported without a fault has its reason: a failure in the log, and where nothing was
+/// lost or late, in the reference of its scenario.
+pub fn reports_for_reason(host: &Host)
+    requires all { HostsAll host.now }
+    requires in_rounds { IsInRounds host.now }
+    ensures reasons { HostFailsForReason host.now }
+    ensures complete { HostIsComplete host.now }
 {
     let _log = host.log();
 }

@@ -9,5 +9,5 @@
 mod hosts;
 mod readings;
 
-pub use hosts::{begin, host_of_all, keeps_in_step, round};
-pub use readings::{row, rows, slave_steps};
+pub use hosts::{begin, host_of_all, keeps_in_step, reports_for_reason, round};
+pub use readings::{report, row, rows, slave_steps};

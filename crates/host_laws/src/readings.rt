@@ -8,9 +8,24 @@ ghost use Rattle.scenario.specs.Lookups.{slave_at};
 ghost use Rattle.host.specs.Views.{report_in, row_count_in, row_value};
 ghost use Rattle.host_laws.specs.Lockstep.{HostsAll, IsInRounds};
 ghost use Rattle.host_laws.specs.Readings.{IsCloseToAll, OfReference, plant_in, StandsInLockstep};
+ghost use Rattle.host_laws.specs.Reports.{HostFailsForReason, HostIsComplete};
 
-use crate::hosts::keeps_in_step;
+use crate::hosts::{keeps_in_step, reports_for_reason};
 use host::Host;
+use master_spec::Report;
+
+/// The report of the master, once it has one. While no fault stopped the host, a failure has its reason in the log, and
+/// where nothing was lost or late, the report is what the reference gives.
+pub fn report(host: &Host) -> Option<Report>
+    requires all { HostsAll host.now }
+    requires in_rounds { IsInRounds host.now }
+    ensures report { result ≡ report_in host.now }
+    ensures reasons { HostFailsForReason host.now }
+    ensures complete { HostIsComplete host.now }
+{
+    reports_for_reason(host);
+    host.report()
+}
 
 /// How many rows are whole: these are the first rows of the reference, and all of them where the report is that the
 /// run finished. Then the reference has no fault.
