@@ -67,7 +67,7 @@ pub record HasRounds (host : HostView) : Type 0 where
   pub master : IfSome (master_in host) (λ rules. Follows rules host.log)
   pub slaves : All (λ rules. Follows rules host.log) (slaves_in host)
 
-is_run : (host : HostView) → HasRounds host → (other : SlaveDesc) → Honest (parties host.scenario other) host.log → IsRunInRounds host.scenario other host.log
+pub is_run : (host : HostView) → HasRounds host → (other : SlaveDesc) → Honest (parties host.scenario other) host.log → IsRunInRounds host.scenario other host.log
 is_run host has other honest =
     let sc = host.scenario in
     let log = host.log in
@@ -97,10 +97,10 @@ module _ (host : HostView) (report : Report) (reported : report_after host ≡ S
   rows_are : (course_at (setup_from host.scenario) (reverse host.log)).rows ≡ (course (setup_from host.scenario) (master_events host)).rows
   rows_are = ap (λ (z : List Event). (course (setup_from host.scenario) z).rows) (events_reverse (setup_from host.scenario) host.log)
 
-  report_is : (course_at (setup_from host.scenario) (reverse host.log)).report ≡ Some report
+  pub report_is : (course_at (setup_from host.scenario) (reverse host.log)).report ≡ Some report
   report_is = ap (λ (z : List Event). (course (setup_from host.scenario) z).report) (events_reverse (setup_from host.scenario) host.log) ∙ reported
 
-  text_is : run_text host report ≡ report_text (course_at (setup_from host.scenario) (reverse host.log)).rows report
+  pub text_is : run_text host report ≡ report_text (course_at (setup_from host.scenario) (reverse host.log)).rows report
   text_is = ap (λ (rows : List (List ℤ)). report_text rows report) (table_is_rows host.scenario (master_events host) ∙ sym rows_are)
 
   prints : (other : SlaveDesc) (rows : List (List ℤ)) (fault : Option RefFault) → IsInLockstep host.scenario other rows fault (reverse host.log)

@@ -1,7 +1,9 @@
 pub mod Pieces
-pub mod Lines
 pub mod Naming
+pub mod NamedSlaves
 pub mod InStep
+pub mod Complete
 pub mod Summed
+pub mod Judged
 pub mod Outcomes
 pub mod Memory

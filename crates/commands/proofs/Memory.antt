@@ -1,6 +1,6 @@
 -- A run over a network in memory is in step with the reference of its scenario.
 use Rattle.std.proofs.Common.{◌≡◌, ◌⊎◌, inl, inr, ℕ, false, true≢false, eq-eqb, List, [], ◌∷◌, Option, Some, None, Result, Ok, refl, sym, ap, subst, ◌∙◌, arith, codes}
-use Rattle.std.specs.Prelude.{ℤ, ◌==◌, ◌++◌, IfSome}
+use Rattle.std.specs.Prelude.{ℤ, ◌==◌, ◌++◌, ◌≤◌, IfSome, length}
 use Rattle.dcp_ends.specs.declared.entries.LogEntry.{LogEntry}
 use Rattle.slave_desc.specs.declared.descriptions.SlaveDesc.{SlaveDesc}
 use Rattle.byte_spool.specs.declared.outputs.Delivery.TheVariants.{Whole}
@@ -17,7 +17,7 @@ use Rattle.text_lines.specs.Numbers.{number_from}
 use Rattle.text_lines.specs.declared.reasons.TextWhy.{TextWhy}
 use Rattle.host.specs.Views.{HostView, Tells}
 use Rattle.commands.specs.declared.command_words.Command.{Command}
-use Rattle.commands.specs.declared.command_words.Command.TheVariants.{Decode, Encode, Describe, Reference, Talk, Run, Replay, Soak}
+use Rattle.commands.specs.declared.command_words.Command.TheVariants.{Decode, Encode, Describe, Reference, Talk, Run, Replay, Soak, Conform}
 use Rattle.commands.specs.declared.statuses.Judgement.{Judgement}
 use Rattle.commands.specs.declared.statuses.Judgement.TheVariants.{Good, Failed}
 use Rattle.commands.specs.declared.statuses.Status.{Status}
@@ -38,7 +38,7 @@ use Rattle.soaks.specs.Texts.{soak_text}
 use Rattle.commands.specs.Statuses.{judgement_of_report, status_after, status_code}
 use Rattle.commands.proofs.InStep.{sums_in_step}
 use Rattle.commands.proofs.Summed.{sum_is_whole}
-use Rattle.commands.proofs.Naming.{one_not_two}
+use Rattle.commands.proofs.Naming.{one_not_two, soak_not_conform}
 use Rattle.commands.proofs.Outcomes.{stops_rose}
 
 -- what a network in memory tells
@@ -75,6 +75,7 @@ is_run words Replay named run = by (sym named ∙ run)
     by e = absurd cc
 is_run words Run named run = refl
 is_run words (Soak number) named run = absurd (one_not_two words _ _ named.0 run named.1)
+is_run words (Conform name) named run = absurd (one_not_two words _ _ name.now run named.0)
 
 -- the words of a number's scenario name no other command, and no other number
 is_soak : (words : List (List ℕ)) (command : Command) (number : ℕ) → Names words command → Names words (Soak number) → command ≡ Soak number
@@ -85,6 +86,7 @@ is_soak words Reference number named soak = absurd (one_not_two words _ _ soak.0
 is_soak words Talk number named soak = absurd (one_not_two words _ _ soak.0 named soak.1)
 is_soak words Run number named soak = absurd (one_not_two words _ _ soak.0 named soak.1)
 is_soak words Replay number named soak = absurd (one_not_two words _ _ soak.0 named soak.1)
+is_soak words (Conform name) number named soak = absurd (soak_not_conform words _ _ soak.1 named.0)
 is_soak words (Soak other) number named soak =
     let same : named.0 ≡ soak.0 = second named.0 soak.0 (sym named.1 ∙ soak.1) in
     ap Soak (value (number_from 0 999999 soak.0) other number (sym (ap (λ (word : List ℕ). number_from 0 999999 word) same) ∙ named.2.1) soak.2.1)
@@ -101,6 +103,11 @@ is_honest net memory host tells other =
     let Told : Option (List LogEntry) → Type 0 = λ told. Tells told host.log in
     let calls : memory.calls ≡ without_turns host.log = subst Told memory.told tells in
     honest (parties host.scenario other) host.log (subst (AllRecent []) calls memory.recent)
+
+-- a sound scenario has a slave
+first_of : (slaves : List SlaveDesc) → 1 ≤ length slaves → SlaveDesc
+first_of [] some = absurd (omega (arith, some))
+first_of (d ∷ slaves) some = d
 
 neither : (n : ℕ) → (n == 0) ≡ false → (n == 3) ≡ false → (n ≡ 0) ⊎ (n ≡ 3) → ⊥
 neither n a b (inl e) = true≢false (sym (eq-eqb n 0 e) ∙ a)
@@ -139,6 +146,8 @@ module _ (words : List (List ℕ)) (source out trace : RunChange) (told : NetTol
       traced = written.1.0;
       status = refl;
       in_step = λ other. run.in_step other (is_honest told memory run.host run.ended.run.told other);
+      reasons = λ other. run.reasons other (is_honest told memory run.host run.ended.run.told other);
+      complete = λ roomy timely. (let other = first_of run.host.scenario.slaves run.sound.few_slaves.0 in run.complete other (is_honest told memory run.host run.ended.run.told other) roomy timely);
     }
 
     -- an answer to the words of run is of a run

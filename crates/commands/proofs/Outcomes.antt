@@ -28,7 +28,7 @@ use Rattle.run_text.specs.Runs.{DeliversBoth, text_after}
 use Rattle.commands.specs.declared.answers.CommandAnswer.{CommandAnswer}
 use Rattle.commands.specs.declared.answers.CommandAnswer.TheVariants as answers
 use Rattle.commands.specs.declared.command_words.Command.{Command}
-use Rattle.commands.specs.declared.command_words.Command.TheVariants.{Decode, Encode, Describe, Reference, Talk, Run, Replay, Soak}
+use Rattle.commands.specs.declared.command_words.Command.TheVariants.{Decode, Encode, Describe, Reference, Talk, Run, Replay, Soak, Conform}
 use Rattle.commands.specs.declared.answers.Unsaid.TheVariants as unsaid
 use Rattle.commands.specs.declared.statuses.Judgement.{Judgement}
 use Rattle.commands.specs.declared.statuses.Judgement.TheVariants.{Good, Failed, Refused}
@@ -53,6 +53,7 @@ use Rattle.commands.specs.SaysRun.{HasEnded, NetTold, RunsTo, SaysRun, ShowsEnd,
 use Rattle.commands.specs.SaysSoak.{SaysSoak, SoaksTo, rows_after}
 use Rattle.soaks.specs.Summaries.{summary}
 use Rattle.commands.specs.Statuses.{ComesBeforeWriting, ComesWithoutNet, judgement_of_report, status_after}
+use Rattle.commands.proofs.Complete.{complete_if_timely, fails_for_reason}
 use Rattle.commands.proofs.InStep.{HasRounds, in_step, whole_rounds}
 
 -- a text that was written to the one sink, with nothing for the other
@@ -74,6 +75,7 @@ stops_rose Talk input before now stopped = absurd (wrong stopped.0)
 stops_rose Replay input before now stopped = absurd (wrong stopped.0)
 stops_rose Run input before now stopped = stopped.1
 stops_rose (Soak number) input before now stopped = stopped.1
+stops_rose (Conform name) input before now stopped = absurd (wrong stopped.0)
 
 -- where memory was wanting, the network has not failed
 pub stops_still : (command : Command) (input : List ℕ) (before now : ℕ) → Stops command input before now unsaid.OutOfMemory → now ≡ before
@@ -85,6 +87,7 @@ stops_still Talk input before now stopped = stopped.1
 stops_still Replay input before now stopped = stopped.1
 stops_still Run input before now stopped = stopped
 stops_still (Soak number) input before now stopped = stopped
+stops_still (Conform name) input before now stopped = stopped.1
 
 -- a text that no scenario is, refused at its first line that is refused
 pub refused_run : (net : NetTold) (input : List ℕ) (refusal : TextRefused) (said : Statement) → length input ≤ 1048576 → IsFirstBad scenario_why_at input refusal → RefusesText refusal said
@@ -101,7 +104,7 @@ of_master host hosted follows =
     subst Own hosted follows
 
 -- the log of a run shows its end
-shown : (host : HostView) → IsScenario host.scenario → MasterRun host.scenario host.log → (report : Report) → report_after host ≡ Some report → ShowsEnd host.scenario host.log report
+pub shown : (host : HostView) → IsScenario host.scenario → MasterRun host.scenario host.log → (report : Report) → report_after host ≡ Some report → ShowsEnd host.scenario host.log report
 shown host sound run (reports.Finished steps) reported =
     (finished_acknowledged host.scenario sound host.log run steps reported, finished_is_exchanged host.scenario sound host.log run steps reported)
 shown host sound run (reports.Failed slave phase cause) reported = failed_first host.scenario sound host.log run slave phase cause reported
@@ -113,7 +116,7 @@ runs_to : (net : NetTold) (input : List ℕ) (host : HostView) (report : Report)
 runs_to net input host report ended sound hosted master slaves reported =
     let whole = ended.run.whole in
     let rounds : HasRounds host = record { sound = sound; hosted = hosted; count = suc whole.count; rounds = whole_rounds host whole; master = master; slaves = slaves } in
-    record { host = host; ended = ended; sound = sound; master = master; slaves = slaves; reported = reported; shows = shown host sound (of_master host hosted master) report reported; text_is = refl; trace_is = refl; in_step = in_step host rounds report reported }
+    record { host = host; ended = ended; sound = sound; master = master; slaves = slaves; reported = reported; shows = shown host sound (of_master host hosted master) report reported; text_is = refl; trace_is = refl; in_step = in_step host rounds report reported; reasons = fails_for_reason host rounds report reported; complete = complete_if_timely host rounds report reported }
 
 -- what is delivered of a run is what the command says of its text
 pub run_says : (held holds : Option (List ℕ)) (before now : ℕ) (kept keeps : Option (List ℕ)) (began ends : ℕ) (net : NetTold) (input : List ℕ) (host : HostView) (status : Status)

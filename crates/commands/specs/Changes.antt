@@ -16,6 +16,10 @@ HasFailed c = Rose c.before c.now
 abbrev pub HasNotFailed : RunChange → Type 0
 HasNotFailed c = c.now ≡ c.before
 
+-- it was not used: what it told, where it did, it tells still, and none of its calls failed
+abbrev pub IsUntouched : RunChange → Type 0
+IsUntouched c = (c.is ≡ c.was) × HasNotFailed c
+
 -- what the network tells now, and its counts of faults before and now
 pub record NetChange : Type 0 where
   pub told : NetTold

@@ -1,9 +1,10 @@
 -- The words that name a command.
 use Rattle.std.specs.Prelude.{◌≡◌, ◌⊎◌, ℕ, ◌≤◌, true, Option, Some, None, Ok, List, [], ◌∷◌, length, codes}
+use Rattle.dcp_types.specs.Names.{is_name}
 use Rattle.text_lines.specs.Numbers.{number_from}
 use Rattle.command_line.specs.Lines.{is_line}
 use Rattle.commands.specs.declared.command_words.Command.{Command}
-use Rattle.commands.specs.declared.command_words.Command.TheVariants.{Decode, Encode, Describe, Reference, Talk, Run, Replay, Soak}
+use Rattle.commands.specs.declared.command_words.Command.TheVariants.{Decode, Encode, Describe, Reference, Talk, Run, Replay, Soak, Conform}
 use Rattle.commands.specs.declared.word_lists.Named.{Named}
 use Rattle.commands.specs.declared.word_lists.Named.TheVariants as named
 
@@ -21,6 +22,7 @@ Names words Talk = words ≡ codes "talk" ∷ []
 Names words Run = words ≡ codes "run" ∷ []
 Names words Replay = words ≡ codes "replay" ∷ []
 Names words (Soak number) = (word : List ℕ) × (words ≡ codes "soak" ∷ word ∷ []) × IsSoakNumber word number
+Names words (Conform name) = (words ≡ codes "conform" ∷ name.now ∷ []) × (is_name name.now ≡ true)
 
 abbrev pub IsCommand : List (List ℕ) → Type 0
 IsCommand words = (command : Command) × Names words command

@@ -11,13 +11,17 @@ pub mod SaysEncoded
 pub mod SaysDescribed
 pub mod SaysReference
 pub mod SaysTalk
+pub mod Complete
 pub mod InStep
 pub mod SaysRun
 pub mod SaysSoak
 pub mod SaysReplay
+pub mod SlaveNames
+pub mod SaysConform
 pub mod Says
 pub mod Answers
 pub mod Replays
+pub mod Conforms
 pub mod Changes
 pub mod Outcomes
 pub mod Programs

@@ -11,7 +11,7 @@ use Rattle.commands.specs.declared.statuses.Judgement.TheVariants as judged
 use Rattle.byte_spool.specs.declared.outputs.Delivery.{Delivery}
 use Rattle.byte_spool.specs.declared.outputs.Delivery.TheVariants.{Whole, Cut}
 use Rattle.run_text.specs.Runs.{DeliversBoth}
-use Rattle.commands.specs.Changes.{RunChange, NetChange, HasFailed, HasNotFailed}
+use Rattle.commands.specs.Changes.{RunChange, NetChange, HasFailed, HasNotFailed, IsUntouched}
 use Rattle.commands.specs.CommandWords.{Names, IsCommand}
 use Rattle.commands.specs.Given.{TakesFor, TakesSomeFor}
 use Rattle.commands.specs.Says.{Says, Stops}
@@ -22,9 +22,9 @@ module _ (words : List (List ℕ)) (source out trace : RunChange) (net : NetChan
   abbrev pub Wrote : (text traced : List ℕ) → Delivery → Type 0
   Wrote = DeliversBoth out.was out.is out.before out.now trace.was trace.is trace.before trace.now
 
-  -- no write failed
+  -- nothing was written to either sink
   abbrev pub WritesNothing : Type 0
-  WritesNothing = HasNotFailed out × HasNotFailed trace
+  WritesNothing = IsUntouched out × IsUntouched trace
 
   -- the words name a command, the whole input was taken or made and neither a read nor the network failed, the command judged it so, and what it says of it was written so
   abbrev pub Answered : Judgement → Delivery → Type 0

@@ -1,16 +1,18 @@
 -- How the program ends over a reader and two writers.
-use Rattle.std.specs.Prelude.{◌≡◌, ℕ, List, [], ◌++◌, Option, Some, MatchOption}
+use Rattle.std.specs.Prelude.{◌≡◌, ℕ, List, [], ◌++◌, reverse, Option, Some, MatchOption}
 use Rattle.std.specs.Io.KnownBytes.{Appends}
 use Rattle.byte_spool.specs.declared.outputs.Delivery.TheVariants.{Whole}
 use Rattle.dcp_ends.specs.declared.entries.LogEntry.{LogEntry}
 use Rattle.slave_desc.specs.declared.descriptions.SlaveDesc.{SlaveDesc}
 use Rattle.master_spec.specs.declared.reports.Report.{Report}
+use Rattle.master_spec.specs.Setup.{setup_from}
 use Rattle.net_world.specs.Calls.{AllRecent, GivesDue}
 use Rattle.soaks.specs.Summaries.{first_line, sum_text}
 use Rattle.soaks.specs.Sums.{whole_sum}
 use Rattle.soaks.specs.Texts.{soak_text}
 use Rattle.commands.specs.declared.statuses.Status.{Status}
 use Rattle.commands.specs.Changes.{RunChange, NetChange}
+use Rattle.commands.specs.Complete.{FailsForReason, GivesItsReference}
 use Rattle.commands.specs.InStep.{KeepsInStep, SumsInStep}
 use Rattle.commands.specs.Inputs.{TakesInput}
 use Rattle.commands.specs.Limits.{input_limit}
@@ -18,6 +20,7 @@ use Rattle.commands.specs.Outcomes.{Outcome}
 use Rattle.commands.specs.SaysRun.{NetTold, RunsTo}
 use Rattle.commands.specs.SaysSoak.{SoaksTo, rows_after}
 use Rattle.commands.specs.Statuses.{judgement_of_report, status_after, status_code}
+use Rattle.completeness_laws.specs.Timely.{Roomy, Timely}
 
 -- an object that has had no fault before
 abbrev pub change_of : Option (List ℕ) → Option (List ℕ) → ℕ → RunChange
@@ -41,7 +44,7 @@ ExitsWith words left rest held holds kept keeps code =
     × (code ≡ status_code status) × Outcome words (change_of left rest read_faults) (change_of held holds write_faults) (change_of kept keeps trace_faults) (sure_change told) status
     × ToldInMemory told
 
--- The input that was taken is a scenario, of which there is a run over a network in memory. Its text was written to the one writer and its trace to the other, and the status is that of its report. It keeps to the lockstep of the scenario's reference, and prints the rows of that.
+-- The input that was taken is a scenario, of which there is a run over a network in memory. Its text was written to the one writer and its trace to the other, and the status is that of its report. It keeps to the lockstep of the scenario's reference, and prints the rows of that. The cause of a failure has its reason. Where the scenario leaves time and nothing was lost or late, the text is what the reference gives.
 pub record RunsInStep (left rest held holds kept keeps : Option (List ℕ)) (code : ℕ) : Type 0 where
   pub input : List ℕ
   pub net : NetTold
@@ -55,6 +58,8 @@ pub record RunsInStep (left rest held holds kept keeps : Option (List ℕ)) (cod
   pub traced : Appends kept keeps trace
   pub status : code ≡ status_code (status_after (judgement_of_report report) Whole)
   pub in_step : (other : SlaveDesc) → KeepsInStep run.host.scenario other run.host.log report text
+  pub reasons : (other : SlaveDesc) → FailsForReason run.host.scenario other run.host.log report
+  pub complete : Roomy run.host.scenario → Timely (setup_from run.host.scenario) (reverse run.host.log) → GivesItsReference run.host.scenario report text
 
 -- There is a run of the scenario of this number over a network in memory. The reader and the writer of the trace are as they were, the line of its report and the sum of its rows were written to the other writer, and the status is that of its report. It keeps to the lockstep of the scenario's reference, whose rows it sums, and the sum that is written is the whole number that it is.
 pub record SoaksInStep (number : ℕ) (left rest held holds kept keeps : Option (List ℕ)) (code : ℕ) : Type 0 where

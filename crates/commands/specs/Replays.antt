@@ -22,8 +22,8 @@ use Rattle.replays.specs.Replays.{IsReplayed}
 use Rattle.commands.specs.declared.answers.CommandAnswer.{CommandAnswer}
 use Rattle.commands.specs.declared.answers.CommandAnswer.TheVariants as answers
 use Rattle.commands.specs.declared.said.Statement.{Statement}
-use Rattle.commands.specs.declared.says.replay.Opened.{Opened}
-use Rattle.commands.specs.declared.says.replay.Opened.TheVariants.{Trace, Refused}
+use Rattle.commands.specs.declared.says.traces.Opened.{Opened}
+use Rattle.commands.specs.declared.says.traces.Opened.TheVariants.{Trace, Refused}
 use Rattle.commands.specs.declared.statuses.Judgement.TheVariants as judged
 use Rattle.commands.specs.declared.statuses.Status.{Status}
 use Rattle.commands.specs.Refusals.{Refuses, byte_refusal}

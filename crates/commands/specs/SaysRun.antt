@@ -27,6 +27,7 @@ use Rattle.commands.specs.declared.answers.Unsaid.{Unsaid}
 use Rattle.commands.specs.declared.answers.Unsaid.TheVariants.{NetFault, OutOfMemory}
 use Rattle.commands.specs.declared.statuses.Judgement.{Judgement}
 use Rattle.commands.specs.declared.statuses.Judgement.TheVariants as judged
+use Rattle.commands.specs.Complete.{FailsForReasonIfHonest, IsCompleteIfTimely}
 use Rattle.commands.specs.InStep.{IsInStepIfHonest}
 use Rattle.commands.specs.Limits.{input_limit}
 use Rattle.commands.specs.Refusals.{OfText}
@@ -71,7 +72,7 @@ abbrev pub ShowsEnd : Scenario → List LogEntry → Report → Type 0
 ShowsEnd sc log (reports.Finished steps) = IsFinished (setup_from sc) (reverse log) steps × AllExchanged (setup_from sc) (reverse log)
 ShowsEnd sc log (reports.Failed id phase cause) = (slave : Slave) × ((slave.id ≡ id) × First (setup_from sc) (reverse log) slave phase cause)
 
--- There is a run of the scenario that the text is, which is a sound one, in whose log each end follows its rules, and after which its master has this report, which the log shows. The text is its rows and the report, and the trace is that of the run. Over an honest network it keeps to the lockstep of the scenario's reference.
+-- There is a run of the scenario that the text is, which is a sound one, in whose log each end follows its rules, and after which its master has this report, which the log shows. The text is its rows and the report, and the trace is that of the run. Over an honest network it keeps to the lockstep of the scenario's reference, the cause of a failure has its reason, and where nothing was lost or late, the text is what the reference gives.
 pub record RunsTo (net : NetTold) (input : List ℕ) (report : Report) (text trace : List ℕ) : Type 0 where
   pub host : HostView
   pub ended : HasEnded net input host
@@ -83,6 +84,8 @@ pub record RunsTo (net : NetTold) (input : List ℕ) (report : Report) (text tra
   pub text_is : text ≡ run_text host report
   pub trace_is : trace ≡ run_trace input host
   pub in_step : IsInStepIfHonest host.scenario host.log report text
+  pub reasons : FailsForReasonIfHonest host.scenario host.log report
+  pub complete : IsCompleteIfTimely host.scenario host.log report text
 
 -- a run that finished is good; a text that is no scenario is refused as `reference` refuses it
 abbrev pub SaysRun : NetTold → List ℕ → Judgement → (text trace : List ℕ) → Type 0

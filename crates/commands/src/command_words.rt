@@ -7,6 +7,7 @@ ghost use Rattle.commands.specs.Limits.{limit_of};
 
 use crate::inputs::{LIMIT, TRACE_LIMIT};
 use command_line::CommandLine;
+use dcp_types::is_name;
 use text_lines::number_from;
 
 /// The most digits of the number of `soak`.
@@ -14,7 +15,7 @@ const SOAK_DIGITS: usize = 6;
 
 /// What the program can be asked for.
 #[derive(Clone, Copy, Debug, PartialEq, Eq)]
-pub enum Command {
+pub enum Command<'a> {
     /// Prints the message whose bytes are the input.
     Decode,
     /// Writes the bytes of the message whose line is the input.
@@ -31,21 +32,23 @@ pub enum Command {
     Replay,
     /// Runs the scenario of this number over the network, and prints its report and the sum of its rows.
     Soak(u32),
+    /// Checks what a trace has of the slave of this name, whose model need not be the scenario's.
+    Conform(&'a str),
 }
 
-impl Command {
+impl<'a> Command<'a> {
     /// The command that this line names; none where it names none.
-    pub fn from_line(line: CommandLine<'_>) -> Option<Command>
+    pub fn from_line(line: CommandLine<'a>) -> Option<Command<'a>>
         ensures { MatchOption result (IsCommand (words_in_line line.entry) → ⊥) (Names (words_in_line line.entry)) }
     {
         match line.operand {
             None => Command::from_word(line.command),
-            Some(number) => Command::from_two_words(line.command, number),
+            Some(operand) => Command::from_two_words(line.command, operand),
         }
     }
 
     /// The command that is named by this word alone; none where there is none.
-    fn from_word(word: &str) -> Option<Command>
+    fn from_word(word: &str) -> Option<Command<'a>>
         ensures { MatchOption result (IsCommand (word.now ∷ []) → ⊥) (Names (word.now ∷ [])) }
     {
         if word == "decode" {
@@ -73,21 +76,24 @@ impl Command {
     }
 
     /// The command that is named by these two words; none where there is none.
-    fn from_two_words(word: &str, number: &str) -> Option<Command>
-        ensures { MatchOption result (IsCommand (word.now ∷ number.now ∷ []) → ⊥) (Names (word.now ∷ number.now ∷ [])) }
+    fn from_two_words(word: &str, operand: &'a str) -> Option<Command<'a>>
+        ensures { MatchOption result (IsCommand (word.now ∷ operand.now ∷ []) → ⊥) (Names (word.now ∷ operand.now ∷ [])) }
     {
-        if word != "soak" {
-            return None;
+        if word == "soak" {
+            return match soak_number(operand) {
+                Some(number) => Some(Command::Soak(number)),
+                None => None,
+            };
         }
-        match soak_number(number) {
-            Some(number) => Some(Command::Soak(number)),
-            None => None,
+        if word == "conform" && is_name(operand.as_bytes()) {
+            return Some(Command::Conform(operand));
         }
+        None
     }
 
     /// The number of the scenario that the command makes by itself, and does not read.
     pub fn own_number(self) -> Option<u32>
-        ensures { result ≡ own_number self }
+        ensures { result ≡ own_number self.entry }
     {
         match self {
             Command::Soak(number) => Some(number),
@@ -97,10 +103,10 @@ impl Command {
 
     /// The most bytes of its input: a trace is longer than a text.
     pub fn limit(self) -> usize
-        ensures { result ≡ limit_of self }
+        ensures { result ≡ limit_of self.entry }
     {
         match self {
-            Command::Replay => TRACE_LIMIT,
+            Command::Replay | Command::Conform(_) => TRACE_LIMIT,
             _ => LIMIT,
         }
     }

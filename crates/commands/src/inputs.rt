@@ -55,9 +55,9 @@ pub fn read_input<S: Source>(alloc: Global, source: &mut S, limit: usize) -> Gat
 
 /// What a command is given to judge: the text of the scenario of its number, where it makes one, and else
 /// what is left of the source.
-pub(crate) fn input_for<S: Source>(alloc: Global, command: Command, source: &mut S) -> Gathered
-    ensures gives { GivesBy (S.left source.old) (S.left source.new) (own_number command) (limit_of command) (S.faults source.old) (S.faults source.new) result }
-    ensures unread { own_number command ≢ None → source.new ≡ source.old }
+pub(crate) fn input_for<S: Source>(alloc: Global, command: Command<'_>, source: &mut S) -> Gathered
+    ensures gives { GivesBy (S.left source.old) (S.left source.new) (own_number command.entry) (limit_of command.entry) (S.faults source.old) (S.faults source.new) result }
+    ensures unread { own_number command.entry ≢ None → source.new ≡ source.old }
 {
     match command.own_number() {
         Some(number) => made_input(alloc, number),

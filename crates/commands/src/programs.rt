@@ -41,7 +41,7 @@ pub fn run_program<R: io::Read + Drop, W: io::Write + Drop, E: io::Write + Drop>
     ensures outcome { ExitsWith words.now (R.remaining reader) (R.remaining result.reader) (W.contents writer) (W.contents result.writer)
         (E.contents errors) (E.contents result.errors) (exit_status result.code) }
     ensures unread { exit_status result.code ≡ 1 → result.reader ≡ reader }
-    ensures unwritten { exit_status result.code ≡ 4 → (result.writer ≡ writer) × (result.errors ≡ errors) }
+    ensures unwritten { (exit_status result.code ≡ 4) ⊎ (exit_status result.code ≡ 7) → (result.writer ≡ writer) × (result.errors ≡ errors) }
     ensures untouched { Names words.now Run ⊎ (result.errors ≡ errors) }
     ensures in_step { Names words.now Run → (exit_status result.code ≡ 0) ⊎ (exit_status result.code ≡ 3)
         → RunsInStep (R.remaining reader) (R.remaining result.reader) (W.contents writer) (W.contents result.writer) (E.contents errors) (E.contents result.errors) (exit_status result.code) }

@@ -5,6 +5,7 @@ ghost use Rattle.commands.specs.Answers.{GivesAnswer, IsRefusal, IsAlone, IsWrit
 ghost use Rattle.commands.specs.CommandWords.{own_number};
 ghost use Rattle.commands.specs.Says.{Stops};
 
+mod conformance;
 mod decode;
 mod describe;
 mod encode;
@@ -13,6 +14,7 @@ mod replay;
 mod run;
 mod soak;
 mod talk;
+mod traces;
 
 use crate::answers::{CommandAnswer, Unsaid};
 use crate::command_words::Command;
@@ -23,17 +25,17 @@ use std::alloc::Global;
 /// where their text reads.
 pub fn say<N: Net>(
     alloc: Global,
-    command: Command,
+    command: Command<'_>,
     input: &[u8],
     net: &mut N,
 ) -> Result<CommandAnswer, Unsaid>
-    ensures says { IfOk result (GivesAnswer command (record { calls = N.calls net.new; opening = N.opening net.new }) input.now) }
+    ensures says { IfOk result (GivesAnswer command.entry (record { calls = N.calls net.new; opening = N.opening net.new }) input.now) }
     ensures writable { IfOk result (IsWritableAnswer input.now) }
     ensures refused { IfOk result (λ answer. IsRefusal answer → net.new ≡ net.old) }
     ensures still { IfOk result (λ answer. N.count net.new ≡ N.count net.old) }
-    ensures stopped { IfErr result (Stops command input.now (N.count net.old) (N.count net.new)) }
-    ensures alone { (command ≡ Command.Run) ⊎ IfOk result IsAlone }
-    ensures uncalled { (command ≡ Command.Run) ⊎ ((own_number command ≢ None) ⊎ (net.new ≡ net.old)) }
+    ensures stopped { IfErr result (Stops command.entry input.now (N.count net.old) (N.count net.new)) }
+    ensures alone { (command.entry ≡ Command.Run) ⊎ IfOk result IsAlone }
+    ensures uncalled { (command.entry ≡ Command.Run) ⊎ ((own_number command.entry ≢ None) ⊎ (net.new ≡ net.old)) }
 {
     match command {
         Command::Decode => Ok(CommandAnswer::Said(decode::say_decoded(alloc, input)?)),
@@ -44,5 +46,8 @@ pub fn say<N: Net>(
         Command::Run => run::say_run(alloc, input, net),
         Command::Replay => Ok(replay::say_replay(alloc, input)?),
         Command::Soak(number) => soak::say_soak(alloc, number, input, net),
+        Command::Conform(name) => Ok(CommandAnswer::Said(conformance::say_conform(
+            alloc, name, input,
+        )?)),
     }
 }

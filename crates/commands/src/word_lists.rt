@@ -12,9 +12,9 @@ use std::marker::Model;
 
 /// What words come to.
 #[derive(Clone, Copy, Debug, PartialEq, Eq)]
-pub enum Named {
+pub enum Named<'a> {
     /// They name this command.
-    Command(Command),
+    Command(Command<'a>),
     /// They name none.
     Nothing,
     /// To read them wanted memory.
@@ -76,7 +76,7 @@ impl Words {
     }
 
     /// What the words come to.
-    pub fn named(&self, alloc: Global) -> Named
+    pub fn named(&self, alloc: Global) -> Named<'_>
         ensures { ReadsWords self.now result }
     {
         match self.line(alloc) {

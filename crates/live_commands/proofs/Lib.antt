@@ -1,4 +1,3 @@
 pub mod Live
 pub mod InStep
 pub mod Outcomes
-pub mod Words

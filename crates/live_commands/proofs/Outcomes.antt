@@ -25,7 +25,7 @@ use Rattle.live_commands.specs.Answers.{Delivered, IsRunEnded, RunDelivered, end
 use Rattle.live_commands.specs.Changes.{LiveChange}
 use Rattle.live_commands.specs.Parts.{bits_in}
 use Rattle.live_commands.specs.Says.{ComesTo, HasLived, LivesTo, SaysLive, judgement_of_fault}
-use Rattle.live_commands.proofs.InStep.{lives_in_step}
+use Rattle.live_commands.proofs.InStep.{lives_complete, lives_for_reason, lives_in_step, lives_shown}
 
 -- what a run can come to
 abbrev IsSaid : Judgement → Type 0
@@ -60,7 +60,19 @@ ran_says held holds before now kept keeps began ends words net input run status 
     let text = ended_text run.host run.ending in
     let traced = trace_bytes (bits_in run.part (length run.host.scenario.slaves)) input run.host.log in
     let lives : LivesTo words net input run.judgement text traced =
-    record { part = run.part; host = run.host; lived = given.0; master = done.master; slaves = done.slaves; comes = given.1; trace_is = refl; in_step = lives_in_step words net input run.part run.host run.judgement text done.sound given.0 done.master done.slaves given.1 } in
+    record {
+      part = run.part;
+      host = run.host;
+      lived = given.0;
+      master = done.master;
+      slaves = done.slaves;
+      comes = given.1;
+      trace_is = refl;
+      shows = lives_shown words net input run.part run.host done.sound given.0 done.master;
+      in_step = lives_in_step words net input run.part run.host run.judgement text done.sound given.0 done.master done.slaves given.1;
+      reasons = lives_for_reason words net input run.part run.host run.judgement text done.sound given.0 done.master done.slaves given.1;
+      complete = lives_complete words net input run.part run.host run.judgement text done.sound given.0 done.master done.slaves given.1;
+    } in
     (run.judgement, done.delivery, text, traced, says_of words net input run.judgement text traced lives, done.delivered, done.status_is)
 
 -- the status of a run comes after writing, is no usage, and none without the network

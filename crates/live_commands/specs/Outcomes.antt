@@ -10,7 +10,7 @@ use Rattle.commands.specs.declared.statuses.Status.{Status}
 use Rattle.commands.specs.declared.statuses.Status.TheVariants.{Done, Usage, BadInput, RunFailed, ReadFault, WriteFault, NetFault, OutOfMemory, Differs}
 use Rattle.commands.specs.declared.statuses.Judgement.{Judgement}
 use Rattle.commands.specs.declared.statuses.Judgement.TheVariants.{Good, Failed, Refused}
-use Rattle.commands.specs.Changes.{RunChange, HasFailed, HasNotFailed}
+use Rattle.commands.specs.Changes.{RunChange, HasFailed, HasNotFailed, IsUntouched}
 use Rattle.commands.specs.Inputs.{TakesInput, TakesSome}
 use Rattle.commands.specs.Limits.{input_limit}
 use Rattle.live_commands.specs.Changes.{LiveChange}
@@ -31,9 +31,9 @@ module _ (words : List (List ℕ)) (source out trace : RunChange) (net : LiveCha
   abbrev pub Wrote : (text traced : List ℕ) → Delivery → Type 0
   Wrote = DeliversBoth out.was out.is out.before out.now trace.was trace.is trace.before trace.now
 
-  -- no write failed
+  -- nothing was written to either sink
   abbrev pub WritesNothing : Type 0
-  WritesNothing = HasNotFailed out × HasNotFailed trace
+  WritesNothing = IsUntouched out × IsUntouched trace
 
   -- the words name ends, the whole input was taken, nothing failed but perhaps a write, the command judged the input so, and what it says of it was written so
   abbrev pub Answered : Judgement → Delivery → Type 0

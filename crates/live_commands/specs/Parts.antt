@@ -1,5 +1,5 @@
 -- The words of the commands over sockets, and the ends that they name.
-use Rattle.std.specs.Prelude.{◌≡◌, ◌≢◌, ◌⊎◌, ℕ, ◌≤◌, ◌-◌, ◌^◌, true, false, List, [], ◌∷◌, codes, All, IsSomeAnd, is_some}
+use Rattle.std.specs.Prelude.{◌≡◌, ◌≢◌, ◌⊎◌, ℕ, ◌≤◌, ◌-◌, ◌^◌, true, false, List, [], ◌∷◌, codes, All, is_some}
 use Rattle.dcp_types.specs.Names.{is_name}
 use Rattle.slave_desc.specs.declared.descriptions.SlaveDesc.{SlaveDesc}
 use Rattle.scenario.specs.declared.scenarios.Scenario.{Scenario}
@@ -7,6 +7,7 @@ use Rattle.scenario.specs.Lookups.{slave_at}
 use Rattle.host.specs.declared.hosted.Hosted.{Hosted}
 use Rattle.host.specs.Hosting.{all_ends}
 use Rattle.run_text.specs.Runs.{all_bits}
+use Rattle.commands.specs.SlaveNames.{IsNamed}
 use Rattle.live_commands.specs.declared.parts.Part.{Part}
 use Rattle.live_commands.specs.declared.parts.Part.TheVariants as parts
 
@@ -16,10 +17,6 @@ IsLive [] = ⊥
 IsLive (word ∷ []) = (word ≡ codes "live") ⊎ (word ≡ codes "master")
 IsLive (word ∷ name ∷ []) = (word ≡ codes "slave") × (is_name name ≡ true)
 IsLive (word ∷ name ∷ more ∷ rest) = ⊥
-
--- this slave has this name
-abbrev pub IsNamed : List SlaveDesc → (s : ℕ) → (name : List ℕ) → Type 0
-IsNamed slaves s name = (1 ≤ s) × (s ≤ 16) × IsSomeAnd (slave_at slaves s) (λ d. d.name ≡ name)
 
 -- a slave's number is 1 to 16
 abbrev pub IsPart : Part → Type 0

@@ -14,11 +14,12 @@ use Rattle.host.specs.Hosting.{opening_of, slave_setup}
 use Rattle.host.specs.Views.{HostView, Tells, master_in, slaves_in}
 use Rattle.commands.specs.declared.statuses.Judgement.{Judgement}
 use Rattle.commands.specs.declared.statuses.Judgement.TheVariants as judged
+use Rattle.commands.specs.Complete.{FailsForReasonIfHonest, IsCompleteIfTimely}
 use Rattle.commands.specs.InStep.{IsInStepIfHonest}
 use Rattle.commands.specs.Limits.{input_limit}
 use Rattle.commands.specs.Statuses.{judgement_of_report}
 use Rattle.commands.specs.Refusals.{line_refusal}
-use Rattle.commands.specs.SaysRun.{SaysRun, report_after, run_text}
+use Rattle.commands.specs.SaysRun.{SaysRun, ShowsEnd, report_after, run_text}
 use Rattle.live_commands.specs.declared.parts.Part.{Part}
 use Rattle.live_commands.specs.declared.parts.Part.TheVariants as parts
 use Rattle.live_commands.specs.Changes.{LiveChange}
@@ -59,7 +60,13 @@ ComesTo parts.All host judgement text = ReportsOn host judgement text
 ComesTo parts.Master host judgement text = ReportsOn host judgement text
 ComesTo (parts.Slave s) host judgement text = LinesOf host s judgement text
 
--- There is a run of the ends that the words name, in whose log each of them follows its rules, and it came to this. The trace is that of the run. Where all ends are hosted, it keeps to the lockstep of the scenario's reference over an honest network.
+-- the master is one of the ends
+abbrev pub HostsMaster : Part → Type 0
+HostsMaster parts.All = Unit {0}
+HostsMaster parts.Master = Unit {0}
+HostsMaster (parts.Slave s) = ⊥
+
+-- There is a run of the ends that the words name, in whose log each of them follows its rules, and it came to this. The trace is that of the run. The report of a hosted master is shown by the log, on every network. Where all ends are hosted, it keeps over an honest network to the lockstep of the scenario's reference, the cause of a failure has its reason, and where nothing was lost or late, the text is what the reference gives.
 pub record LivesTo (words : List (List ℕ)) (net : LiveChange) (input : List ℕ) (judgement : Judgement) (text trace : List ℕ) : Type 0 where
   pub part : Part
   pub host : HostView
@@ -68,7 +75,10 @@ pub record LivesTo (words : List (List ℕ)) (net : LiveChange) (input : List �
   pub slaves : All (λ rules. Follows rules host.log) (slaves_in host)
   pub comes : ComesTo part host judgement text
   pub trace_is : trace ≡ trace_bytes (bits_in part (length host.scenario.slaves)) input host.log
+  pub shows : HostsMaster part → (report : Report) → report_after host ≡ Some report → ShowsEnd host.scenario host.log report
   pub in_step : part ≡ parts.All → (report : Report) → report_after host ≡ Some report → IsInStepIfHonest host.scenario host.log report text
+  pub reasons : part ≡ parts.All → (report : Report) → report_after host ≡ Some report → FailsForReasonIfHonest host.scenario host.log report
+  pub complete : part ≡ parts.All → (report : Report) → report_after host ≡ Some report → IsCompleteIfTimely host.scenario host.log report text
 
 -- the text is a scenario that has no slave of the name
 abbrev pub NoSlave : List (List ℕ) → List ℕ → List ℕ → Type 0

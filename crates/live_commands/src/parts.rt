@@ -1,16 +1,15 @@
 //! The ends that the words name.
 
-ghost use Rattle.std.specs.Prelude.{◌≡◌, ◌⊎◌, codes, ◌≢◌, ◌≤◌, ◌<◌, ◌^◌, ⊤, true, length, map, string_bytes, All, IfOk, MatchOption};
+ghost use Rattle.std.specs.Prelude.{◌≡◌, ◌⊎◌, codes, ◌≤◌, ◌<◌, ◌^◌, ⊤, true, length, map, string_bytes, IfOk, MatchOption};
 ghost use Rattle.dcp_types.specs.Names.{is_name};
 ghost use Rattle.command_line.specs.Lines.{words_in_line};
-ghost use Rattle.live_commands.specs.Parts.{HasNoPart, IsLive, IsPart, IsNamed, NamesPart, bits_in, hosted_of};
+ghost use Rattle.live_commands.specs.Parts.{HasNoPart, IsLive, IsPart, NamesPart, bits_in, hosted_of};
 
 use command_line::CommandLine;
-use commands::Words;
+use commands::{Words, slave_named};
 use dcp_types::{OutOfMemory, is_name};
 use host::Hosted;
 use scenario::Scenario;
-use slave_desc::SlaveDesc;
 use std::alloc::Global;
 
 /// The ends of a scenario that one process hosts.
@@ -88,19 +87,6 @@ pub fn is_live(words: &[String]) -> bool
         [word, name] => is_slave(word.as_str(), name.as_str()),
         _ => false,
     }
-}
-
-/// The number of the slave with this name; none where there is none.
-fn slave_named(slaves: &[SlaveDesc], name: &str) -> Option<u8>
-    requires { length slaves.now ≤ 16 }
-    ensures { MatchOption result (All (λ d. d.name ≢ name.now) slaves.now) (λ s. IsNamed slaves.now s name.now) }
-{
-    for place in 0..slaves.len() {
-        if slaves[place].name.as_str() == name {
-            return Some(place as u8 + 1);
-        }
-    }
-    None
 }
 
 /// The ends of the scenario that the line names; none where it has no such slave.

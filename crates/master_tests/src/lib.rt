@@ -1,6 +1,6 @@
 //! Tests of the plan, of one conversation and of the master: worked rows, and scripts of what comes and
 //! what is sent then, with values from an independent model. They stand here, so that the crates below
-//! are proved once. Each table is one text, and `tools/master_tables` makes its values again.
+//! are proved once. Each table is one text, and `tools/model_tables` makes its values again.
 #![tactic(auto)]
 
 #[cfg(test)]

@@ -86,6 +86,9 @@ soak +5||1|usage/
 soak 1234567||1|usage/
 soak 5 5||1|usage/
 soak 0x1||1|usage/
+conform||1|usage/
+conform 9x||1|usage/
+conform a b||1|usage/
 5 soak||1|usage/
 --help|slave count/|1|usage/
 decode decode|slave count/|1|usage/

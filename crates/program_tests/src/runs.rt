@@ -31,12 +31,14 @@ fn run_over<N: Net>(alloc: Global, net: &mut N) -> Result<(Status, Vec<u8>, Vec<
 /// The status of a command, its output, and its trace.
 fn call_over<N: Net>(
     alloc: Global,
-    word: &str,
+    line: &str,
     input: Vec<u8>,
     net: &mut N,
 ) -> Result<(Status, Vec<u8>, Vec<u8>), Fail> {
     let mut words = Words::new(alloc);
-    words.push(alloc, word)?;
+    for word in line.split_whitespace() {
+        words.push(alloc, word)?;
+    }
     let mut source = MemorySource::new(input, Vec::new(alloc), Vec::new(alloc));
     let mut out = MemorySink::new([0; 256].to_vec(alloc)?, Vec::new(alloc));
     let mut room = Vec::new(alloc);
@@ -65,15 +67,20 @@ fn the_trace_of_a_counter_is_that_of_the_model(rt: HostRuntime) -> Result<(), Fa
     Ok(())
 }
 
-/// What `replay` says of this trace, with one byte of it changed and cut to a length.
-fn replayed(alloc: Global, trace: &[u8], case: &Damage) -> Result<(Status, Vec<u8>), Fail> {
+/// What the words say of this trace, with one byte of it changed and cut to a length.
+fn judged(
+    alloc: Global,
+    words: &str,
+    trace: &[u8],
+    case: &Damage,
+) -> Result<(Status, Vec<u8>), Fail> {
     let mut bytes = trace.to_vec(alloc)?;
     if let Some(place) = bytes.get_mut(case.at) {
         *place = case.byte;
     }
     bytes.truncate(case.len);
     let mut net = MemoryNet::new(alloc);
-    let (status, out, _trace) = call_over(alloc, "replay", bytes, &mut net)?;
+    let (status, out, _trace) = call_over(alloc, words, bytes, &mut net)?;
     Ok((status, out))
 }
 
@@ -130,10 +137,90 @@ fn a_trace_goes_to_its_run_or_stops_where_it_differs(rt: HostRuntime) -> Result<
             status,
             out,
         };
-        let told = replayed(rt.alloc(), trace.as_slice(), &damage)?;
+        let told = judged(rt.alloc(), "replay", trace.as_slice(), &damage)?;
         assert_eq!(rt; told.0, damage.status);
         assert!(rt; told.1.as_slice() == damage.out);
     }
+    Ok(())
+}
+
+#[test]
+fn the_slave_of_a_run_conforms_and_a_changed_one_does_not(rt: HostRuntime) -> Result<(), Fail> {
+    let (_, _, trace) = run_over(rt.alloc(), &mut MemoryNet::new(rt.alloc()))?;
+    // The acknowledgement of the register, entry 7, stands at the bytes 268 to 286.
+    let table = [
+        (
+            "conform count",
+            0,
+            b'D',
+            4_634,
+            Status::Done,
+            b"conforms count events 77\n".as_slice(),
+        ),
+        (
+            "conform count",
+            0,
+            b'D',
+            287,
+            Status::Done,
+            b"conforms count events 2\n".as_slice(),
+        ),
+        (
+            "conform count",
+            286,
+            2,
+            287,
+            Status::Differs,
+            b"bad entry 7 SEND\n".as_slice(),
+        ),
+        (
+            "conform count",
+            268,
+            4,
+            275,
+            Status::Differs,
+            b"bad entry 7 MISSING\n".as_slice(),
+        ),
+        (
+            "conform count",
+            5,
+            7,
+            4_634,
+            Status::BadInput,
+            b"input: byte 5 HEADER\n".as_slice(),
+        ),
+        (
+            "conform other",
+            0,
+            b'D',
+            4_634,
+            Status::BadInput,
+            b"input: line 0 UNKNOWN_SLAVE\n".as_slice(),
+        ),
+    ];
+    for (words, at, byte, len, status, out) in table {
+        let damage = Damage {
+            at,
+            byte,
+            len,
+            status,
+            out,
+        };
+        let told = judged(rt.alloc(), words, trace.as_slice(), &damage)?;
+        assert_eq!(rt; told.0, damage.status);
+        assert!(rt; told.1.as_slice() == damage.out);
+    }
+    let front = trace.as_slice().get(..268).unwrap_or(&[]);
+    let mut without = front.to_vec(rt.alloc())?;
+    without.extend_from_slice(trace.as_slice().get(287..).unwrap_or(&[]))?;
+    let (status, out, _) = call_over(
+        rt.alloc(),
+        "conform count",
+        without,
+        &mut MemoryNet::new(rt.alloc()),
+    )?;
+    assert_eq!(rt; status, Status::Differs);
+    assert!(rt; out.as_slice() == b"bad entry 7 MISSING\n".as_slice());
     Ok(())
 }
 

@@ -1,6 +1,6 @@
 //! Tests of the models, the texts and the reference: steps of each kind, lines and words, descriptions,
 //! scenarios, and what a correct run prints, with values from an independent model. They stand here, so
-//! that the crates below are proved once. `tools/text_tables` makes the values again.
+//! that the crates below are proved once. `tools/model_tables` makes the values again.
 #![tactic(auto)]
 
 #[cfg(test)]

@@ -58,7 +58,7 @@ returns-in-Err-NetFault-clause-outcome g c =
     let now = g.N.Net.count c.say.new.net in
     let Stopped : Unsaid → Type 0 = λ reason. Stops command input before now reason in
     let Taken : List ℕ → Type 0 = λ bytes. TakesFor (g.S.Source.left c.args.source.now) (g.S.Source.left c.input_for.new.source) command bytes in
-    (command, input, c.in-Command.ensures, subst Taken (sym c.as_slice.ensures) c.in-Bytes.ensures.gives.0, c.in-Bytes.ensures.gives.2, subst Stopped c.in-Err-NetFault.field-0-is c.in-Err-NetFault.ensures.stopped, (refl, refl))
+    (command, input, c.in-Command.ensures, subst Taken (sym c.as_slice.ensures) c.in-Bytes.ensures.gives.0, c.in-Bytes.ensures.gives.2, subst Stopped c.in-Err-NetFault.field-0-is c.in-Err-NetFault.ensures.stopped, ((refl, refl), (refl, refl)))
 
 pub returns-in-Err-NetFault-clause-idle : goal.returns-in-Err-NetFault-clause-idle
 returns-in-Err-NetFault-clause-idle g c = unless_run c.args.words.now c.in-Command.command c.in-Command.ensures c.say.ensures.uncalled

@@ -1,7 +1,7 @@
 use Rattle.std.proofs.Common.{◌∙◌, sym}
 use Rattle.std.specs.Cmp.Lexicographic.{same_text}
-use Rattle.live_commands.proofs.Words.{named_at}
-use Rattle.live_commands.proofs.parts.slave_named.Goals as goal
+use Rattle.commands.proofs.NamedSlaves.{named_at}
+use Rattle.commands.proofs.slave_names.slave_named.Goals as goal
 
 pub returns-then-eq : goal.returns-then-eq
 returns-then-eq c =

@@ -1,6 +1,6 @@
 use Rattle.std.proofs.Common.{◌+◌, ◌≤◌, ◌^◌, arith}
 use Rattle.std.proofs.Math.Pow.{pow_mono}
-use Rattle.commands.proofs.says.replay.named_by.Goals as goal
+use Rattle.commands.proofs.says.traces.named_by.Goals as goal
 
 pub overflow_cast-result : goal.overflow_cast-result
 overflow_cast-result c =
