@@ -8,7 +8,7 @@ use Rattle.lockstep.specs.declared.references.RefFault.{RefFault}
 use Rattle.lockstep.specs.Lockstep.{IsReference}
 use Rattle.master_spec.specs.declared.reports.Report.{Report}
 use Rattle.master_spec.specs.declared.reports.Report.TheVariants as reports
-use Rattle.report_text.specs.Closings.{report_text}
+use Rattle.run_text.specs.Closings.{report_text}
 use Rattle.host.specs.Views.{HostView}
 use Rattle.completeness_laws.specs.Completes.{ReportsEnd}
 use Rattle.completeness_laws.proofs.Honest.{causes_honest}

@@ -15,8 +15,8 @@ use Rattle.master_spec.specs.declared.reports.Report.{Report}
 use Rattle.master_spec.specs.declared.reports.Report.TheVariants.{Finished}
 use Rattle.master_spec.specs.Course.{course}
 use Rattle.master_spec.specs.Setup.{setup_from}
-use Rattle.index_laws.specs.Runs.{course_at}
-use Rattle.scenario_laws.proofs.Scenarios.{events_reverse, finished_acknowledged}
+use Rattle.master_log_laws.specs.Index.Runs.{course_at}
+use Rattle.master_log_laws.proofs.Scenarios.Scenarios.{events_reverse, finished_acknowledged}
 use Rattle.log_spec.specs.Oldest.{Honest}
 use Rattle.rounds.specs.Rounds.{Rounds}
 use Rattle.rounds.specs.Told.{Follows}
@@ -24,12 +24,12 @@ use Rattle.slave_spec.specs.Slaves.{slave_rules_from}
 use Rattle.host.specs.declared.hosted.Hosted.{Hosted}
 use Rattle.host.specs.Hosting.{all_ends, hosted_from, is_hosted, master_of, slaves_of}
 use Rattle.host.specs.Views.{HostView, master_in, slaves_in}
-use Rattle.scenario_runs.specs.Runs.{IsWhole}
+use Rattle.host.specs.Runs.{IsWhole}
 use Rattle.run_laws.specs.Laws.{IsRunInRounds, parties, rules_of_slaves}
 use Rattle.run_laws.proofs.Rounded.{rounds_are_runs}
-use Rattle.headline_laws.specs.Headline.{IsInLockstep, KeepsToReference}
-use Rattle.headline_laws.proofs.Headline.{keep_to_reference}
-use Rattle.report_text.specs.Closings.{reference_text, report_text}
+use Rattle.run_laws.specs.Headline.Headline.{IsInLockstep, KeepsToReference}
+use Rattle.run_laws.proofs.Headline.Headline.{keep_to_reference}
+use Rattle.run_text.specs.Closings.{reference_text, report_text}
 use Rattle.run_text.proofs.Outputs.{table_is_rows}
 use Rattle.commands.specs.InStep.{IsInStepIfHonest, PrintsReference, SumsInStep}
 use Rattle.commands.specs.SaysRun.{master_events, report_after, run_text}

@@ -3,11 +3,11 @@ use Rattle.std.proofs.Common.{◌≡◌, ◌⊎◌, inl, inr, ℕ, false, true�
 use Rattle.std.specs.Prelude.{ℤ, ◌==◌, ◌++◌, ◌≤◌, IfSome, length}
 use Rattle.dcp_ends.specs.declared.entries.LogEntry.{LogEntry}
 use Rattle.slave_desc.specs.declared.descriptions.SlaveDesc.{SlaveDesc}
-use Rattle.byte_spool.specs.declared.outputs.Delivery.TheVariants.{Whole}
+use Rattle.dcp_io.specs.declared.outputs.Delivery.TheVariants.{Whole}
 use Rattle.log_spec.specs.Oldest.{Honest}
 use Rattle.master_spec.specs.declared.reports.Report.{Report}
 use Rattle.master_spec.specs.declared.reports.Report.TheVariants as reports
-use Rattle.net_laws.proofs.Honesty.{honest}
+use Rattle.run_laws.proofs.Honesty.{honest}
 use Rattle.net_world.specs.Calls.{AllRecent, Carried, GivesDue}
 use Rattle.net_world.specs.World.{calls_of, carried_opening}
 use Rattle.rounds.specs.Steps.{without_turns}

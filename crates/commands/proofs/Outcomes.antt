@@ -1,10 +1,10 @@
 -- What was made of an input and written is the outcome of its status.
 use Rattle.std.proofs.Common.{◌≡◌, ◌⊎◌, ◌≤◌, inl, inr, ℕ, suc, List, [], length, Option, Some, refl, sym, ap, subst, ◌∙◌}
 use Rattle.dcp_io.specs.Faults.{Rose}
-use Rattle.byte_spool.specs.declared.outputs.Delivery.{Delivery}
-use Rattle.byte_spool.specs.declared.outputs.Delivery.TheVariants.{Whole, Cut}
-use Rattle.byte_spool.specs.Outputs.{Delivers}
-use Rattle.byte_spool.proofs.Pieces.{nothing_added}
+use Rattle.dcp_io.specs.declared.outputs.Delivery.{Delivery}
+use Rattle.dcp_io.specs.declared.outputs.Delivery.TheVariants.{Whole, Cut}
+use Rattle.dcp_io.specs.Outputs.{Delivers}
+use Rattle.dcp_io.proofs.Pieces.{nothing_added}
 use Rattle.host.specs.Views.{HostView, master_in, slaves_in}
 use Rattle.master_spec.specs.declared.reports.Report.{Report}
 use Rattle.master_spec.specs.declared.reports.Report.TheVariants as reports
@@ -12,8 +12,8 @@ use Rattle.std.specs.Prelude.{All, Err, IfSome, reverse}
 use Rattle.rounds.specs.Told.{Follows}
 use Rattle.master_spec.specs.Rules.{MasterRun}
 use Rattle.scenario.specs.Sound.{IsScenario}
-use Rattle.scenario_laws.proofs.Scenarios.{failed_first, finished_acknowledged}
-use Rattle.finish_laws.proofs.Whole.{finished_is_exchanged}
+use Rattle.master_log_laws.proofs.Scenarios.Scenarios.{failed_first, finished_acknowledged}
+use Rattle.master_log_laws.proofs.Finish.Whole.{finished_is_exchanged}
 use Rattle.host.specs.Hosting.{all_ends, master_of}
 use Rattle.dcp_ends.specs.Logs.{events_at}
 use Rattle.scenario.specs.declared.scenarios.Scenario.{Scenario}

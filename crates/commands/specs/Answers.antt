@@ -1,7 +1,7 @@
 -- What an answer holds, and what is delivered of it.
 use Rattle.std.specs.Prelude.{◌≡◌, ◌≢◌, ℕ, ◌≤◌, List, [], length, Option, Some, None, IfSome, All}
-use Rattle.byte_spool.specs.declared.outputs.Delivery.{Delivery}
-use Rattle.byte_spool.specs.Outputs.{Delivers}
+use Rattle.dcp_io.specs.declared.outputs.Delivery.{Delivery}
+use Rattle.dcp_io.specs.Outputs.{Delivers}
 use Rattle.scenario.specs.Sound.{IsScenario}
 use Rattle.master_spec.specs.declared.reports.Report.{Report}
 use Rattle.rounds.specs.Told.{Follows}

@@ -10,7 +10,7 @@ use Rattle.master_spec.specs.declared.causes.Cause.{Cause}
 use Rattle.master_spec.specs.declared.reports.Report.{Report}
 use Rattle.master_spec.specs.declared.reports.Report.TheVariants as reports
 use Rattle.master_spec.specs.Setup.{setup_from}
-use Rattle.report_text.specs.Closings.{report_text}
+use Rattle.run_text.specs.Closings.{report_text}
 use Rattle.run_laws.specs.Laws.{parties}
 use Rattle.completeness_laws.specs.Completes.{ReportsEnd}
 use Rattle.completeness_laws.specs.Honest.{IsHonestFailure}

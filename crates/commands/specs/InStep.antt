@@ -6,10 +6,10 @@ use Rattle.scenario.specs.declared.scenarios.Scenario.{Scenario}
 use Rattle.lockstep.specs.declared.references.RefFault.{RefFault}
 use Rattle.master_spec.specs.declared.reports.Report.{Report}
 use Rattle.master_spec.specs.declared.reports.Report.TheVariants.{Finished}
-use Rattle.report_text.specs.Closings.{reference_text, report_text}
+use Rattle.run_text.specs.Closings.{reference_text, report_text}
 use Rattle.log_spec.specs.Oldest.{Honest}
 use Rattle.run_laws.specs.Laws.{parties}
-use Rattle.headline_laws.specs.Headline.{KeepsToReference}
+use Rattle.run_laws.specs.Headline.Headline.{KeepsToReference}
 
 -- The rows that are printed are a front of the reference's. Where the run finished they are all of them, and the reference has no fault: the text is what `reference` prints of the scenario.
 pub record PrintsReference (sc : Scenario) (rows : List (List ℤ)) (fault : Option RefFault) (report : Report) (text : List ℕ) : Type 0 where

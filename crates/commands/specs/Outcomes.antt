@@ -1,6 +1,6 @@
 -- What a call of the program answers, by its status: why, what of the source was taken, and what was written.
 use Rattle.std.specs.Prelude.{◌≡◌, ◌⊎◌, ℕ, true, List, [], codes}
-use Rattle.command_line.specs.Lines.{is_line}
+use Rattle.commands.specs.Lines.{is_line}
 use Rattle.commands.specs.declared.command_words.Command.{Command}
 use Rattle.commands.specs.declared.answers.Unsaid.TheVariants as unsaid
 use Rattle.commands.specs.declared.statuses.Status.{Status}
@@ -8,8 +8,8 @@ use Rattle.commands.specs.declared.statuses.Status.TheVariants.{Done, Usage, Bad
 use Rattle.commands.specs.declared.statuses.Judgement.{Judgement}
 use Rattle.commands.specs.declared.statuses.Judgement.TheVariants.{Good, Failed, Refused}
 use Rattle.commands.specs.declared.statuses.Judgement.TheVariants as judged
-use Rattle.byte_spool.specs.declared.outputs.Delivery.{Delivery}
-use Rattle.byte_spool.specs.declared.outputs.Delivery.TheVariants.{Whole, Cut}
+use Rattle.dcp_io.specs.declared.outputs.Delivery.{Delivery}
+use Rattle.dcp_io.specs.declared.outputs.Delivery.TheVariants.{Whole, Cut}
 use Rattle.run_text.specs.Runs.{DeliversBoth}
 use Rattle.commands.specs.Changes.{RunChange, NetChange, HasFailed, HasNotFailed, IsUntouched}
 use Rattle.commands.specs.CommandWords.{Names, IsCommand}

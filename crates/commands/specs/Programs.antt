@@ -1,7 +1,7 @@
 -- How the program ends over a reader and two writers.
 use Rattle.std.specs.Prelude.{◌≡◌, ℕ, List, [], ◌++◌, reverse, Option, Some, MatchOption}
 use Rattle.std.specs.Io.KnownBytes.{Appends}
-use Rattle.byte_spool.specs.declared.outputs.Delivery.TheVariants.{Whole}
+use Rattle.dcp_io.specs.declared.outputs.Delivery.TheVariants.{Whole}
 use Rattle.dcp_ends.specs.declared.entries.LogEntry.{LogEntry}
 use Rattle.slave_desc.specs.declared.descriptions.SlaveDesc.{SlaveDesc}
 use Rattle.master_spec.specs.declared.reports.Report.{Report}

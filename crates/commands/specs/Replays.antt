@@ -2,8 +2,8 @@
 use Rattle.std.specs.Prelude.{◌≡◌, ℕ, List, Option, reverse}
 use Rattle.dcp_ends.specs.Logs.{events_at}
 use Rattle.dcp_ends.specs.declared.entries.LogEntry.{LogEntry}
-use Rattle.byte_spool.specs.declared.outputs.Delivery.{Delivery}
-use Rattle.byte_spool.specs.Outputs.{Delivers}
+use Rattle.dcp_io.specs.declared.outputs.Delivery.{Delivery}
+use Rattle.dcp_io.specs.Outputs.{Delivers}
 use Rattle.dcp_record.specs.Words.{trace_word}
 use Rattle.dcp_record.specs.declared.faults.TraceWhy.TheVariants.{Header}
 use Rattle.scenario.specs.declared.scenarios.Scenario.{Scenario}

@@ -2,7 +2,7 @@
 use Rattle.std.specs.Prelude.{ℕ, List, codes}
 use Rattle.commands.specs.declared.said.Text.{Text}
 use Rattle.commands.specs.declared.said.Text.TheVariants.{Whole, PastLimit, Rows}
-use Rattle.report_text.specs.Closings.{reference_text}
+use Rattle.run_text.specs.Closings.{reference_text}
 
 -- the line of a text that is longer than an input may be
 abbrev pub past_limit : List ℕ

@@ -11,7 +11,7 @@ use Rattle.lockstep.specs.Lockstep.{IsReference}
 use Rattle.commands.specs.declared.statuses.Judgement.{Judgement}
 use Rattle.commands.specs.declared.statuses.Judgement.TheVariants as judged
 use Rattle.commands.specs.Refusals.{line_refusal}
-use Rattle.report_text.specs.Closings.{reference_text}
+use Rattle.run_text.specs.Closings.{reference_text}
 
 -- the rows of the scenario that it is, and the line after them; or the first line that is refused
 abbrev pub SaysReference : List ℕ → Judgement → List ℕ → Type 0

@@ -17,12 +17,12 @@ use Rattle.master_spec.specs.Exchanged.{AllExchanged}
 use Rattle.master_spec.specs.Shown.{First}
 use Rattle.master_spec.specs.Course.{course}
 use Rattle.master_spec.specs.Setup.{setup_from}
-use Rattle.exchange_laws.specs.Laws.{IsFinished}
+use Rattle.master_log_laws.specs.Exchanges.Laws.{IsFinished}
 use Rattle.run_text.specs.Runs.{all_bits, text_after}
 use Rattle.rounds.specs.Told.{Follows}
 use Rattle.host.specs.Hosting.{all_ends, opening_of}
 use Rattle.host.specs.Views.{HostView, Tells, master_in, slaves_in}
-use Rattle.scenario_runs.specs.Runs.{IsWhole}
+use Rattle.host.specs.Runs.{IsWhole}
 use Rattle.commands.specs.declared.answers.Unsaid.{Unsaid}
 use Rattle.commands.specs.declared.answers.Unsaid.TheVariants.{NetFault, OutOfMemory}
 use Rattle.commands.specs.declared.statuses.Judgement.{Judgement}

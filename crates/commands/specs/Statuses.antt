@@ -8,8 +8,8 @@ use Rattle.commands.specs.declared.statuses.Judgement.TheVariants as judged
 use Rattle.master_spec.specs.declared.reports.Report.{Report}
 use Rattle.master_spec.specs.declared.reports.Report.TheVariants.{Finished}
 use Rattle.master_spec.specs.declared.reports.Report.TheVariants as reports
-use Rattle.byte_spool.specs.declared.outputs.Delivery.{Delivery}
-use Rattle.byte_spool.specs.declared.outputs.Delivery.TheVariants.{Whole, Cut}
+use Rattle.dcp_io.specs.declared.outputs.Delivery.{Delivery}
+use Rattle.dcp_io.specs.declared.outputs.Delivery.TheVariants.{Whole, Cut}
 
 abbrev pub status_code : Status → ℕ
 status_code Done = 0

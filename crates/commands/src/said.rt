@@ -1,15 +1,14 @@
 //! What a command says, and the writing of it.
 
 ghost use Rattle.std.specs.Prelude.{◌≡◌};
-ghost use Rattle.byte_spool.specs.Outputs.{Delivers};
+ghost use Rattle.dcp_io.specs.Outputs.{Delivers};
 ghost use Rattle.commands.specs.Said.{text_of};
-ghost use Rattle.report_text.specs.Closings.{reference_text};
+ghost use Rattle.run_text.specs.Closings.{reference_text};
 
 use crate::statuses::Judgement;
-use byte_spool::{Delivery, Spool, write_all};
-use dcp_io::Sink;
+use dcp_io::{Delivery, Sink, Spool, write_all};
 use lockstep::Reference;
-use report_text::{put_reference_line, put_reference_rows};
+use run_text::{put_reference_line, put_reference_rows};
 
 /// What a command says of an input.
 #[derive(Drop)]

@@ -4,7 +4,7 @@ ghost use Rattle.std.specs.Prelude.{◌≡◌};
 ghost use Rattle.std.specs.Process.{exit_status};
 ghost use Rattle.commands.specs.Statuses.{status_after, status_code};
 
-use byte_spool::Delivery;
+use dcp_io::Delivery;
 use std::process::ExitCode;
 
 /// How a call ended. The exit status of the program is the variant's number, from 0.

@@ -12,8 +12,7 @@ use crate::inputs::{Gathered, input_for};
 use crate::says::say;
 use crate::statuses::Status;
 use crate::word_lists::{Named, Words};
-use byte_spool::write_all;
-use dcp_io::{Sink, Source};
+use dcp_io::{Sink, Source, write_all};
 use dcp_net::Net;
 use std::alloc::Global;
 

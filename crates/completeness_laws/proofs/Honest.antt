@@ -8,7 +8,7 @@ use Rattle.master_spec.specs.declared.causes.Cause.{Cause}
 use Rattle.master_spec.specs.declared.causes.Cause.TheVariants as causes
 use Rattle.master_spec.specs.declared.reports.Report.TheVariants as reports
 use Rattle.master_spec.specs.Setup.{setup_from}
-use Rattle.index_laws.specs.Runs.{course_at}
+use Rattle.master_log_laws.specs.Index.Runs.{course_at}
 use Rattle.run_laws.specs.Laws.{IsRunOf, IsRunInRounds}
 use Rattle.run_laws.proofs.Rounded.{rounds_are_runs}
 use Rattle.completeness_laws.specs.Honest.{HasHonestReason, CausesAreHonest}

@@ -8,12 +8,12 @@ use Rattle.scenario.specs.declared.scenarios.Scenario.{Scenario}
 use Rattle.scenario.specs.Sound.{IsScenario}
 use Rattle.lockstep.specs.declared.references.RefFault.{RefFault}
 use Rattle.lockstep.specs.Lockstep.{IsReference}
-use Rattle.slave_holds.specs.Models.{plant_at}
+use Rattle.slave_laws.specs.Model.Models.{plant_at}
 use Rattle.master_spec.specs.declared.causes.Cause.{Cause}
 use Rattle.master_spec.specs.declared.causes.Cause.TheVariants as causes
 use Rattle.master_spec.specs.declared.reports.Report.TheVariants as reports
 use Rattle.master_spec.specs.Setup.{setup_from}
-use Rattle.index_laws.specs.Runs.{course_at}
+use Rattle.master_log_laws.specs.Index.Runs.{course_at}
 use Rattle.run_laws.specs.Laws.{parties, slave_setup_of, IsRunOf}
 use Rattle.completeness_laws.specs.Reasons.{HeartbeatWasMissed, IsFaultOf}
 

@@ -15,8 +15,8 @@ use Rattle.master_spec.specs.declared.setups.Slave.{Slave}
 use Rattle.master_spec.specs.declared.setups.Setup.{Setup}
 use Rattle.master_spec.specs.Setup.{setup_from}
 use Rattle.master_spec.specs.Exchanged.{IsIn}
-use Rattle.index_laws.specs.Runs.{course_at, IsRun}
-use Rattle.failure_laws.specs.Laws.{IsSetup}
+use Rattle.master_log_laws.specs.Index.Runs.{course_at, IsRun}
+use Rattle.master_log_laws.specs.Failures.Laws.{IsSetup}
 use Rattle.run_laws.specs.Laws.{parties, IsRunInRounds}
 use Rattle.completeness_laws.specs.Timely.{longest_wait, Roomy, Timely}
 use Rattle.completeness_laws.specs.Reasons.{RetriesWait, WasQuiet}

@@ -11,8 +11,8 @@ use Rattle.master_spec.specs.declared.setups.Slave.{Slave}
 use Rattle.master_spec.specs.Exchanged.{IsIn}
 use Rattle.master_spec.specs.Setup.{setup_from}
 use Rattle.master_spec.specs.Shown.{Shown}
-use Rattle.index_laws.specs.Runs.{course_at}
-use Rattle.model_laws.specs.Scenarios.{slave_numbered}
+use Rattle.master_log_laws.specs.Index.Runs.{course_at}
+use Rattle.lockstep_laws.specs.Models.Scenarios.{slave_numbered}
 use Rattle.run_laws.specs.Laws.{parties, IsRunInRounds}
 use Rattle.completeness_laws.specs.AnswerCauses.{IsOfHeartbeat, IsOfReference, IsRefusedInError}
 use Rattle.completeness_laws.specs.Reasons.{InputsWereSent}

@@ -16,9 +16,9 @@ use Rattle.master_spec.specs.News.{news_of, Brings}
 use Rattle.master_spec.specs.Requests.{Asking, asks, is_step, of_phase, is_turn_of, turns_before}
 use Rattle.master_spec.specs.Exchanged.{IsDecided, entry_at}
 use Rattle.master_spec.specs.Shown.{Shown}
-use Rattle.index_laws.specs.Runs.{course_at}
-use Rattle.model_laws.specs.Scenarios.{slave_numbered}
-use Rattle.slave_laws.specs.Whole.{slaves_asked}
+use Rattle.master_log_laws.specs.Index.Runs.{course_at}
+use Rattle.lockstep_laws.specs.Models.Scenarios.{slave_numbered}
+use Rattle.slave_laws.specs.Data.Whole.{slaves_asked}
 use Rattle.completeness_laws.specs.StepPhases.{phase_of_step}
 
 -- ---- inputs that were missing

@@ -10,9 +10,9 @@ use Rattle.master_spec.specs.declared.causes.Cause.TheVariants as causes
 use Rattle.master_spec.specs.declared.reports.Report.TheVariants as reports
 use Rattle.master_spec.specs.Setup.{setup_from}
 use Rattle.master_spec.specs.Rules.{MasterRun}
-use Rattle.index_laws.specs.Runs.{course_at}
-use Rattle.model_laws.specs.Scenarios.{slave_numbered}
-use Rattle.scenario_laws.specs.Laws.{course_after}
+use Rattle.master_log_laws.specs.Index.Runs.{course_at}
+use Rattle.lockstep_laws.specs.Models.Scenarios.{slave_numbered}
+use Rattle.master_log_laws.specs.Scenarios.Laws.{course_after}
 use Rattle.run_laws.specs.Laws.{parties, IsRunInRounds}
 use Rattle.completeness_laws.specs.Moments.{EndsHere}
 use Rattle.completeness_laws.specs.Unheard.{IsUnheard}

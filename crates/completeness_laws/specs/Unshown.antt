@@ -9,7 +9,7 @@ use Rattle.log_spec.specs.Messages.{Note, Value}
 use Rattle.log_spec.specs.Log.{Parties, role_heard, values_sent}
 use Rattle.master_spec.specs.Setup.{setup_from}
 use Rattle.master_spec.specs.Requests.{is_turn_of}
-use Rattle.index_laws.specs.Runs.{course_at}
+use Rattle.master_log_laws.specs.Index.Runs.{course_at}
 use Rattle.run_laws.specs.Laws.{parties}
 use Rattle.completeness_laws.specs.StepPhases.{outputs_phase}
 use Rattle.completeness_laws.specs.Unheard.{NeverComes}

@@ -10,6 +10,6 @@ mod planning;
 mod plans;
 mod setups;
 
-pub use plan_spec::DataLink;
+pub use master_spec::DataLink;
 pub use planning::plan;
 pub use plans::Plan;

@@ -12,9 +12,9 @@ use Rattle.pdu_layout.specs.declared.messages.Cfg.{Cfg}
 use Rattle.pdu_layout.specs.declared.messages.Cfg.TheVariants as cfg
 use Rattle.pdu_layout.specs.declared.messages.Inf.TheVariants as inf
 use Rattle.slave_desc.specs.declared.descriptions.SlaveDesc.{SlaveDesc}
-use Rattle.slave_wiring.specs.Changes as wiring
-use Rattle.slave_wiring.specs.Changes.{output, target, ordinal}
-use Rattle.slave_wiring.specs.Payloads.{data_message}
+use Rattle.slave_spec.specs.Changes as wiring
+use Rattle.slave_spec.specs.Changes.{output, target, ordinal}
+use Rattle.slave_spec.specs.Payloads.{data_message}
 use Rattle.slave_spec.specs.Turns.{is_missed}
 use Rattle.slave_spec.specs.declared.words.Asked.{Asked}
 use Rattle.slave_spec.specs.declared.words.Asked.TheVariants.{Change, Setting, Question}

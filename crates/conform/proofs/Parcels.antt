@@ -3,7 +3,7 @@ use Rattle.std.proofs.Common.{◌≡◌, ℕ, ◌&&◌, Bool, true, false, List,
 use Rattle.dcp_types.specs.declared.addresses.Address.{Address}
 use Rattle.dcp_ends.specs.Events.{Event, Send}
 use Rattle.slave_desc.specs.declared.descriptions.SlaveDesc.{SlaveDesc}
-use Rattle.slave_wiring.specs.Changes.{Change, output, ids, target, is_due}
+use Rattle.slave_spec.specs.Changes.{Change, output, ids, target, is_due}
 use Rattle.slave_spec.specs.Transport.{Parcel, parcel_send}
 use Rattle.foreign_spec.specs.Foreign.{ForeignState, IsParcel, AreParcels, FirstThen, due_ids, MaySendAt}
 use Rattle.foreign_spec.specs.Standpoints.{Within, MayGoOn}

@@ -10,8 +10,8 @@ use Rattle.dcp_ends.specs.Events.{Send}
 use Rattle.pdu_layout.specs.Reading.{spelling}
 use Rattle.slave_desc.specs.declared.ports.Port.{Port}
 use Rattle.slave_desc.specs.declared.descriptions.SlaveDesc.{SlaveDesc}
-use Rattle.slave_wiring.specs.Changes.{Change, output, target, ordinal}
-use Rattle.slave_wiring.specs.Payloads.{payload, data_message, values_fit_ports, IsMessage, IsBuilt}
+use Rattle.slave_spec.specs.Changes.{Change, output, target, ordinal}
+use Rattle.slave_spec.specs.Payloads.{payload, data_message, values_fit_ports, IsMessage, IsBuilt}
 use Rattle.slave_spec.specs.Transport.{Parcel, parcel_send}
 use Rattle.foreign_spec.specs.Foreign.{values_size}
 use Rattle.foreign_spec.proofs.Sizes.{payload_length}

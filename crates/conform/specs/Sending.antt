@@ -4,8 +4,8 @@ use Rattle.dcp_types.specs.declared.addresses.Address.{Address}
 use Rattle.dcp_ends.specs.Events.{Send}
 use Rattle.pdu_layout.specs.Reading.{spelling}
 use Rattle.slave_desc.specs.declared.descriptions.SlaveDesc.{SlaveDesc}
-use Rattle.slave_wiring.specs.Changes.{Change, output, ids, target, is_due, ordinal}
-use Rattle.slave_wiring.specs.Payloads.{data_message}
+use Rattle.slave_spec.specs.Changes.{Change, output, ids, target, is_due, ordinal}
+use Rattle.slave_spec.specs.Payloads.{data_message}
 use Rattle.slave_spec.specs.Transport.{Parcel, parcel_send}
 use Rattle.foreign_spec.specs.Foreign.{IsParcel, values_size}
 

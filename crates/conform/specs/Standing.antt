@@ -10,7 +10,7 @@ use Rattle.slave_spec.specs.declared.words.Session.TheVariants.{During}
 use Rattle.slave_spec.specs.Transport.{Ack, Parcel, Changed, fate, sends, after, expected, send, notice_message, parcel_send, quieter}
 use Rattle.slave_spec.specs.Turns.{is_missed}
 use Rattle.slave_states.specs.Transitions.{next_on_turn}
-use Rattle.slave_wiring.specs.Changes.{output, ids}
+use Rattle.slave_spec.specs.Changes.{output, ids}
 use Rattle.conform.specs.Sending.{goes_out, ids_from}
 use Rattle.dcp_types.specs.declared.states.State.{State}
 use Rattle.dcp_types.specs.declared.states.State.TheVariants.{Initializing, Computing, ErrorHandling}

@@ -4,7 +4,7 @@ ghost use Rattle.std.specs.Prelude.{◌≡◌, ◌<◌, ◌≤◌, ◌++◌, ◌
 ghost use Rattle.dcp_ends.specs.Events.{Event, Gram, Tick, Send};
 ghost use Rattle.slave_desc.specs.declared.descriptions.SlaveDesc.{SlaveDesc};
 ghost use Rattle.slave_desc.specs.Descriptions.{IsDesc};
-ghost use Rattle.slave_wiring.specs.Changes.{output, ids};
+ghost use Rattle.slave_spec.specs.Changes.{output, ids};
 ghost use Rattle.slave_spec.specs.declared.words.Session.TheVariants.{During};
 ghost use Rattle.slave_spec.specs.Heard.{heard, Asks, Brings};
 ghost use Rattle.slave_spec.specs.Transport.{Exchange, fate_in, send, answer_message, Nack, expected, after_heard};

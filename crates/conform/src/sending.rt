@@ -3,15 +3,15 @@
 ghost use Rattle.std.specs.Prelude.{◌≡◌, ◌≤◌, ◌<◌, ◌+◌, ℕ, [], length, take, slice_get, Some, None, is_some, IfSome, MatchBool, MatchOption};
 ghost use Rattle.dcp_types.specs.declared.addresses.Address.{Address};
 ghost use Rattle.slave_desc.specs.declared.descriptions.SlaveDesc.{SlaveDesc};
-ghost use Rattle.slave_wiring.specs.Changes.{output, ids};
-ghost use Rattle.slave_wiring.specs.Changes as wiring;
+ghost use Rattle.slave_spec.specs.Changes.{output, ids};
+ghost use Rattle.slave_spec.specs.Changes as wiring;
 ghost use Rattle.foreign_spec.specs.Foreign.{ForeignPlant};
 ghost use Rattle.conform.specs.Plants.{ForeignFor};
 ghost use Rattle.conform.specs.Sending.{goes_out, ids_from, IsDataTo, IsSample, IsNextId};
 
 use crate::plants::ForeignDevice;
 use dcp_types::Address;
-use slave_wiring::Wired;
+use slave_spec::Wired;
 
 /// A data message has so many bytes before its values: its type code, its number, and its id.
 const HEAD: usize = 5;

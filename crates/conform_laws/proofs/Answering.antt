@@ -5,7 +5,7 @@ use Rattle.dcp_types.specs.declared.data_types.DataType.{DataType}
 use Rattle.dcp_types.specs.declared.data_types.DataType.TheVariants.{I64}
 use Rattle.dcp_types.specs.Values.{fits}
 use Rattle.fixed_models.specs.Kinds.{takes}
-use Rattle.slave_wiring.specs.Refusals.{refused_unless}
+use Rattle.slave_spec.specs.Refusals.{refused_unless}
 use Rattle.dcp_types.specs.declared.states.State.{State}
 use Rattle.dcp_types.specs.declared.states.State.TheVariants.{Configuration}
 use Rattle.dcp_types.specs.declared.error_codes.ErrorCode.{ErrorCode}

@@ -16,8 +16,8 @@ use Rattle.fixed_models.specs.Rows as rows
 use Rattle.fixed_models.specs.Views.{View, step_of}
 use Rattle.slave_desc.specs.declared.descriptions.SlaveDesc.{SlaveDesc}
 use Rattle.slave_states.specs.Transitions.{next_on_turn}
-use Rattle.slave_wiring.specs.Changes.{Change, output, target, ordinal}
-use Rattle.slave_wiring.specs.Payloads.{wired_values, payload, data_message}
+use Rattle.slave_spec.specs.Changes.{Change, output, target, ordinal}
+use Rattle.slave_spec.specs.Payloads.{wired_values, payload, data_message}
 use Rattle.slave_spec.specs.declared.words.SlaveSetup.{SlaveSetup}
 use Rattle.slave_spec.specs.declared.words.LogRemark.{LogRemark}
 use Rattle.slave_spec.specs.Transport.{Ack, Notice, Changed, Parcel, Turned, turned_sends, notice_sends, parcel_send}

@@ -2,3 +2,6 @@ pub mod Faults
 pub mod Calls
 pub mod Memory
 pub mod Turns
+pub mod Outputs
+pub mod Unwritten
+pub mod Spools

@@ -1,9 +1,9 @@
 -- One piece after another.
 use Rattle.std.proofs.Common.{◌≡◌, ℕ, ◌+◌, ◌-◌, ◌<◌, ◌≤◌, List, [], ◌∷◌, ◌++◌, length, take, drop, get_or, Option, refl, sym, ap, subst, ◌∙◌, append_assoc, arith}
 use Rattle.std.proofs.lemmas.List.{append-nil, take_more}
-use Rattle.byte_spool.specs.Spools.{Spooled}
-use Rattle.byte_spool.proofs.Pieces.{take-add}
-use Rattle.byte_spool.specs.Unwritten.{Unwritten}
+use Rattle.dcp_io.specs.Spools.{Spooled}
+use Rattle.dcp_io.proofs.Pieces.{take-add}
+use Rattle.dcp_io.specs.Unwritten.{Unwritten}
 use Rattle.dcp_ends.specs.declared.entries.LogEntry.{LogEntry}
 use Rattle.dcp_record.specs.Puts.{Puts}
 use Rattle.dcp_record.specs.Traces.{all_entry_bytes, log_entry_bytes}

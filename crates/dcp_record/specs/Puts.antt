@@ -1,8 +1,8 @@
 -- What a call puts behind the text that a spool was given before.
 use Rattle.std.specs.Prelude.{ℕ, List, ◌++◌, Option, Result, Ok, Err}
-use Rattle.byte_spool.specs.Outputs.{WroteAll, WroteFront}
-use Rattle.byte_spool.specs.Spools.{Spooled}
-use Rattle.byte_spool.specs.Unwritten.{Unwritten}
+use Rattle.dcp_io.specs.Outputs.{WroteAll, WroteFront}
+use Rattle.dcp_io.specs.Spools.{Spooled}
+use Rattle.dcp_io.specs.Unwritten.{Unwritten}
 use Rattle.dcp_record.specs.declared.writers.SinkFault.{SinkFault}
 
 -- a sink that told `was` and now tells `is`, with its counts of faults, and a spool before and after

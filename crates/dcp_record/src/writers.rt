@@ -6,9 +6,8 @@ ghost use Rattle.dcp_record.specs.Puts.{Puts, Records};
 ghost use Rattle.dcp_ends.specs.Logs.{IsInRange};
 ghost use Rattle.dcp_record.specs.Traces.{address_bytes, all_entry_bytes, log_entry_bytes, header_bytes, payload_bytes, trace_bytes};
 
-use byte_spool::{Delivery, Spool};
 use dcp_ends::LogEntry;
-use dcp_io::Sink;
+use dcp_io::{Delivery, Sink, Spool};
 use dcp_types::Address;
 
 /// The letters DCPR and the version.

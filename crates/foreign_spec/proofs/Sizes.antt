@@ -7,9 +7,9 @@ use Rattle.dcp_types.specs.Values.{width, value_bytes}
 use Rattle.dcp_types.proofs.Digits.{length-digits}
 use Rattle.slave_desc.specs.declared.ports.Port.{Port}
 use Rattle.slave_desc.specs.declared.descriptions.SlaveDesc.{SlaveDesc}
-use Rattle.slave_wiring.specs.Changes.{Change, output, entries}
-use Rattle.slave_wiring.specs.Refusals.{port_with}
-use Rattle.slave_wiring.specs.Payloads.{payload, port_type, bytes_for, output_value}
+use Rattle.slave_spec.specs.Changes.{Change, output, entries}
+use Rattle.slave_spec.specs.Refusals.{port_with}
+use Rattle.slave_spec.specs.Payloads.{payload, port_type, bytes_for, output_value}
 use Rattle.foreign_spec.specs.Foreign.{values_size}
 
 bytes_length : (kind : DataType) (z : ℤ) → length (value_bytes kind z) ≡ width kind

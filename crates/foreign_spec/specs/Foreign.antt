@@ -19,9 +19,9 @@ use Rattle.pdu_layout.specs.Message.{Message}
 use Rattle.pdu_layout.specs.Fields.FieldValue.{Number, Bytes}
 use Rattle.slave_desc.specs.declared.descriptions.SlaveDesc.{SlaveDesc}
 use Rattle.slave_states.specs.Transitions.{is_passing, next_on_turn}
-use Rattle.slave_wiring.specs.Changes as wiring
-use Rattle.slave_wiring.specs.Changes.{output, ids, entries, target, is_due, ordinal}
-use Rattle.slave_wiring.specs.Payloads.{WiringState, bare_wires, types_in, data_message, brought}
+use Rattle.slave_spec.specs.Changes as wiring
+use Rattle.slave_spec.specs.Changes.{output, ids, entries, target, is_due, ordinal}
+use Rattle.slave_spec.specs.Payloads.{WiringState, bare_wires, types_in, data_message, brought}
 use Rattle.slave_spec.specs.declared.words.SlaveSetup.{SlaveSetup}
 use Rattle.slave_spec.specs.declared.words.SlaveRequest.{SlaveRequest}
 use Rattle.slave_spec.specs.declared.words.Asked.{Asked}

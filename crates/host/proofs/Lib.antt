@@ -5,3 +5,4 @@ pub mod Follow
 pub mod AllOver
 pub mod Found
 pub mod TheEnds
+pub mod Onward

@@ -2,3 +2,4 @@ pub mod Hosting
 pub mod Views
 pub mod Seats
 pub mod Hosts
+pub mod Runs

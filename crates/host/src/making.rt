@@ -12,12 +12,12 @@ use crate::copies::copied_desc;
 use crate::hosted::Hosted;
 use crate::seated::Seated;
 use config_plan::plan;
-use dcp_slave::{SlaveEnd, new_slave};
 use dcp_types::OutOfMemory;
 use master_core::MasterCore;
 use rounds::Seat;
 use scenario::Scenario;
 use slave_desc::SlaveDesc;
+use slave_device::{SlaveEnd, new_slave};
 use std::alloc::Global;
 
 /// The seat of the master.

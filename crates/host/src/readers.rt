@@ -13,12 +13,12 @@ use crate::hosted::Hosted;
 use crate::hosts::Host;
 use crate::making::{MasterSeat, SlaveSeat};
 use dcp_ends::{End, LogEntry};
-use dcp_slave::SlaveEnd;
 use dcp_types::{FaultCode, State};
 use master_core::{MasterCore, Report};
 use poll_loop::EndTask;
 use rounds::{HostFault, Seat};
 use scenario::{Scenario, slave_at};
+use slave_device::SlaveEnd;
 
 /// The place of a hosted slave among those that are hosted, from 0.
 fn place_of(scenario: &Scenario, hosted: Hosted, slave: u8) -> Option<usize>

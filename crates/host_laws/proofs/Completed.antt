@@ -17,11 +17,11 @@ use Rattle.scenario.specs.declared.scenarios.Scenario.{Scenario}
 use Rattle.scenario.specs.Sound.{IsScenario}
 use Rattle.master_spec.specs.Rules.{master_rules}
 use Rattle.slave_spec.specs.Slaves.{slave_rules_from}
-use Rattle.model_laws.specs.Scenarios.{slave_numbered}
+use Rattle.lockstep_laws.specs.Models.Scenarios.{slave_numbered}
 use Rattle.pdu_layout.specs.Reading.{message_in}
-use Rattle.model_laws.proofs.Scenarios.{has_parties}
+use Rattle.lockstep_laws.proofs.Models.Scenarios.{has_parties}
 use Rattle.run_laws.specs.Laws.{parties, slave_setup_of, IsRunOf}
-use Rattle.headline_laws.specs.Headline.{KeepsToReference}
+use Rattle.run_laws.specs.Headline.Headline.{KeepsToReference}
 use Rattle.host_laws.proofs.Left.{address_is, left_sent, one_end}
 use Rattle.host_laws.proofs.Fronts.{Calm, calm_more, ends_join, ends_sent, ends_turned, other_sent, rests}
 

@@ -20,11 +20,11 @@ use Rattle.scenario.specs.declared.scenarios.Scenario.{Scenario}
 use Rattle.scenario.specs.Sound.{IsScenario}
 use Rattle.master_spec.specs.Rules.{master_rules}
 use Rattle.slave_spec.specs.Slaves.{slave_rules_from}
-use Rattle.model_laws.specs.Scenarios.{slave_numbered}
-use Rattle.model_laws.proofs.Scenarios.{has_parties}
+use Rattle.lockstep_laws.specs.Models.Scenarios.{slave_numbered}
+use Rattle.lockstep_laws.proofs.Models.Scenarios.{has_parties}
 use Rattle.run_laws.specs.Laws.{parties, slave_setup_of, rules_of_slaves}
-use Rattle.headline_laws.specs.Headline.{KeepsToReference}
-use Rattle.headline_laws.proofs.Headline.{keep_to_reference}
+use Rattle.run_laws.specs.Headline.Headline.{KeepsToReference}
+use Rattle.run_laws.proofs.Headline.Headline.{keep_to_reference}
 use Rattle.host.specs.declared.hosted.Hosted.{Hosted}
 use Rattle.host.specs.Hosting.{is_hosted, hosted_from}
 use Rattle.host.specs.Views.{HostView, master_in, slaves_in}

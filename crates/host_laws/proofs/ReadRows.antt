@@ -14,9 +14,9 @@ use Rattle.master_spec.specs.declared.reports.Report.TheVariants.{Finished}
 use Rattle.master_spec.specs.Setup.{setup_from}
 use Rattle.master_spec.specs.Course.{Course, course}
 use Rattle.master_core.specs.Columns.{column_value}
-use Rattle.index_laws.specs.Runs.{course_at}
-use Rattle.scenario_laws.proofs.Scenarios.{events_reverse}
-use Rattle.headline_laws.specs.Headline.{IsInLockstep, KeepsToReference}
+use Rattle.master_log_laws.specs.Index.Runs.{course_at}
+use Rattle.master_log_laws.proofs.Scenarios.Scenarios.{events_reverse}
+use Rattle.run_laws.specs.Headline.Headline.{IsInLockstep, KeepsToReference}
 use Rattle.host.specs.Views.{HostView, course_in, report_in, row_count_in, row_value}
 use Rattle.host_laws.specs.Lockstep.{HostsAll, HostKeepsInStep}
 use Rattle.host_laws.specs.Readings.{OfReference}

@@ -11,23 +11,23 @@ use Rattle.dcp_ends.specs.Logs.{event_at, events_at, same_address}
 use Rattle.pdu_layout.specs.Reading.{message_in}
 use Rattle.log_spec.specs.Log.{Parties, IsSlaveOf, same}
 use Rattle.log_spec.specs.Oldest.{Honest}
-use Rattle.index_laws.proofs.ByEntry.{address_turned}
-use Rattle.master_meets.proofs.Asking.{same_as}
+use Rattle.master_log_laws.proofs.Index.ByEntry.{address_turned}
+use Rattle.master_laws.proofs.Meets.Asking.{same_as}
 use Rattle.fixed_models.specs.Steps.{start}
 use Rattle.slave_desc.specs.declared.descriptions.SlaveDesc.{SlaveDesc}
 use Rattle.scenario.specs.Sound.{IsSlave}
 use Rattle.scenario.specs.Lookups.{slave_at}
 use Rattle.lockstep.specs.Lockstep.{state}
 use Rattle.plan_laws.proofs.Planned.{slave_got}
-use Rattle.model_laws.specs.Scenarios.{slave_numbered}
-use Rattle.model_laws.proofs.Scenarios.{has_parties}
+use Rattle.lockstep_laws.specs.Models.Scenarios.{slave_numbered}
+use Rattle.lockstep_laws.proofs.Models.Scenarios.{has_parties}
 use Rattle.slave_spec.specs.declared.words.SlaveSetup.{SlaveSetup}
 use Rattle.slave_spec.specs.Plants.{Plant}
 use Rattle.slave_spec.specs.Slaves.{machine, slave_after, steps_after}
 use Rattle.slave_spec.specs.Transport as transport
-use Rattle.slave_meets.specs.Desks.{event_of, events_of_slave}
-use Rattle.slave_meets.proofs.Meets.{slave_is}
-use Rattle.slave_holds.specs.Models.{plant_at}
+use Rattle.slave_laws.specs.Talk.Desks.{event_of, events_of_slave}
+use Rattle.slave_laws.proofs.Talk.Meets.{slave_is}
+use Rattle.slave_laws.specs.Model.Models.{plant_at}
 use Rattle.run_laws.specs.Laws.{parties, slave_setup_of}
 use Rattle.host.specs.Hosting.{is_hosted, slave_setup}
 use Rattle.host.specs.Views.{HostView, of_slave, slave_in}

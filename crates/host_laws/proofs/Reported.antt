@@ -16,8 +16,8 @@ use Rattle.master_spec.specs.Course.{course}
 use Rattle.master_spec.specs.Rules.{master_rules}
 use Rattle.master_spec.specs.Setup.{setup_from}
 use Rattle.slave_spec.specs.Slaves.{slave_rules_from}
-use Rattle.index_laws.specs.Runs.{course_at}
-use Rattle.scenario_laws.proofs.Scenarios.{events_reverse}
+use Rattle.master_log_laws.specs.Index.Runs.{course_at}
+use Rattle.master_log_laws.proofs.Scenarios.Scenarios.{events_reverse}
 use Rattle.run_laws.specs.Laws.{parties, slave_setup_of, rules_of_slaves, IsRunInRounds}
 use Rattle.completeness_laws.proofs.Honest.{causes_honest}
 use Rattle.completeness_laws.proofs.Timely.Reasoned.{completes}

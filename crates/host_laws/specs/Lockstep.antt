@@ -6,7 +6,7 @@ use Rattle.rounds.specs.Rounds.{Rounds, IsRoundPart}
 use Rattle.slave_desc.specs.declared.descriptions.SlaveDesc.{SlaveDesc}
 use Rattle.scenario.specs.Sound.{IsScenario, IsSlave}
 use Rattle.run_laws.specs.Laws.{parties}
-use Rattle.headline_laws.specs.Headline.{KeepsToReference}
+use Rattle.run_laws.specs.Headline.Headline.{KeepsToReference}
 use Rattle.host.specs.Hosting.{is_hosted}
 use Rattle.host.specs.Views.{HostView, master_in, slaves_in}
 

@@ -1,7 +1,7 @@
 -- What was made of a text and written is the outcome of its status.
 use Rattle.std.proofs.Common.{◌≡◌, ◌⊎◌, inl, inr, ℕ, List, length, Option, None, Some, refl, sym, subst}
-use Rattle.byte_spool.specs.declared.outputs.Delivery.{Delivery}
-use Rattle.byte_spool.specs.declared.outputs.Delivery.TheVariants.{Whole, Cut}
+use Rattle.dcp_io.specs.declared.outputs.Delivery.{Delivery}
+use Rattle.dcp_io.specs.declared.outputs.Delivery.TheVariants.{Whole, Cut}
 use Rattle.dcp_record.specs.Traces.{trace_bytes}
 use Rattle.dcp_types.specs.declared.fault_codes.FaultCode.{FaultCode}
 use Rattle.master_spec.specs.declared.reports.Report.{Report}

@@ -1,6 +1,6 @@
 -- What an answer holds, and what is delivered of it.
 use Rattle.std.specs.Prelude.{◌≡◌, ◌⊎◌, ℕ, ◌≤◌, List, [], length, true, Option, None, IfSome, All}
-use Rattle.byte_spool.specs.declared.outputs.Delivery.{Delivery}
+use Rattle.dcp_io.specs.declared.outputs.Delivery.{Delivery}
 use Rattle.dcp_record.specs.Traces.{trace_bytes}
 use Rattle.scenario.specs.Sound.{IsScenario}
 use Rattle.rounds.specs.Told.{Follows}

@@ -1,8 +1,8 @@
 -- What a call over sockets answers, by its status: why, what of the source was taken, and what was written.
 use Rattle.std.specs.Prelude.{◌≡◌, ◌⊎◌, ℕ, List, [], codes}
 use Rattle.dcp_io.specs.Faults.{Rose}
-use Rattle.byte_spool.specs.declared.outputs.Delivery.{Delivery}
-use Rattle.byte_spool.specs.declared.outputs.Delivery.TheVariants.{Whole, Cut}
+use Rattle.dcp_io.specs.declared.outputs.Delivery.{Delivery}
+use Rattle.dcp_io.specs.declared.outputs.Delivery.TheVariants.{Whole, Cut}
 use Rattle.scenario.specs.declared.scenarios.Scenario.{Scenario}
 use Rattle.scenario_text.specs.Reads.{ReadsAsScenario}
 use Rattle.run_text.specs.Runs.{DeliversBoth}

@@ -1,7 +1,7 @@
 //! What a command over sockets answers to a text, and the writing of it.
 
 ghost use Rattle.std.specs.Prelude.{◌≡◌, ◌≤◌, All, List, ℕ, length, true};
-ghost use Rattle.byte_spool.specs.Outputs.{Delivers};
+ghost use Rattle.dcp_io.specs.Outputs.{Delivers};
 ghost use Rattle.commands.specs.SaysRun.{run_text};
 ghost use Rattle.commands.specs.Statuses.{ComesBeforeWriting, ComesWithoutNet};
 ghost use Rattle.dcp_ends.specs.Logs.{IsInRange};
@@ -13,10 +13,9 @@ ghost use Rattle.live_commands.specs.Changes.{LiveChange};
 ghost use Rattle.live_commands.specs.Parts.{IsPart, bits_in};
 
 use crate::parts::Part;
-use byte_spool::{Delivery, write_all};
 use commands::{Judgement, Statement, Status, write_text};
 use dcp_ends::LogEntry;
-use dcp_io::Sink;
+use dcp_io::{Delivery, Sink, write_all};
 use dcp_record::write_record;
 use host::Host;
 use master_spec::Report;

@@ -1,7 +1,7 @@
 -- What a receiving side has gathered, as bytes are fed and messages are handed out.
 use Rattle.std.proofs.Common.{◌≡◌, ◌≤◌, ◌+◌, ◌-◌, ◌∙◌, ap, arith, ℕ, List, ◌++◌, take, drop, Option, append_assoc}
 use Rattle.std.proofs.lemmas.List.{take-append-drop, drop-take}
-use Rattle.stream_links.specs.Inlets.{Arriving, Receives}
+use Rattle.stream_frame.specs.Inlets.{Arriving, Receives}
 use Rattle.live_net.specs.Intakes.{Gathers}
 
 module _ {start left : Option (List ℕ)} {old new : Arriving} {held : List ℕ} {grams : List (List ℕ)} where

@@ -2,8 +2,8 @@
 use Rattle.std.specs.Prelude.{◌≡◌, ℕ, List, ◌∷◌, [], ◌++◌, length, Option}
 use Rattle.std.specs.Io.KnownBytes.{Consumes}
 use Rattle.stream_frame.specs.Frames.{IsFrame, HasFrame, IsBad}
-use Rattle.stream_links.specs.Greetings.{greeting}
-use Rattle.stream_links.specs.Inlets.{Arriving, Receives}
+use Rattle.stream_frame.specs.Greetings.{greeting}
+use Rattle.stream_frame.specs.Inlets.{Arriving, Receives}
 use Rattle.live_net.specs.declared.intakes.Taking.{Taking}
 use Rattle.live_net.specs.declared.intakes.Taking.TheVariants.{Gram, NotYet, Bad}
 

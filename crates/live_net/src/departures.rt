@@ -10,7 +10,7 @@ use mio::net::TcpStream;
 use mio::{Interest, Registry};
 use std::alloc::Global;
 use std::net::Net;
-use stream_links::{Flushed, Link};
+use stream_frame::{Flushed, Link};
 
 /// The connection to one end, once it is wanted.
 #[derive(Drop)]

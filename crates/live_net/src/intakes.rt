@@ -1,14 +1,14 @@
 //! What comes in over one connection.
 
 ghost use Rattle.std.specs.Prelude.{◌≡◌, ◌≤◌, ◌-◌, ◌++◌, [], List, ℕ, Option, take, drop, IfOk};
-ghost use Rattle.stream_links.specs.Inlets.{Receives};
+ghost use Rattle.stream_frame.specs.Inlets.{Receives};
 ghost use Rattle.live_net.specs.Intakes.{Gathers, Hands, with_handed};
 
 use dcp_io::{Read, Source};
 use dcp_types::{Address, OutOfMemory};
 use std::alloc::Global;
 use std::marker::Model;
-use stream_links::{Inlet, Inward};
+use stream_frame::{Inlet, Inward};
 
 /// How many bytes are read from a stream at once.
 const PIECE_SIZE: usize = 1_024;

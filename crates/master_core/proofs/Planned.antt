@@ -30,10 +30,10 @@ use Rattle.scenario.specs.Settings.{setting_in}
 use Rattle.scenario.specs.Lookups.{slave_at, parameters_in}
 use Rattle.scenario.specs.Sound.{IsScenario, IsAddress, IsEvery, IsSetting}
 use Rattle.scenario.specs.Wiring.{interval, q_of, every_between}
-use Rattle.plan_spec.specs.declared.links.DataLink.{DataLink}
-use Rattle.plan_spec.specs.declared.pairs.Pair.{Pair}
-use Rattle.plan_spec.specs.Links.{is_wire, is_wired_pair, pairs_from, positions, wire_links, links_from, wired_pairs, wire_link}
-use Rattle.plan_spec.specs.Setup.{settings_of, set_parameter, told_interval, numbered, input_at, output_at, incoming, outgoing, watched, setup_list, adjust_list, net_info, address_at, source_address}
+use Rattle.master_spec.specs.declared.links.DataLink.{DataLink}
+use Rattle.master_spec.specs.declared.pairs.Pair.{Pair}
+use Rattle.master_spec.specs.Links.{is_wire, is_wired_pair, pairs_from, positions, wire_links, links_from, wired_pairs, wire_link}
+use Rattle.master_spec.specs.PlanSetup.{settings_of, set_parameter, told_interval, numbered, input_at, output_at, incoming, outgoing, watched, setup_list, adjust_list, net_info, address_at, source_address}
 use Rattle.config_plan.proofs.More.{filter_few, grid_few, pairs_few}
 use Rattle.master_spec.specs.declared.requests.Request.TheVariants.{Configure}
 use Rattle.master_spec.specs.declared.setups.Slave.{Slave}

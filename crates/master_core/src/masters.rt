@@ -4,7 +4,7 @@ ghost use Rattle.std.specs.Prelude.{◌≡◌, ◌≤◌, ◌-◌, ◌^◌, min,
 ghost use Rattle.std.specs.List.{list_all};
 ghost use Rattle.dcp_ends.specs.Events.{Event};
 ghost use Rattle.scenario.specs.Sound.{IsScenario};
-ghost use Rattle.plan_spec.specs.Plans.{plan_of};
+ghost use Rattle.master_spec.specs.Plans.{plan_of};
 ghost use Rattle.master_spec.specs.Course as course;
 ghost use Rattle.master_spec.specs.Course.{Course};
 ghost use Rattle.master_spec.specs.Rules.{master_rules, master_rules_from};

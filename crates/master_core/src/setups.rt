@@ -2,8 +2,8 @@
 
 ghost use Rattle.std.specs.Prelude.{◌≡◌, ◌≤◌, ◌-◌, IfOk, Some, length, map, slice_get, All};
 ghost use Rattle.std.specs.List.{range_with_len};
-ghost use Rattle.plan_spec.specs.Plans.{plan_of};
-ghost use Rattle.plan_spec.specs.Setup.{adjust_list};
+ghost use Rattle.master_spec.specs.Plans.{plan_of};
+ghost use Rattle.master_spec.specs.PlanSetup.{adjust_list};
 ghost use Rattle.master_spec.specs.Setup as specs;
 ghost use Rattle.scenario.specs.Sound.{IsScenario};
 ghost use Rattle.master_core.specs.Talking.{IsFreshTalk, slave_talked_to};

@@ -1,4 +1,7 @@
--- Which state a request names.
-pub mod Naming
--- The turns of the master in a log.
-pub mod Turns
+pub mod Meets
+pub mod Hears
+pub mod RowCounts
+pub mod Rows
+pub mod Rest
+pub mod Barrier
+pub mod PlanOrder

@@ -1,14 +1,14 @@
-//! Laws of the master's definition: what holds of every run, whatever the network does.
+//! The master of the definition is a master of the laws over a run, on every network, honest or not.
 //!
-//! What it promises: the master has its report within the bound of its scenario; its turns are those in
-//! the log that began without a report; each state request names the last target before it. No code
-//! stands here; each function is a law on the definitions of the master.
+//! `Meets`: its requests; `Hears`: the answer that decides a request is the one that it takes; `Rows`, `RowCounts`,
+//! `Rest`, `Barrier`: the row events that it asks for, one after the other and in step with the phases; `PlanOrder`:
+//! each new request follows the plan. There is no code.
 #![tactic(auto)]
 
-mod bounds;
-mod logs;
-mod naming;
-
-pub use bounds::{scenario_reports, setup_reports};
-pub use logs::{log_reports, rounds_are_few, turns_are_in_log};
-pub use naming::last_target_named;
+pub mod barrier;
+pub mod hears;
+pub mod meets;
+pub mod plan_order;
+pub mod rest;
+pub mod row_counts;
+pub mod rows;

@@ -17,10 +17,10 @@ use Rattle.pdu_layout.specs.declared.messages.Inf.{Inf}
 use Rattle.pdu_layout.specs.declared.messages.Inf.TheVariants as inf
 use Rattle.fixed_models.specs.Kinds.{takes}
 use Rattle.slave_desc.specs.declared.descriptions.SlaveDesc.{SlaveDesc}
-use Rattle.slave_wiring.specs.Changes.{Change, Set, Restart, newest_change, ascending, input, output, vr_for, entries, has_id, ids, source, source_given, target, target_given, time_given, complete}
-use Rattle.slave_wiring.specs.Refusals as wiring
-use Rattle.slave_wiring.specs.Refusals.{refused_unless, is_transport, port_with, is_input_of, is_wired, input_refusal, output_refusal}
-use Rattle.slave_wiring.specs.Payloads.{WiringState, brought, is_wanted}
+use Rattle.slave_spec.specs.Changes.{Change, Set, Restart, newest_change, ascending, input, output, vr_for, entries, has_id, ids, source, source_given, target, target_given, time_given, complete}
+use Rattle.slave_spec.specs.Refusals as wiring
+use Rattle.slave_spec.specs.Refusals.{refused_unless, is_transport, port_with, is_input_of, is_wired, input_refusal, output_refusal}
+use Rattle.slave_spec.specs.Payloads.{WiringState, brought, is_wanted}
 use Rattle.slave_spec.specs.declared.words.Asked.{Asked}
 use Rattle.slave_spec.specs.declared.words.Asked.TheVariants as asked
 use Rattle.slave_spec.specs.declared.words.SlaveSetup.{SlaveSetup}

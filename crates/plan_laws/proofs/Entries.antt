@@ -9,8 +9,8 @@ use Rattle.pdu_layout.specs.declared.messages.Cfg.{Cfg}
 use Rattle.pdu_layout.specs.declared.messages.Cfg.TheVariants as cfg
 use Rattle.slave_desc.specs.declared.ports.Port.{Port}
 use Rattle.slave_desc.specs.declared.descriptions.SlaveDesc.{SlaveDesc}
-use Rattle.slave_wiring.specs.Changes.{Change, Set, input, output, entries, has_id, ids, put_ascending}
-use Rattle.slave_wiring.specs.Refusals.{refusal_of_setting, is_wired, is_full, port_with}
+use Rattle.slave_spec.specs.Changes.{Change, Set, input, output, entries, has_id, ids, put_ascending}
+use Rattle.slave_spec.specs.Refusals.{refusal_of_setting, is_wired, is_full, port_with}
 use Rattle.plan_laws.proofs.Lists.{Pairwise, each_both}
 use Rattle.plan_laws.proofs.Told.{AreTold, onto, put_few, put_again}
 

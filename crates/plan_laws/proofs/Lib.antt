@@ -13,3 +13,4 @@ pub mod Taken
 pub mod Alike
 pub mod Running
 pub mod Plans
+pub mod Course

@@ -11,10 +11,10 @@ use Rattle.scenario.specs.declared.scenarios.Wire.{Wire}
 use Rattle.scenario.specs.declared.scenarios.Every.{Every}
 use Rattle.scenario.specs.declared.scenarios.Scenario.{Scenario}
 use Rattle.scenario.specs.Sound.{IsScenario, IsEvery}
-use Rattle.plan_spec.specs.declared.links.DataLink.{DataLink}
-use Rattle.plan_spec.specs.declared.pairs.Pair.{Pair}
-use Rattle.plan_spec.specs.Links.{pairs_from, is_wired_pair, wired_pairs, wire_links, wire_link}
-use Rattle.slave_wiring.specs.Refusals.{is_transport}
+use Rattle.master_spec.specs.declared.links.DataLink.{DataLink}
+use Rattle.master_spec.specs.declared.pairs.Pair.{Pair}
+use Rattle.master_spec.specs.Links.{pairs_from, is_wired_pair, wired_pairs, wire_links, wire_link}
+use Rattle.slave_spec.specs.Refusals.{is_transport}
 use Rattle.plan_laws.proofs.Lists.{Pairwise, each_weaker, each_both, each_filter, each_passes, each_from_all, pairwise_weaker, pairwise_filter, few_between}
 use Rattle.plan_laws.proofs.Pairs.{IsBefore, IsWithin, pairs_within, pairs_ascend, each_link, pairwise_links, interval_within}
 

@@ -15,9 +15,9 @@ use Rattle.fixed_models.specs.Kinds.{takes}
 use Rattle.fixed_models.specs.Views.{View, begun}
 use Rattle.scenario.specs.declared.scenarios.Setting.{Setting}
 use Rattle.scenario.specs.Settings.{changed, changed_by}
-use Rattle.plan_spec.specs.Setup.{set_parameter, settings_of}
-use Rattle.slave_wiring.specs.Changes.{Set}
-use Rattle.slave_wiring.specs.Refusals as wiring
+use Rattle.master_spec.specs.PlanSetup.{set_parameter, settings_of}
+use Rattle.slave_spec.specs.Changes.{Set}
+use Rattle.slave_spec.specs.Refusals as wiring
 use Rattle.slave_spec.specs.declared.words.Asked.TheVariants as heard
 use Rattle.slave_spec.specs.declared.words.SlaveSetup.{SlaveSetup}
 use Rattle.slave_spec.specs.Plants.{Plant}

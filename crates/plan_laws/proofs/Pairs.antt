@@ -8,10 +8,10 @@ use Rattle.std.proofs.lemmas.List.Elements.{filter-append}
 use Rattle.scenario.specs.declared.scenarios.Scenario.{Scenario}
 use Rattle.scenario.specs.declared.scenarios.Every.{Every}
 use Rattle.scenario.specs.Wiring.{q_of, every_between, interval}
-use Rattle.plan_spec.specs.declared.links.DataLink.{DataLink}
-use Rattle.plan_spec.specs.declared.pairs.Pair.{Pair}
-use Rattle.plan_spec.specs.Filling.{pairs_in_row}
-use Rattle.plan_spec.specs.Links.{pairs_from, links_from, wire_link}
+use Rattle.master_spec.specs.declared.links.DataLink.{DataLink}
+use Rattle.master_spec.specs.declared.pairs.Pair.{Pair}
+use Rattle.master_spec.specs.Filling.{pairs_in_row}
+use Rattle.master_spec.specs.Links.{pairs_from, links_from, wire_link}
 use Rattle.plan_laws.proofs.Lists.{by_test, Pairwise, each_append, each_weaker, pairwise_append}
 
 -- p comes before q: by the first number, and then by the second

@@ -9,10 +9,10 @@ use Rattle.pdu_layout.specs.declared.messages.Cfg.TheVariants as cfg
 use Rattle.pdu_layout.specs.declared.messages.NetInfo.{NetInfo}
 use Rattle.slave_desc.specs.declared.ports.Port.{Port}
 use Rattle.slave_desc.specs.declared.descriptions.SlaveDesc.{SlaveDesc}
-use Rattle.plan_spec.specs.declared.links.DataLink.{DataLink}
-use Rattle.plan_spec.specs.Setup.{told_interval}
-use Rattle.slave_wiring.specs.Changes.{Change, Set, newest_change, input, output, entries, has_id, ids, source, target, vr_for, source_given, target_given, ascending}
-use Rattle.slave_wiring.specs.Refusals.{refusal_of_setting, is_input_of, is_wired, is_full, is_transport, port_with}
+use Rattle.master_spec.specs.declared.links.DataLink.{DataLink}
+use Rattle.master_spec.specs.PlanSetup.{told_interval}
+use Rattle.slave_spec.specs.Changes.{Change, Set, newest_change, input, output, entries, has_id, ids, source, target, vr_for, source_given, target_given, ascending}
+use Rattle.slave_spec.specs.Refusals.{refusal_of_setting, is_input_of, is_wired, is_full, is_transport, port_with}
 use Rattle.plan_laws.proofs.Lists.{by_test, Pairwise, each_append, each_both, each_weaker, each_always}
 use Rattle.plan_laws.proofs.Told.{AreTold, id_of, onto, told_append, onto_append, silent, silent_any}
 use Rattle.plan_laws.proofs.Entries.{IsFree, inputs_under, outputs_under, each_input_under, each_output_under, inputs_told, inputs_counted, outputs_told, outputs_counted, outputs_few}

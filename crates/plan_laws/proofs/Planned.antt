@@ -12,8 +12,8 @@ use Rattle.scenario.specs.declared.scenarios.Wire.{Wire}
 use Rattle.scenario.specs.Lookups.{slave_at, inputs_in, outputs_in, inputs_at, outputs_at}
 use Rattle.scenario.specs.Wiring.{same_input}
 use Rattle.scenario.specs.Sound.{IsWire}
-use Rattle.plan_spec.specs.declared.pairs.Pair.{Pair}
-use Rattle.plan_spec.specs.Links.{pairs_from, is_wire}
+use Rattle.master_spec.specs.declared.pairs.Pair.{Pair}
+use Rattle.master_spec.specs.Links.{pairs_from, is_wire}
 use Rattle.plan_laws.proofs.Lists.{by_test, Pairwise, each_weaker, each_map, each_filter, each_passes, each_from_all, pairwise_weaker, pairwise_filter, pairwise_map, few_below}
 use Rattle.plan_laws.proofs.Pairs.{IsBefore, some_of_pairs}
 use Rattle.plan_laws.proofs.Ports.{each_got, fed_by, fed_from, some_wire}

@@ -5,8 +5,8 @@ use Rattle.std.specs.List.{range_with_len}
 use Rattle.pdu_layout.specs.declared.messages.Cfg.{Cfg}
 use Rattle.slave_desc.specs.declared.descriptions.SlaveDesc.{SlaveDesc}
 use Rattle.scenario.specs.declared.scenarios.Scenario.{Scenario}
-use Rattle.plan_spec.specs.Setup.{setup_list, adjust_list}
-use Rattle.plan_spec.specs.Plans.{setups_from, adjusts_after, plan_of}
+use Rattle.master_spec.specs.PlanSetup.{setup_list, adjust_list}
+use Rattle.master_spec.specs.Plans.{setups_from, adjusts_after, plan_of}
 use Rattle.plan_laws.specs.Taking.{IsScenarioSlave}
 use Rattle.plan_laws.proofs.Planned.{slave_got, slave_there}
 

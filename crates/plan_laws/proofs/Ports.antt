@@ -11,10 +11,10 @@ use Rattle.slave_desc.specs.Descriptions.{AreApart}
 use Rattle.slave_desc.specs.declared.ports.Port.{Port}
 use Rattle.scenario.specs.declared.scenarios.Wire.{Wire}
 use Rattle.scenario.specs.Wiring.{wire_into, same_input}
-use Rattle.plan_spec.specs.declared.pairs.Pair.{Pair}
-use Rattle.plan_spec.specs.Links.{is_wire}
-use Rattle.plan_spec.specs.Setup.{numbered, input_at, output_at}
-use Rattle.slave_wiring.specs.Refusals.{port_with}
+use Rattle.master_spec.specs.declared.pairs.Pair.{Pair}
+use Rattle.master_spec.specs.Links.{is_wire}
+use Rattle.master_spec.specs.PlanSetup.{numbered, input_at, output_at}
+use Rattle.slave_spec.specs.Refusals.{port_with}
 use Rattle.plan_laws.proofs.Lists.{by_test, left, right, Pairwise, each_weaker, pairwise_from_all}
 use Rattle.plan_laws.proofs.Entries.{inputs_under, outputs_under}
 

@@ -6,9 +6,9 @@ use Rattle.pdu_layout.specs.declared.messages.Cfg.{Cfg}
 use Rattle.fixed_models.specs.Views.{View}
 use Rattle.scenario.specs.declared.scenarios.Scenario.{Scenario}
 use Rattle.scenario.specs.Settings.{changed, parameters}
-use Rattle.plan_spec.specs.Setup.{setup_list, adjust_list}
-use Rattle.slave_wiring.specs.Changes.{complete}
-use Rattle.slave_wiring.specs.Payloads.{WiringState}
+use Rattle.master_spec.specs.PlanSetup.{setup_list, adjust_list}
+use Rattle.slave_spec.specs.Changes.{complete}
+use Rattle.slave_spec.specs.Payloads.{WiringState}
 use Rattle.slave_spec.specs.declared.words.Asked.TheVariants as asked
 use Rattle.slave_spec.specs.declared.words.SlaveSetup.{SlaveSetup}
 use Rattle.slave_spec.specs.Transport.{Ack}

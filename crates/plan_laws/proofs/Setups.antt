@@ -18,12 +18,12 @@ use Rattle.scenario.specs.declared.scenarios.Scenario.{Scenario}
 use Rattle.scenario.specs.Lookups.{slave_at}
 use Rattle.scenario.specs.Wiring.{same_input}
 use Rattle.scenario.specs.Sound.{IsScenario, IsWire}
-use Rattle.plan_spec.specs.declared.links.DataLink.{DataLink}
-use Rattle.plan_spec.specs.declared.pairs.Pair.{Pair}
-use Rattle.plan_spec.specs.Links.{pairs_from, is_wire, wire_links, watch_link}
-use Rattle.plan_spec.specs.Setup.{net_info, numbered, input_at, output_at, incoming, outgoing, watched, told_interval}
-use Rattle.slave_wiring.specs.Changes.{Change, Set, newest_change, ascending, input, output, source, target, vr_for, time_given, complete, ids, entries, source_given, target_given}
-use Rattle.slave_wiring.specs.Refusals.{port_with}
+use Rattle.master_spec.specs.declared.links.DataLink.{DataLink}
+use Rattle.master_spec.specs.declared.pairs.Pair.{Pair}
+use Rattle.master_spec.specs.Links.{pairs_from, is_wire, wire_links, watch_link}
+use Rattle.master_spec.specs.PlanSetup.{net_info, numbered, input_at, output_at, incoming, outgoing, watched, told_interval}
+use Rattle.slave_spec.specs.Changes.{Change, Set, newest_change, ascending, input, output, source, target, vr_for, time_given, complete, ids, entries, source_given, target_given}
+use Rattle.slave_spec.specs.Refusals.{port_with}
 use Rattle.plan_laws.specs.Taking.{IsScenarioSlave}
 use Rattle.plan_laws.proofs.Lists.{Pairwise, each_weaker, each_both, each_filter, each_from_all, each_append, each_map, each_always, each_flat_map, pairwise_filter, pairwise_weaker, pairwise_append, pairwise_from_all, pairwise_map}
 use Rattle.plan_laws.proofs.Told.{AreTold, onto, told_append, onto_append, silent, kept, all_ids, id_of}

@@ -9,11 +9,11 @@ use Rattle.slave_desc.specs.declared.descriptions.SlaveDesc.{SlaveDesc}
 use Rattle.scenario.specs.declared.scenarios.Scenario.{Scenario}
 use Rattle.scenario.specs.Settings.{changed, parameters}
 use Rattle.std.specs.List.{flat_map}
-use Rattle.plan_spec.specs.Setup.{incoming, outgoing, watched, settings_of, setup_list}
+use Rattle.master_spec.specs.PlanSetup.{incoming, outgoing, watched, settings_of, setup_list}
 use Rattle.plan_laws.proofs.Links.{links_to, links_of}
-use Rattle.slave_wiring.specs.Changes.{Change, Set, complete}
-use Rattle.slave_wiring.specs.Refusals as wiring
-use Rattle.slave_wiring.specs.Payloads.{WiringState, bare_wires}
+use Rattle.slave_spec.specs.Changes.{Change, Set, complete}
+use Rattle.slave_spec.specs.Refusals as wiring
+use Rattle.slave_spec.specs.Payloads.{WiringState, bare_wires}
 use Rattle.slave_spec.specs.declared.words.Asked.TheVariants as asked
 use Rattle.slave_spec.specs.declared.words.SlaveSetup.{SlaveSetup}
 use Rattle.slave_spec.specs.Plants.{Plant, model_with, output_types}

@@ -6,8 +6,8 @@ use Rattle.std.proofs.lemmas.Bool.Decides.{nat_tests}
 use Rattle.pdu_layout.specs.declared.messages.Cfg.{Cfg}
 use Rattle.pdu_layout.specs.declared.messages.Cfg.TheVariants as cfg
 use Rattle.slave_desc.specs.declared.descriptions.SlaveDesc.{SlaveDesc}
-use Rattle.slave_wiring.specs.Changes.{Change, Set, Side, Entry, entries, has_id, ids, source, vr_for, put_ascending, ascending}
-use Rattle.slave_wiring.specs.Refusals.{refusal_of_setting}
+use Rattle.slave_spec.specs.Changes.{Change, Set, Side, Entry, entries, has_id, ids, source, vr_for, put_ascending, ascending}
+use Rattle.slave_spec.specs.Refusals.{refusal_of_setting}
 use Rattle.plan_laws.proofs.Lists.{by_test, left, right}
 
 -- requests that change the list of changes

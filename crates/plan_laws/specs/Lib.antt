@@ -2,3 +2,4 @@
 pub mod Taking
 -- Where a slave stands after its lists, with what happens between them.
 pub mod Runs
+pub mod Course

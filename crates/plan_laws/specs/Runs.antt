@@ -9,7 +9,7 @@ use Rattle.pdu_layout.specs.declared.messages.Stc.{Stc}
 use Rattle.pdu_layout.specs.declared.messages.Inf.{Inf}
 use Rattle.slave_desc.specs.declared.descriptions.SlaveDesc.{SlaveDesc}
 use Rattle.scenario.specs.declared.scenarios.Scenario.{Scenario}
-use Rattle.plan_spec.specs.Setup.{setup_list, adjust_list}
+use Rattle.master_spec.specs.PlanSetup.{setup_list, adjust_list}
 use Rattle.slave_spec.specs.declared.words.Asked.TheVariants.{Change, Setting, Question}
 use Rattle.slave_spec.specs.declared.words.SlaveSetup.{SlaveSetup}
 use Rattle.slave_spec.specs.Plants.{Plant}

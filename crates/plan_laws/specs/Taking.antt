@@ -9,7 +9,7 @@ use Rattle.slave_desc.specs.declared.descriptions.SlaveDesc.{SlaveDesc}
 use Rattle.scenario.specs.declared.scenarios.Scenario.{Scenario}
 use Rattle.scenario.specs.Lookups.{slave_at}
 use Rattle.scenario.specs.Sound.{IsScenario}
-use Rattle.slave_wiring.specs.Refusals as wiring
+use Rattle.slave_spec.specs.Refusals as wiring
 use Rattle.slave_spec.specs.declared.words.Asked.TheVariants.{Setting}
 use Rattle.slave_spec.specs.declared.words.SlaveSetup.{SlaveSetup}
 use Rattle.slave_spec.specs.Plants.{Plant}

@@ -1,9 +1,10 @@
 //! Laws: every slave of a sound scenario takes what the plan asks of it.
 //!
-//! `specs/` says what it means that a list of settings is taken whole, and where a slave stands from run to
-//! run. No code stands here.
+//! `specs/` says what it means that a list of settings is taken whole, where a slave stands from run to run, and
+//! in which order a slave is asked (`Course`). No code stands here.
 #![tactic(auto)]
 
+pub mod courses;
 mod laws;
 
 pub use laws::{

@@ -21,22 +21,22 @@ use Rattle.master_spec.specs.News.{request_bytes}
 use Rattle.master_spec.specs.Requests.{Asking, asking_in, asks, turns_before, with_asking}
 use Rattle.master_spec.specs.Setup.{setup_from, slave_of, jobs_of}
 use Rattle.master_spec.specs.Shown.{last_sending}
-use Rattle.asking_laws.specs.Legal.{AreLegal}
-use Rattle.index_laws.specs.Runs.{course_at, owed, IsFirstSend, where_it_is, IsRun}
-use Rattle.index_laws.specs.Index.{Placed, marks_of, askings_told, first_at, ReadBack, IsAsked, IsAgain, Owes}
-use Rattle.index_laws.specs.Dates.{clock}
-use Rattle.index_laws.specs.Follows.{mine}
-use Rattle.index_laws.specs.Laws.{AreHeard}
-use Rattle.index_laws.proofs.Index.{sent_new}
-use Rattle.index_laws.proofs.Laws.{listens}
-use Rattle.index_laws.proofs.Mine.{same_self}
-use Rattle.index_laws.proofs.Reported.{reported}
-use Rattle.phase_laws.proofs.Now.{now, past, Linked, linked, open_latest, split}
-use Rattle.failure_laws.proofs.Turns.{turns_to}
-use Rattle.failure_laws.proofs.Silences.{last_of, sendings_in_phases, sent_last, repeat_turns}
-use Rattle.master_meets.proofs.Asking.{mine_first}
-use Rattle.scenario_laws.proofs.Heard.{setups_heard}
-use Rattle.model_laws.specs.Scenarios.{slave_numbered}
+use Rattle.master_log_laws.specs.Asking.Legal.{AreLegal}
+use Rattle.master_log_laws.specs.Index.Runs.{course_at, owed, IsFirstSend, where_it_is, IsRun}
+use Rattle.master_log_laws.specs.Index.Index.{Placed, marks_of, askings_told, first_at, ReadBack, IsAsked, IsAgain, Owes}
+use Rattle.master_log_laws.specs.Index.Dates.{clock}
+use Rattle.master_log_laws.specs.Index.Follows.{mine}
+use Rattle.master_log_laws.specs.Index.Laws.{AreHeard}
+use Rattle.master_log_laws.proofs.Index.Index.{sent_new}
+use Rattle.master_log_laws.proofs.Index.Laws.{listens}
+use Rattle.master_log_laws.proofs.Index.Mine.{same_self}
+use Rattle.master_log_laws.proofs.Index.Reported.{reported}
+use Rattle.master_log_laws.proofs.Phases.Now.{now, past, Linked, linked, open_latest, split}
+use Rattle.master_log_laws.proofs.Failures.Turns.{turns_to}
+use Rattle.master_log_laws.proofs.Failures.Silences.{last_of, sendings_in_phases, sent_last, repeat_turns}
+use Rattle.master_laws.proofs.Meets.Asking.{mine_first}
+use Rattle.master_log_laws.proofs.Scenarios.Heard.{setups_heard}
+use Rattle.lockstep_laws.specs.Models.Scenarios.{slave_numbered}
 use Rattle.run_laws.specs.Laws.{parties}
 use Rattle.completeness_laws.proofs.Delivery.Ended.{numbered_at, TalkFacts, talk_facts}
 

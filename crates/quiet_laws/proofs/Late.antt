@@ -10,10 +10,10 @@ use Rattle.master_spec.specs.declared.reactions.Awaited.TheVariants.{TheAnswer, 
 use Rattle.master_spec.specs.Jobs.{Job}
 use Rattle.master_spec.specs.Marks.{Mark, Begun, Asked, Again, Answered, Hinted, Brought, Turned, Ended, is_sending, latest, open_request, turns_since}
 use Rattle.master_spec.specs.Conversation.{awaited_by}
-use Rattle.index_laws.specs.Index.{Placed, marks_of, Why, ShutBy, Shut}
-use Rattle.phase_laws.proofs.Now.{open_latest}
-use Rattle.failure_laws.specs.Because.{BecauseOf, BecauseOfTurn}
-use Rattle.failure_laws.proofs.Because.{because}
+use Rattle.master_log_laws.specs.Index.Index.{Placed, marks_of, Why, ShutBy, Shut}
+use Rattle.master_log_laws.proofs.Phases.Now.{open_latest}
+use Rattle.master_log_laws.specs.Failures.Because.{BecauseOf, BecauseOfTurn}
+use Rattle.master_log_laws.proofs.Failures.Because.{because}
 
 none_some : (r : Request) → None ≡ Some r → ⊥
 none_some r z = cc

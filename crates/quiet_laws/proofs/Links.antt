@@ -8,15 +8,15 @@ use Rattle.pdu_layout.specs.Reading.{message_in}
 use Rattle.slave_desc.specs.declared.descriptions.SlaveDesc.{SlaveDesc}
 use Rattle.scenario.specs.declared.scenarios.Scenario.{Scenario}
 use Rattle.scenario.specs.Sound.{IsScenario}
-use Rattle.plan_spec.specs.declared.links.DataLink.{DataLink}
-use Rattle.plan_spec.specs.Links.{watch_link, watch_links, wire_links, links}
-use Rattle.plan_spec.specs.Setup.{address_at, source_address}
+use Rattle.master_spec.specs.declared.links.DataLink.{DataLink}
+use Rattle.master_spec.specs.Links.{watch_link, watch_links, wire_links, links}
+use Rattle.master_spec.specs.PlanSetup.{address_at, source_address}
 use Rattle.plan_laws.proofs.Lists.{Pairwise}
 use Rattle.plan_laws.proofs.Links.{IsWireLink, IsLinkBefore, links_wired, links_ordered}
-use Rattle.slave_links.specs.Links.{data_link_of}
+use Rattle.slave_laws.specs.Wiring.Links.{data_link_of}
 use Rattle.log_spec.specs.Log.{Parties, IsSlaveOf, IsEnd}
-use Rattle.model_laws.proofs.Scenarios.{has_parties}
-use Rattle.slave_data.specs.Made.{parties}
+use Rattle.lockstep_laws.proofs.Models.Scenarios.{has_parties}
+use Rattle.slave_laws.specs.Data.Made.{parties}
 use Rattle.quiet_laws.proofs.Lists.{Among}
 
 -- ---- lists

@@ -23,14 +23,14 @@ use Rattle.slave_spec.specs.declared.words.SlaveSetup.{SlaveSetup}
 use Rattle.slave_spec.specs.Slaves.{machine}
 use Rattle.slave_spec.specs.declared.words.Session.{Session}
 use Rattle.slave_spec.specs.declared.words.Session.TheVariants.{During}
-use Rattle.slave_meets.specs.Desks.{post, got, ticked, at}
-use Rattle.index_laws.specs.Runs.{IsRun}
+use Rattle.slave_laws.specs.Talk.Desks.{post, got, ticked, at}
+use Rattle.master_log_laws.specs.Index.Runs.{IsRun}
 use Rattle.master_spec.specs.Setup.{setup_from}
-use Rattle.slave_laws.specs.Whole.{slaves_asked}
-use Rattle.slave_laws.proofs.Stepping.{asked_may}
-use Rattle.model_laws.specs.Scenarios.{slave_numbered}
+use Rattle.slave_laws.specs.Data.Whole.{slaves_asked}
+use Rattle.slave_laws.proofs.Data.Stepping.{asked_may}
+use Rattle.lockstep_laws.specs.Models.Scenarios.{slave_numbered}
 use Rattle.run_laws.specs.Laws.{parties, slave_setup_of}
-use Rattle.headline_laws.proofs.Behaving.{are_slaves}
+use Rattle.run_laws.proofs.Headline.Behaving.{are_slaves}
 use Rattle.quiet_laws.specs.Quiet.{AllToEnds, OwesLittle, posts_to, SlavesSendLittle}
 use Rattle.completeness_laws.proofs.Delivery.Sessions.{SessionIs, session_at}
 use Rattle.completeness_laws.proofs.Delivery.Unanswered.{behaves_then, run_then}

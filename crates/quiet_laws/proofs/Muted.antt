@@ -25,13 +25,13 @@ use Rattle.slave_spec.specs.Slaves.{machine}
 use Rattle.slave_spec.specs.declared.words.SlaveRequest as req
 use Rattle.slave_spec.specs.declared.words.Fate.{Fate}
 use Rattle.slave_spec.specs.declared.words.Fate.TheVariants.{Dropped, Refused, Repeated, Taken}
-use Rattle.slave_wiring.specs.Payloads.{brought}
-use Rattle.slave_meets.specs.Desks.{Both, sent_next, got, ticked, at, Agree}
-use Rattle.index_laws.specs.Runs.{IsRun}
+use Rattle.slave_spec.specs.Payloads.{brought}
+use Rattle.slave_laws.specs.Talk.Desks.{Both, sent_next, got, ticked, at, Agree}
+use Rattle.master_log_laws.specs.Index.Runs.{IsRun}
 use Rattle.master_spec.specs.Setup.{setup_from}
-use Rattle.slave_laws.specs.Whole.{slaves_asked}
+use Rattle.slave_laws.specs.Data.Whole.{slaves_asked}
 use Rattle.run_laws.specs.Laws.{parties, slave_setup_of}
-use Rattle.headline_laws.proofs.Behaving.{are_slaves}
+use Rattle.run_laws.proofs.Headline.Behaving.{are_slaves}
 use Rattle.completeness_laws.proofs.Delivery.Ended.{run_front}
 use Rattle.completeness_laws.proofs.Delivery.Sessions.{comes_of_master, reads_back}
 use Rattle.quiet_laws.proofs.Plain.{IsPlainAsked, IsPlainHeard}

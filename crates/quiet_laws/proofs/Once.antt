@@ -22,20 +22,20 @@ use Rattle.master_spec.specs.declared.setups.Setup.{Setup}
 use Rattle.master_spec.specs.News.{News, Answers, Hints, Brings, Nothing, news_of}
 use Rattle.master_spec.specs.Requests.{Asking, asking_in, asks, decided_by, with_asking, with_news}
 use Rattle.master_spec.specs.Setup.{setup_from, slave_of}
-use Rattle.index_laws.specs.Index.{again_at}
-use Rattle.index_laws.specs.Runs.{owed, IsFirstSend, where_it_is, IsRun}
-use Rattle.index_laws.proofs.ByEntry.{entry_by_entry}
-use Rattle.index_laws.proofs.Mine.{same_self}
-use Rattle.master_meets.proofs.Asking.{sends}
-use Rattle.master_meets.proofs.Sends.{IsFresh, IsSame}
-use Rattle.scenario_laws.proofs.Heard.{setups_heard}
-use Rattle.slave_laws.specs.Whole.{slaves_asked}
-use Rattle.model_laws.specs.Scenarios.{slave_numbered}
+use Rattle.master_log_laws.specs.Index.Index.{again_at}
+use Rattle.master_log_laws.specs.Index.Runs.{owed, IsFirstSend, where_it_is, IsRun}
+use Rattle.master_log_laws.proofs.Index.ByEntry.{entry_by_entry}
+use Rattle.master_log_laws.proofs.Index.Mine.{same_self}
+use Rattle.master_laws.proofs.Meets.Asking.{sends}
+use Rattle.master_laws.proofs.Meets.Sends.{IsFresh, IsSame}
+use Rattle.master_log_laws.proofs.Scenarios.Heard.{setups_heard}
+use Rattle.slave_laws.specs.Data.Whole.{slaves_asked}
+use Rattle.lockstep_laws.specs.Models.Scenarios.{slave_numbered}
 use Rattle.run_laws.specs.Laws.{parties, IsRunInRounds}
 use Rattle.run_laws.proofs.Rounded.{rounds_are_runs}
 use Rattle.run_laws.proofs.Runs.{party, are_parties}
-use Rattle.headline_laws.proofs.Behaving.{are_slaves}
-use Rattle.headline_laws.proofs.Moments.{so_far}
+use Rattle.run_laws.proofs.Headline.Behaving.{are_slaves}
+use Rattle.run_laws.proofs.Headline.Moments.{so_far}
 use Rattle.quiet_laws.specs.Quiet.{IsQuietPlan, is_for_slave, NoneAgain, OneRequestWaits}
 use Rattle.completeness_laws.proofs.Delivery.Ended.{run_front}
 use Rattle.quiet_laws.proofs.Nets.{told, Given, given_before}

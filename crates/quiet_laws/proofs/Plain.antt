@@ -11,12 +11,12 @@ use Rattle.slave_desc.specs.declared.descriptions.SlaveDesc.{SlaveDesc}
 use Rattle.scenario.specs.declared.scenarios.Setting.{Setting}
 use Rattle.scenario.specs.declared.scenarios.Scenario.{Scenario}
 use Rattle.scenario.specs.Settings.{setting_in}
-use Rattle.plan_spec.specs.declared.links.DataLink.{DataLink}
-use Rattle.plan_spec.specs.declared.pairs.Pair.{Pair}
-use Rattle.plan_spec.specs.Links.{positions, wire_links}
-use Rattle.plan_spec.specs.Setup.{net_info, set_parameter, settings_of, numbered, input_at, output_at, told_interval, incoming, outgoing, watched, setup_list, adjust_list}
+use Rattle.master_spec.specs.declared.links.DataLink.{DataLink}
+use Rattle.master_spec.specs.declared.pairs.Pair.{Pair}
+use Rattle.master_spec.specs.Links.{positions, wire_links}
+use Rattle.master_spec.specs.PlanSetup.{net_info, set_parameter, settings_of, numbered, input_at, output_at, told_interval, incoming, outgoing, watched, setup_list, adjust_list}
 use Rattle.plan_laws.proofs.Lists.{each_append}
-use Rattle.slave_links.proofs.Parts.{each_numbered}
+use Rattle.slave_laws.proofs.Wiring.Parts.{each_numbered}
 use Rattle.master_spec.specs.declared.requests.Request.{Request}
 use Rattle.master_spec.specs.declared.requests.Request.TheVariants.{Change, Configure, AskState, AskError}
 use Rattle.master_spec.specs.declared.reactions.Reaction.TheVariants.{Ask}

@@ -33,12 +33,12 @@ use Rattle.slave_spec.specs.Plants.{Plant}
 use Rattle.slave_spec.specs.Slaves.{machine}
 use Rattle.slave_spec.specs.declared.words.Fate.{Fate}
 use Rattle.slave_spec.specs.declared.words.Fate.TheVariants.{Dropped, Refused, Repeated, Taken}
-use Rattle.slave_meets.specs.Desks.{served_by, served_after, Both, sent_next, got, ticked, at, Agree}
-use Rattle.index_laws.specs.Runs.{IsRun}
-use Rattle.slave_laws.specs.Whole.{slaves_asked}
-use Rattle.model_laws.specs.Scenarios.{slave_numbered}
+use Rattle.slave_laws.specs.Talk.Desks.{served_by, served_after, Both, sent_next, got, ticked, at, Agree}
+use Rattle.master_log_laws.specs.Index.Runs.{IsRun}
+use Rattle.slave_laws.specs.Data.Whole.{slaves_asked}
+use Rattle.lockstep_laws.specs.Models.Scenarios.{slave_numbered}
 use Rattle.run_laws.specs.Laws.{parties, slave_setup_of}
-use Rattle.headline_laws.proofs.Behaving.{are_slaves}
+use Rattle.run_laws.proofs.Headline.Behaving.{are_slaves}
 use Rattle.quiet_laws.specs.Quiet.{IsQuietPlan}
 use Rattle.completeness_laws.proofs.Delivery.Answering as answering
 use Rattle.completeness_laws.proofs.Delivery.Happens.{same_both}

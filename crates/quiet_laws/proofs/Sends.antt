@@ -11,14 +11,14 @@ use Rattle.dcp_ends.specs.declared.entries.LogEntry.{LogEntry}
 use Rattle.slave_desc.specs.declared.descriptions.SlaveDesc.{SlaveDesc}
 use Rattle.scenario.specs.declared.scenarios.Scenario.{Scenario}
 use Rattle.scenario.specs.Sound.{IsScenario}
-use Rattle.plan_spec.specs.declared.links.DataLink.{DataLink}
-use Rattle.plan_spec.specs.Setup.{address_at}
+use Rattle.master_spec.specs.declared.links.DataLink.{DataLink}
+use Rattle.master_spec.specs.PlanSetup.{address_at}
 use Rattle.plan_laws.proofs.Told.{all_ids}
 use Rattle.log_spec.specs.Log.{Parties, IsSlaveOf, IsEnd}
 use Rattle.lockstep_laws.specs.Slaves.{Post}
 use Rattle.lockstep_laws.specs.Asked.{AskedAsPlanned}
-use Rattle.slave_wiring.specs.Changes.{Change, Entry, output, ids, has_id, target, is_due, ordinal, put_ascending, ascending}
-use Rattle.slave_wiring.specs.Payloads.{payload, data_message}
+use Rattle.slave_spec.specs.Changes.{Change, Entry, output, ids, has_id, target, is_due, ordinal, put_ascending, ascending}
+use Rattle.slave_spec.specs.Payloads.{payload, data_message}
 use Rattle.slave_spec.specs.Heard as spec
 use Rattle.slave_spec.specs.Transport as transport
 use Rattle.slave_spec.specs.Transport.{SlaveState, parcel_send, Notice}
@@ -32,16 +32,16 @@ use Rattle.slave_spec.specs.declared.words.Session.{Session}
 use Rattle.slave_spec.specs.declared.words.Session.TheVariants.{Before, During, After}
 use Rattle.slave_spec.specs.declared.words.Fate.{Fate}
 use Rattle.slave_spec.specs.declared.words.Fate.TheVariants.{Dropped, Refused, Repeated, Taken}
-use Rattle.slave_meets.specs.Desks.{post, at}
-use Rattle.course_spec.specs.Courses.{may}
-use Rattle.slave_course.specs.Wired.{is_during}
-use Rattle.slave_course.proofs.Courses.{is_planned}
-use Rattle.slave_course.proofs.Counting.{outputs_go_on}
-use Rattle.slave_links.specs.Links.{data_link_of, from_of, sender_of}
-use Rattle.slave_links.proofs.Planned.{senders}
-use Rattle.slave_data.specs.Made.{setup_at, parties}
-use Rattle.slave_data.proofs.Held.{of_scenario, reads}
-use Rattle.slave_data.proofs.Owing.{all_chosen, sending_past, map_joined}
+use Rattle.slave_laws.specs.Talk.Desks.{post, at}
+use Rattle.plan_laws.specs.Course.Courses.{may}
+use Rattle.slave_laws.specs.Wiring.Wired.{is_during}
+use Rattle.slave_laws.proofs.Wiring.Courses.{is_planned}
+use Rattle.slave_laws.proofs.Wiring.Counting.{outputs_go_on}
+use Rattle.slave_laws.specs.Wiring.Links.{data_link_of, from_of, sender_of}
+use Rattle.slave_laws.proofs.Wiring.Planned.{senders}
+use Rattle.slave_laws.specs.Data.Made.{setup_at, parties}
+use Rattle.slave_laws.proofs.Data.Held.{of_scenario, reads}
+use Rattle.slave_laws.proofs.Data.Owing.{all_chosen, sending_past, map_joined}
 use Rattle.completeness_laws.proofs.Delivery.Addresses.{AllRight, right_target, planned_right}
 use Rattle.quiet_laws.specs.Quiet.{AllToEnds, posts_to}
 use Rattle.quiet_laws.proofs.Lists.{bit}

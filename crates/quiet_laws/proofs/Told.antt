@@ -19,16 +19,16 @@ use Rattle.master_spec.specs.Marks.{Mark, asked, newest_number}
 use Rattle.master_spec.specs.News.{pdu_of, request_bytes}
 use Rattle.master_spec.specs.Setup.{setup_from, slave_of, jobs_of}
 use Rattle.slave_spec.specs.Heard as spec
-use Rattle.index_laws.specs.Runs.{course_at, owed, IsFirstSend, where_it_is, IsRun}
-use Rattle.index_laws.specs.Index.{ReadBack, IsAsked, IsAgain, Owes, marks_of}
-use Rattle.index_laws.specs.Follows.{mine, Listens}
-use Rattle.index_laws.specs.Laws.{AreHeard}
-use Rattle.index_laws.proofs.Mine.{same_self}
-use Rattle.index_laws.proofs.Reported.{reported}
-use Rattle.index_laws.proofs.Runs.{followed}
-use Rattle.master_meets.proofs.Asking.{mine_first}
-use Rattle.scenario_laws.proofs.Heard.{setups_heard}
-use Rattle.model_laws.specs.Scenarios.{slave_numbered}
+use Rattle.master_log_laws.specs.Index.Runs.{course_at, owed, IsFirstSend, where_it_is, IsRun}
+use Rattle.master_log_laws.specs.Index.Index.{ReadBack, IsAsked, IsAgain, Owes, marks_of}
+use Rattle.master_log_laws.specs.Index.Follows.{mine, Listens}
+use Rattle.master_log_laws.specs.Index.Laws.{AreHeard}
+use Rattle.master_log_laws.proofs.Index.Mine.{same_self}
+use Rattle.master_log_laws.proofs.Index.Reported.{reported}
+use Rattle.master_log_laws.proofs.Index.Runs.{followed}
+use Rattle.master_laws.proofs.Meets.Asking.{mine_first}
+use Rattle.master_log_laws.proofs.Scenarios.Heard.{setups_heard}
+use Rattle.lockstep_laws.specs.Models.Scenarios.{slave_numbered}
 use Rattle.run_laws.specs.Laws.{parties}
 use Rattle.completeness_laws.proofs.Delivery.Ended.{numbered_at}
 use Rattle.quiet_laws.proofs.Plain.{IsPlainSetting, IsPlainRequest, IsPlainHeard, plain_heard, jobs_plain, all_at, first_plain}

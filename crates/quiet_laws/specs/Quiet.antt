@@ -19,8 +19,8 @@ use Rattle.log_spec.specs.Log.{Parties, IsSlaveOf, IsEnd}
 use Rattle.lockstep_laws.specs.Slaves.{Post}
 use Rattle.master_spec.specs.Requests.{Asking, asks}
 use Rattle.master_spec.specs.Setup.{slave_of}
-use Rattle.model_laws.specs.Scenarios.{slave_numbered}
-use Rattle.slave_laws.specs.Whole.{slaves_asked}
+use Rattle.lockstep_laws.specs.Models.Scenarios.{slave_numbered}
+use Rattle.slave_laws.specs.Data.Whole.{slaves_asked}
 use Rattle.run_laws.specs.Laws.{parties, IsRunInRounds}
 
 -- the plan has neither lines nor chance: each message is delivered once, and at once

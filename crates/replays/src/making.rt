@@ -13,12 +13,12 @@ ghost use Rattle.replays.specs.Visits.{IsNewEnd};
 use crate::copies::copied_desc;
 use config_plan::plan;
 use dcp_ends::End;
-use dcp_slave::{SlaveEnd, new_slave};
 use dcp_types::{Address, OutOfMemory};
 use host::Hosted;
 use master_core::MasterCore;
 use scenario::Scenario;
 use slave_desc::SlaveDesc;
+use slave_device::{SlaveEnd, new_slave};
 use std::alloc::Global;
 
 /// Whether the slave of this number, 1 to 16, is hosted.

@@ -13,14 +13,14 @@ use Rattle.log_spec.specs.Log.{Parties, IsSlaveOf, PartiesApart, same, role_hear
 use Rattle.log_spec.specs.Moves.{Move, Asks, Comes, Tells, Hears, Brings, Turns, Rests, Other, sent_move, got_move}
 use Rattle.log_spec.proofs.Moves.{same_is}
 use Rattle.lockstep_laws.specs.Slaves.{Post, IsFirstPost, SlaveMay, SlaveRun, tail}
-use Rattle.index_laws.proofs.ByEntry.{address_turned}
+use Rattle.master_log_laws.proofs.Index.ByEntry.{address_turned}
 use Rattle.rounds.specs.Told.{Follows}
 use Rattle.slave_spec.specs.declared.words.SlaveSetup.{SlaveSetup}
 use Rattle.slave_spec.specs.Slaves.{machine, slave_rules_from}
 use Rattle.slave_spec.specs.Transport as transport
-use Rattle.slave_meets.specs.Desks.{post, at, desk_at, events_of_slave, got, ticked, sent_next}
-use Rattle.slave_meets.proofs.Meets.{slave_is}
-use Rattle.master_meets.proofs.Asking.{same_as}
+use Rattle.slave_laws.specs.Talk.Desks.{post, at, desk_at, events_of_slave, got, ticked, sent_next}
+use Rattle.slave_laws.proofs.Talk.Meets.{slave_is}
+use Rattle.master_laws.proofs.Meets.Asking.{same_as}
 use Rattle.run_laws.specs.Laws.{BeginsWithEvent, RestsWhenDone}
 
 module _ (setup : SlaveSetup) (w : Parties) (s : ℕ) (is : IsSlaveOf w s) (apart : PartiesApart w) (place : w.slave s ≡ setup.desc.address) where

@@ -1,3 +1,6 @@
+pub mod Honesty
 pub mod Followed
 pub mod Runs
 pub mod Rounded
+pub mod Collecting
+pub mod Headline

@@ -17,8 +17,8 @@ use Rattle.rounds.specs.Rounds.{AllSent, IsGot, IsTurn, Gots, IsLook, EachEnd, p
 use Rattle.rounds.proofs.Logs.{own_at-append}
 use Rattle.master_spec.specs.Rules.{master_rules}
 use Rattle.slave_spec.specs.Slaves.{slave_rules_from}
-use Rattle.model_laws.specs.Scenarios.{slave_numbered}
-use Rattle.model_laws.proofs.Scenarios.{has_parties}
+use Rattle.lockstep_laws.specs.Models.Scenarios.{slave_numbered}
+use Rattle.lockstep_laws.proofs.Models.Scenarios.{has_parties}
 use Rattle.run_laws.specs.Laws.{parties, BeginsWithEvent, RestsWhenDone, rules_of_slaves, RoundsAreRuns}
 
 abbrev AllAt : (Address → Type 0) → List Rules → Type 0

@@ -17,10 +17,10 @@ use Rattle.slave_spec.specs.declared.words.SlaveSetup.{SlaveSetup}
 use Rattle.slave_spec.specs.declared.words.Asked.TheVariants.{Change}
 use Rattle.slave_spec.specs.Requests.{first_true}
 use Rattle.slave_spec.specs.Slaves.{machine}
-use Rattle.slave_meets.specs.Desks.{accepts_note, accepts_asked}
-use Rattle.model_laws.specs.Scenarios.{slave_numbered}
-use Rattle.model_laws.proofs.Scenarios.{has_parties}
-use Rattle.master_meets.specs.Laws.{IsParty, ArePartiesOf, register_note}
+use Rattle.slave_laws.specs.Talk.Desks.{accepts_note, accepts_asked}
+use Rattle.lockstep_laws.specs.Models.Scenarios.{slave_numbered}
+use Rattle.lockstep_laws.proofs.Models.Scenarios.{has_parties}
+use Rattle.master_laws.specs.Meets.Laws.{IsParty, ArePartiesOf, register_note}
 use Rattle.run_laws.specs.Laws.{parties}
 
 -- ---- the slaves of a scenario

@@ -16,7 +16,7 @@ use Rattle.rounds.specs.Told.{Follows}
 use Rattle.master_spec.specs.Rules.{master_rules, MasterRun}
 use Rattle.slave_spec.specs.declared.words.SlaveSetup.{SlaveSetup}
 use Rattle.slave_spec.specs.Slaves.{slave_rules_from}
-use Rattle.model_laws.specs.Scenarios.{slave_numbered, parties_of}
+use Rattle.lockstep_laws.specs.Models.Scenarios.{slave_numbered, parties_of}
 
 -- the parties of a scenario, in whose run datagrams are read as the messages that they spell; other stands for slaves that are not there
 abbrev pub parties : Scenario → (other : SlaveDesc) → Parties

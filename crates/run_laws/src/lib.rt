@@ -1,12 +1,12 @@
-//! Runs of a scenario's own master and slaves, by the log of all its ends.
+//! Runs of a scenario's own master and slaves, by the log of all its ends: each request acts once and in order,
+//! no slave is more than one row event ahead of another, models, data and the master's rows are those of the
+//! reference, and so each run keeps to the lockstep of its scenario (`headline`).
 //!
-//! The log is that of a sound scenario, in which the master and the slaves do what their rules say and the
-//! network is honest. Nothing else is assumed. There is no code.
+//! The log is that of a sound scenario, in which the master and the slaves do what their rules say and the network
+//! is honest (`nets` says of which networks that is known). Nothing else is assumed. There is no code.
 #![tactic(auto)]
 
-ghost use Rattle.run_laws.specs.Laws.{RoundsAreRuns};
-
-/// A log of whole rounds of all ends of a scenario, on an honest network, is such a run.
-pub fn rounds_are_runs()
-    ensures { RoundsAreRuns }
-{}
+pub mod collecting;
+pub mod headline;
+pub mod nets;
+pub mod runs;

@@ -1,3 +1,4 @@
+pub mod Growth
 pub mod Widths
 pub mod Outputs
 pub mod Tables

@@ -4,7 +4,7 @@ use Rattle.std.specs.Prelude.{ℤ, slice_get, option_to_list}
 use Rattle.std.specs.List.{flat_map}
 use Rattle.std.proofs.lemmas.Grind.{flat_map-append}
 use Rattle.slave_desc.specs.declared.descriptions.SlaveDesc.{SlaveDesc}
-use Rattle.report_text.specs.Rows.{row_text, rows_text, spaced_value}
+use Rattle.run_text.specs.Rows.{row_text, rows_text, spaced_value}
 use Rattle.run_text.specs.Tables.{first_rows, outputs_of, ports_of, spaced_if}
 
 spaced_one : (o : Option ℤ) → flat_map spaced_value (option_to_list o) ≡ spaced_if o

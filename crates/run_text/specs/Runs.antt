@@ -1,13 +1,13 @@
 -- What is written of a run: the text of its rows and its report, and its trace.
 use Rattle.std.specs.Prelude.{◌≡◌, ℕ, ◌+◌, ◌-◌, ◌^◌, ◌⊎◌, Option, List}
-use Rattle.byte_spool.specs.declared.outputs.Delivery.{Delivery}
-use Rattle.byte_spool.specs.declared.outputs.Delivery.TheVariants.{Whole, Cut}
-use Rattle.byte_spool.specs.Outputs.{WroteAll, WroteFront}
+use Rattle.dcp_io.specs.declared.outputs.Delivery.{Delivery}
+use Rattle.dcp_io.specs.declared.outputs.Delivery.TheVariants.{Whole, Cut}
+use Rattle.dcp_io.specs.Outputs.{WroteAll, WroteFront}
 use Rattle.dcp_ends.specs.Events.{Event}
 use Rattle.scenario.specs.declared.scenarios.Scenario.{Scenario}
 use Rattle.master_spec.specs.declared.reports.Report.{Report}
 use Rattle.master_spec.specs.declared.setups.Setup.{Setup}
-use Rattle.report_text.specs.Closings.{report_text}
+use Rattle.run_text.specs.Closings.{report_text}
 use Rattle.run_text.specs.Tables.{table_after}
 
 -- all ends of a scenario of so many slaves as bits: the lowest is the master's, and the next ones are those of slave 1, slave 2 and so on

@@ -6,7 +6,7 @@ use Rattle.scenario.specs.declared.scenarios.Scenario.{Scenario}
 use Rattle.master_spec.specs.declared.setups.Setup.{Setup}
 use Rattle.master_spec.specs.Course.{course}
 use Rattle.master_core.specs.Columns.{column_value}
-use Rattle.report_text.specs.Rows.{spaced_value}
+use Rattle.run_text.specs.Rows.{spaced_value}
 
 -- the value of a port in row k of a master after these events, the newest first, where there is such a row, slave and port
 abbrev pub value_after : Setup → List Event → (k slave port : ℕ) → Option ℤ

@@ -5,14 +5,13 @@ ghost use Rattle.std.specs.List.{flat_map};
 ghost use Rattle.dcp_ends.specs.Events.{Event};
 ghost use Rattle.scenario.specs.Sound.{IsScenario};
 ghost use Rattle.master_core.specs.Standing.{StandsAfter, core_setup};
-ghost use Rattle.report_text.specs.Puts.{Puts};
-ghost use Rattle.report_text.specs.Rows.{row_text, rows_text, spaced_value};
+ghost use Rattle.run_text.specs.Puts.{Puts};
+ghost use Rattle.run_text.specs.Rows.{row_text, rows_text, spaced_value};
 ghost use Rattle.run_text.specs.Tables.{ports_of, row_after, spaced_if, table_after, value_after};
 
-use byte_spool::Spool;
-use dcp_io::Sink;
+use crate::{put_number, put_row_end, put_value};
+use dcp_io::{Sink, Spool};
 use master_core::MasterCore;
-use report_text::{put_number, put_row_end, put_value};
 use scenario::Scenario;
 
 /// Puts the value of a port in row k behind a space; nothing where there is none.

@@ -3,19 +3,18 @@
 ghost use Rattle.std.specs.Prelude.{◌≡◌, ◌<◌, ◌^◌, All, List, length, reverse};
 ghost use Rattle.dcp_ends.specs.Events.{Event};
 ghost use Rattle.scenario.specs.Sound.{IsScenario};
-ghost use Rattle.byte_spool.specs.Outputs.{Delivers};
+ghost use Rattle.dcp_io.specs.Outputs.{Delivers};
 ghost use Rattle.dcp_ends.specs.Logs.{IsInRange};
 ghost use Rattle.dcp_record.specs.Traces.{trace_bytes};
 ghost use Rattle.master_core.specs.Standing.{StandsAfter, core_setup};
 ghost use Rattle.run_text.specs.Runs.{DeliversBoth, all_bits, text_after};
 
+use crate::put_report_line;
 use crate::rows::put_rows;
 use crate::traces::write_trace;
-use byte_spool::{Delivery, Spool};
 use dcp_ends::LogEntry;
-use dcp_io::Sink;
+use dcp_io::{Delivery, Sink, Spool};
 use master_core::{MasterCore, Report};
-use report_text::put_report_line;
 use scenario::Scenario;
 
 /// Writes the rows and the report to the one sink, and then the trace to the other, which is not begun

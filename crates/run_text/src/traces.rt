@@ -2,14 +2,13 @@
 
 ghost use Rattle.std.specs.Prelude.{◌≡◌, ◌≤◌, ◌<◌, ◌^◌, All, length};
 ghost use Rattle.scenario.specs.Sound.{IsScenario};
-ghost use Rattle.byte_spool.specs.Outputs.{Delivers};
+ghost use Rattle.dcp_io.specs.Outputs.{Delivers};
 ghost use Rattle.dcp_ends.specs.Logs.{IsInRange};
 ghost use Rattle.dcp_record.specs.Traces.{trace_bytes};
 ghost use Rattle.run_text.specs.Runs.{all_bits};
 
-use byte_spool::Delivery;
 use dcp_ends::LogEntry;
-use dcp_io::Sink;
+use dcp_io::{Delivery, Sink};
 use dcp_record::write_record;
 use scenario::Scenario;
 

@@ -8,8 +8,8 @@ use Rattle.dcp_ends.specs.Events.{Send}
 use Rattle.fixed_models.specs.Steps.{all_fit}
 use Rattle.slave_desc.specs.declared.ports.Port.{Port}
 use Rattle.slave_desc.specs.declared.descriptions.SlaveDesc.{SlaveDesc}
-use Rattle.slave_wiring.specs.Changes.{Change, output, is_due}
-use Rattle.slave_wiring.specs.Payloads as payloads
+use Rattle.slave_spec.specs.Changes.{Change, output, is_due}
+use Rattle.slave_spec.specs.Payloads as payloads
 use Rattle.slave_spec.specs.Transport.{Parcel, parcel_send}
 use Rattle.slave_spec.specs.Turns.{parcel}
 use Rattle.slave_device.specs.Sending.{data_sends}

@@ -5,7 +5,7 @@ use Rattle.dcp_types.specs.declared.states.State.TheVariants.{Computed}
 use Rattle.dcp_ends.specs.Events.{Send}
 use Rattle.fixed_models.specs.Views.{moved}
 use Rattle.slave_desc.specs.declared.descriptions.SlaveDesc.{SlaveDesc}
-use Rattle.slave_wiring.specs.Payloads.{WiringState}
+use Rattle.slave_spec.specs.Payloads.{WiringState}
 use Rattle.slave_spec.specs.declared.words.SlaveSetup.{SlaveSetup}
 use Rattle.slave_spec.specs.Transport.{turned_sends}
 use Rattle.slave_spec.specs.Plants.{Plant}

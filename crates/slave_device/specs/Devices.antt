@@ -5,7 +5,7 @@ use Rattle.dcp_types.specs.declared.error_codes.ErrorCode.{ErrorCode}
 use Rattle.fixed_models.specs.Kinds.{takes, has_inputs}
 use Rattle.fixed_models.specs.Views.{View, moved}
 use Rattle.slave_desc.specs.declared.descriptions.SlaveDesc.{SlaveDesc}
-use Rattle.slave_wiring.specs.Payloads.{WiringState}
+use Rattle.slave_spec.specs.Payloads.{WiringState}
 use Rattle.slave_spec.specs.declared.words.SlaveSetup.{SlaveSetup}
 use Rattle.slave_spec.specs.declared.words.Asked.{Asked}
 use Rattle.slave_spec.specs.Plants.{Plant, output_types}

@@ -3,7 +3,7 @@ use Rattle.std.specs.Prelude.{ℕ, List, map, filter, ℤ}
 use Rattle.std.specs.List.{filter_map}
 use Rattle.dcp_ends.specs.Events.{Send}
 use Rattle.slave_desc.specs.declared.descriptions.SlaveDesc.{SlaveDesc}
-use Rattle.slave_wiring.specs.Changes.{Change, output, is_due}
+use Rattle.slave_spec.specs.Changes.{Change, output, is_due}
 use Rattle.slave_spec.specs.Transport.{parcel_send}
 use Rattle.slave_spec.specs.Turns.{parcel}
 

@@ -13,8 +13,7 @@ use crate::devices::Device;
 use dcp_types::{Address, ErrorCode, State};
 use pdu_layout::{Cfg, Inf, Stc};
 use slave_core::{SlaveOutbox, put_ack, put_entries, put_error, put_nack, put_state};
-use slave_spec::{Asked, SlaveRequest};
-use slave_wiring::Wired;
+use slave_spec::{Asked, SlaveRequest, Wired};
 
 impl<W: Wired> Device<W> {
     /// Answers a question.

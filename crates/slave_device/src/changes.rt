@@ -10,9 +10,8 @@ ghost use Rattle.slave_device.specs.Devices.{DeviceFor};
 use crate::devices::Device;
 use dcp_types::{ErrorCode, State};
 use pdu_layout::Stc;
-use slave_spec::Asked;
+use slave_spec::{Asked, Wired};
 use slave_states::next_on;
-use slave_wiring::Wired;
 
 pub(crate) fn is_deregister(body: &Stc) -> bool
     ensures { (named : State) → result ≡ is_last (Asked.Change named body.now) Ack }

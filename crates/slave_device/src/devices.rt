@@ -3,7 +3,7 @@
 ghost use Rattle.std.specs.Prelude.{◌≡◌, ◌≤◌, IfOk};
 ghost use Rattle.slave_desc.specs.Descriptions.{IsDesc};
 ghost use Rattle.slave_spec.specs.Plants.{start_plant, model_with, output_types};
-ghost use Rattle.slave_wiring.specs.Payloads.{bare_wires};
+ghost use Rattle.slave_spec.specs.Payloads.{bare_wires};
 ghost use Rattle.slave_device.specs.Made.{IsMade};
 
 use crate::works::Works;
@@ -11,8 +11,7 @@ use dcp_types::{DataType, FaultCode, OutOfMemory, State};
 use fixed_models::{Model, ModelRefused};
 use slave_desc::SlaveDesc;
 use slave_log::SlaveLog;
-use slave_spec::SlaveSetup;
-use slave_wiring::Wired;
+use slave_spec::{SlaveSetup, Wired};
 use std::alloc::Global;
 
 /// The machine of a slave over a wiring. The transport calls it by the trait `Inner`.

@@ -7,8 +7,7 @@ use crate::devices::Device;
 use dcp_types::{Address, ErrorCode, FaultCode, State};
 use pdu_layout::Stc;
 use slave_core::{Inner, SlaveOutbox};
-use slave_spec::{Asked, SlaveRequest};
-use slave_wiring::Wired;
+use slave_spec::{Asked, SlaveRequest, Wired};
 
 impl<W: Wired> Inner for Device<W> {
     ghost setup = { λ d. d.works.setup };

@@ -11,8 +11,7 @@ use crate::devices::Device;
 use dcp_types::Address;
 use slave_core::{SlaveOutbox, put_noted};
 use slave_log::{Noted, SlaveLog};
-use slave_spec::LogRemark;
-use slave_wiring::Wired;
+use slave_spec::{LogRemark, Wired};
 
 /// Notes an entry, and puts its notice where it is to be sent.
 fn note(log: &mut SlaveLog, step: u32, entry: LogRemark, to: Address, id: u8, out: &mut SlaveOutbox)

@@ -2,8 +2,8 @@
 
 ghost use Rattle.std.specs.Prelude.{ℕ, ◌≡◌, ◌<◌, ◌≤◌, ◌+◌, ◌++◌, ◌∷◌, [], map, length, take, true, false, slice_get, Some, MatchResult};
 ghost use Rattle.fixed_models.specs.Steps.{all_fit};
-ghost use Rattle.slave_wiring.specs.Changes.{output, ids};
-ghost use Rattle.slave_wiring.specs.Payloads as payloads;
+ghost use Rattle.slave_spec.specs.Changes.{output, ids};
+ghost use Rattle.slave_spec.specs.Payloads as payloads;
 ghost use Rattle.slave_spec.specs.Transport.{parcel_send};
 ghost use Rattle.slave_spec.specs.Plants.{Plant};
 ghost use Rattle.slave_spec.specs.Sound.{IsSoundPlant};
@@ -14,7 +14,7 @@ ghost use Rattle.slave_device.specs.Sending.{data_sends};
 use crate::devices::Device;
 use dcp_types::{FaultCode, State};
 use slave_core::SlaveOutbox;
-use slave_wiring::Wired;
+use slave_spec::Wired;
 
 impl<W: Wired> Device<W> {
     /// The outputs, where each lies in its type.

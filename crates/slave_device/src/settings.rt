@@ -2,8 +2,8 @@
 
 ghost use Rattle.std.specs.Prelude.{◌≡◌, List, Some, None, MatchResult};
 ghost use Rattle.slave_desc.specs.declared.descriptions.SlaveDesc.{SlaveDesc};
-ghost use Rattle.slave_wiring.specs.Changes.{Change};
-ghost use Rattle.slave_wiring.specs.Refusals as wiring;
+ghost use Rattle.slave_spec.specs.Changes.{Change};
+ghost use Rattle.slave_spec.specs.Refusals as wiring;
 ghost use Rattle.slave_spec.specs.Plants.{Plant};
 ghost use Rattle.slave_spec.specs.Requests.{refusal, accepted, parameter_refusal, set_to};
 ghost use Rattle.slave_device.specs.Devices.{DeviceFor};
@@ -11,8 +11,7 @@ ghost use Rattle.slave_device.specs.Devices.{DeviceFor};
 use crate::devices::Device;
 use dcp_types::{DataType, ErrorCode, State, fits};
 use pdu_layout::Cfg;
-use slave_spec::Asked;
-use slave_wiring::Wired;
+use slave_spec::{Asked, Wired};
 
 impl<W: Wired> Device<W> {
     /// Sets a parameter, or refuses that and changes nothing.
@@ -73,7 +72,7 @@ impl<W: Wired> Device<W> {
     }
 
     /// Forgets the configuration, and takes the parameters of the description.
-    #[tactic(auto, unfolding(slave_wiring::specs::Refusals::refusal_of_setting))]
+    #[tactic(auto, unfolding(slave_spec::specs::Refusals::refusal_of_setting))]
     fn clear(&mut self)
         ensures stands { (p : Plant) → DeviceFor W.stands self.old p → DeviceFor W.stands self.new (set_to self.old.works.setup p Cfg.Clear) }
         ensures never { (d : SlaveDesc) (changes : List Change) → wiring.refusal_of_setting d changes Cfg.Clear ≡ None }

@@ -2,7 +2,7 @@
 
 ghost use Rattle.std.specs.Prelude.{◌≡◌, ◌≤◌, [], IfOk};
 ghost use Rattle.slave_desc.specs.Descriptions.{IsDesc};
-ghost use Rattle.slave_wiring.specs.Payloads.{bare_wires};
+ghost use Rattle.slave_spec.specs.Payloads.{bare_wires};
 ghost use Rattle.slave_spec.specs.Slaves.{slave_rules_from};
 
 use crate::devices::Device;
@@ -10,7 +10,7 @@ use dcp_ends::End;
 use dcp_types::OutOfMemory;
 use slave_core::SlaveCore;
 use slave_desc::SlaveDesc;
-use slave_wiring::Wired;
+use slave_spec::Wired;
 use std::alloc::Global;
 
 /// A slave of this description to which nothing has come, in which a step has so many micro steps, over

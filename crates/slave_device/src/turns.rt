@@ -14,9 +14,8 @@ use crate::acts::Act;
 use crate::devices::Device;
 use dcp_types::{Address, FaultCode, State};
 use slave_core::{SlaveOutbox, put_changed};
-use slave_spec::LogRemark;
+use slave_spec::{LogRemark, Wired};
 use slave_states::next_on_turn;
-use slave_wiring::Wired;
 
 /// Whether the initial outputs are sent, after a state and what was so before.
 fn sent_after(state: State, before: bool) -> bool

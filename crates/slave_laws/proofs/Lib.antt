@@ -1,4 +1,4 @@
-pub mod Stepping
-pub mod Feeding
-pub mod Whole
-pub mod Asking
+pub mod Talk
+pub mod Model
+pub mod Wiring
+pub mod Data

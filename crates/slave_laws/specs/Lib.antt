@@ -1,1 +1,4 @@
-pub mod Whole
+pub mod Talk
+pub mod Model
+pub mod Wiring
+pub mod Data

@@ -1,23 +1,23 @@
-//! The slaves of a sound scenario are those that the laws of models speak of, but for where their inputs come from.
+//! The slave of the definition is a slave of the laws over a run, with no premise left but that no two parties
+//! share an address.
 //!
-//! There is no code.
+//! `Talk`: its requests and answers, and what it sends. `Model`: what it holds of its model and inputs, and what
+//! the exchanges tell of its parameters and its state. `Wiring`: its wiring is that of the plan, and what it reads
+//! off the payloads that it kept is what the reference reads. `Data`: the data that it owes and keeps, and the
+//! slaves of a sound scenario as the laws of models see them. There is no code.
 #![tactic(auto)]
 
-ghost use Rattle.slave_laws.specs.Whole.{AreMachinesOnRows, MasterAsksRequests, StepOnInputs};
-
-/// A step of a slave is the model's step on the inputs that the slave has.
-pub fn slaves_step_on_inputs()
-    ensures { StepOnInputs }
-{}
-
-/// The slaves of a scenario hold data and models as the laws want it, and are asked in order as these want it,
-/// where the inputs of each step are the reference's.
-pub fn slaves_are_machines()
-    ensures { AreMachinesOnRows }
-{}
-
-/// A master that converses with the slaves of a scenario asks requests alone, so it converses with those of which
-/// nothing else may be asked.
-pub fn masters_ask_requests()
-    ensures { MasterAsksRequests }
-{}
+pub mod courses;
+pub mod data;
+pub mod emits;
+pub mod holds;
+pub mod inputs;
+pub mod links;
+pub mod meets;
+pub mod payloads;
+pub mod reads;
+pub mod rows;
+pub mod sends;
+pub mod stages;
+pub mod tuned;
+pub mod whole;

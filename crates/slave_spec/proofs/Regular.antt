@@ -19,7 +19,7 @@ use Rattle.fixed_models.specs.Steps.{all_fit, outputs, and_then, micro_steps}
 use Rattle.fixed_models.specs.Views.{View, moved}
 use Rattle.slave_states.specs.Transitions as states
 use Rattle.slave_states.specs.Transitions.{transition_row, next_on, next_on_turn, is_barred, is_same, or_wrong}
-use Rattle.slave_wiring.specs.Payloads.{WiringState, wired_values, brought}
+use Rattle.slave_spec.specs.Payloads.{WiringState, wired_values, brought}
 use Rattle.slave_spec.specs.Heard.{Asked, Change, Setting, Question}
 use Rattle.slave_spec.specs.Transport.{Session, Before, During, After, Ack, is_register, is_last}
 use Rattle.slave_spec.specs.Plants.{SlaveSetup, Plant, start_plant}

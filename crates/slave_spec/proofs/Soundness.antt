@@ -22,7 +22,7 @@ use Rattle.fixed_models.specs.Steps.{all_fit, outputs, and_then, micro_steps}
 use Rattle.fixed_models.specs.Views.{View, moved, step_of}
 use Rattle.slave_states.specs.Transitions as states
 use Rattle.slave_states.specs.Transitions.{transition_row, next_on, next_on_turn, is_passing, is_barred, is_same, or_wrong}
-use Rattle.slave_wiring.specs.Payloads.{WiringState, wired_values, brought, ready}
+use Rattle.slave_spec.specs.Payloads.{WiringState, wired_values, brought, ready}
 use Rattle.slave_spec.specs.Heard.{Asked, Change, Setting, Question}
 use Rattle.slave_spec.specs.Plants.{SlaveSetup, Plant}
 use Rattle.slave_spec.specs.Requests.{first_true, refusal, moved_refusal, change_refusal, setting_refusal, body_refusal, is_in_error, is_left_out, accepted, changed_to, set_to, asked_of, state_or, answered_plant, answers}

@@ -2,7 +2,7 @@
 use Rattle.std.specs.Prelude.{ℕ, ℤ, List, ◌++◌, codes}
 use Rattle.std.specs.Fmt.{signed_decimal}
 use Rattle.master_spec.specs.declared.reports.Report.{Report}
-use Rattle.report_text.specs.Closings.{named, report_line}
+use Rattle.run_text.specs.Closings.{named, report_line}
 use Rattle.soaks.specs.Sums.{sum_of_rows}
 use Rattle.soaks.specs.Texts.{slave_count, step_count}
 

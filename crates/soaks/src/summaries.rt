@@ -1,22 +1,21 @@
 //! What is written of a run.
 
 ghost use Rattle.std.specs.Prelude.{◌≡◌, ◌≤◌, List, length, reverse};
-ghost use Rattle.byte_spool.specs.Outputs.{Delivers};
+ghost use Rattle.dcp_io.specs.Outputs.{Delivers};
 ghost use Rattle.dcp_ends.specs.Events.{Event};
 ghost use Rattle.scenario.specs.Sound.{IsScenario};
 ghost use Rattle.master_core.specs.Standing.{StandsAfter, core_setup};
-ghost use Rattle.report_text.specs.Closings.{named};
-ghost use Rattle.report_text.specs.Puts.{Puts};
+ghost use Rattle.run_text.specs.Closings.{named};
+ghost use Rattle.run_text.specs.Puts.{Puts};
 ghost use Rattle.run_text.specs.Tables.{table_after};
 ghost use Rattle.soaks.specs.Summaries.{first_line, sum_text, summary};
 
 use crate::sums::sum_of_rows;
-use byte_spool::{Delivery, Spool};
-use dcp_io::Sink;
+use dcp_io::{Delivery, Sink, Spool};
 use itoa::Buffer;
 use master_core::MasterCore;
 use master_spec::Report;
-use report_text::put_report_line;
+use run_text::put_report_line;
 use scenario::Scenario;
 
 /// Puts a word, and a number behind it.

@@ -1,3 +1,6 @@
 pub mod Cuts
 pub mod Lengths
 pub mod Histories
+pub mod Hellos
+pub mod Flushing
+pub mod Receiving

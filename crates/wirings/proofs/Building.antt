@@ -11,11 +11,11 @@ use Rattle.pdu_layout.specs.declared.fields.FieldKind.TheVariants as kinds
 use Rattle.pdu_layout.specs.Message.{Message, Spells, HasSpelling}
 use Rattle.pdu_layout.specs.Reading.{spelling}
 use Rattle.slave_desc.specs.declared.ports.Port.{Port}
-use Rattle.slave_wiring.specs.Refusals.{port_with}
+use Rattle.slave_spec.specs.Refusals.{port_with}
 use Rattle.dcp_types.specs.declared.addresses.Address.{Address}
 use Rattle.slave_desc.specs.declared.descriptions.SlaveDesc.{SlaveDesc}
-use Rattle.slave_wiring.specs.Changes.{Change, output, entries, ids, target, entry_interval, base, ordinal}
-use Rattle.slave_wiring.specs.Payloads.{IsMessage, payload, data_message, values_fit_ports, output_value, bytes_for, port_type}
+use Rattle.slave_spec.specs.Changes.{Change, output, entries, ids, target, entry_interval, base, ordinal}
+use Rattle.slave_spec.specs.Payloads.{IsMessage, payload, data_message, values_fit_ports, output_value, bytes_for, port_type}
 use Rattle.wirings.specs.Ports.{port_index, place_with}
 use Rattle.wirings.specs.Payloads.{place_bytes}
 use Rattle.wirings.specs.declared.places.PortPlace.{PortPlace}

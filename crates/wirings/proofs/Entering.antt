@@ -14,10 +14,10 @@ use Rattle.pdu_layout.specs.declared.messages.Cfg.TheVariants as cfg
 use Rattle.slave_desc.specs.declared.ports.Port.{Port}
 use Rattle.slave_desc.specs.declared.descriptions.SlaveDesc.{SlaveDesc}
 use Rattle.slave_desc.specs.Descriptions.{AreApart}
-use Rattle.slave_wiring.specs.Changes.{Change, Set, input, entries, has_id, ids, source, put_ascending, vr_for}
-use Rattle.slave_wiring.specs.Refusals.{refusal_of_setting, port_with, is_wired, refused_unless}
-use Rattle.slave_wiring.specs.Payloads as payloads
-use Rattle.slave_wiring.specs.Payloads.{WiringState, Kept, Spot, port_type, input_types, spot, spot_value, input_value, wired_values, kept_under}
+use Rattle.slave_spec.specs.Changes.{Change, Set, input, entries, has_id, ids, source, put_ascending, vr_for}
+use Rattle.slave_spec.specs.Refusals.{refusal_of_setting, port_with, is_wired, refused_unless}
+use Rattle.slave_spec.specs.Payloads as payloads
+use Rattle.slave_spec.specs.Payloads.{WiringState, Kept, Spot, port_type, input_types, spot, spot_value, input_value, wired_values, kept_under}
 use Rattle.wirings.specs.Ids.{IsThere, IsPlaceFor}
 use Rattle.wirings.specs.Ports.{IsPort, port_index}
 use Rattle.wirings.specs.Receiving.{kept_ordinal, input_row, segment_of, segment_for, IsPlaced, IsCoherent, AreInputs}

@@ -3,7 +3,7 @@ use Rattle.std.proofs.Common.{◌≡◌, ◌≢◌, ℕ, zero, suc, ◌<◌, tru
 use Rattle.std.proofs.lemmas.Bool.Decides.{nat_tests}
 use Rattle.std.specs.Prelude.{◌==◌}
 use Rattle.slave_desc.specs.declared.ports.Port.{Port}
-use Rattle.slave_wiring.specs.Refusals.{port_with}
+use Rattle.slave_spec.specs.Refusals.{port_with}
 use Rattle.wirings.specs.declared.places.PortPlace.{PortPlace}
 use Rattle.wirings.specs.Ports.{port_index, IsPort}
 use Rattle.std.proofs.lemmas.List.{get_or_default}

@@ -3,7 +3,7 @@ use Rattle.std.proofs.Common.{◌≡◌, ℕ, true, false, List, [], ◌∷◌, 
 use Rattle.std.specs.Prelude.{◌==◌, nat_lt, option_map}
 use Rattle.std.specs.List.{filter_map, cons_option}
 use Rattle.std.proofs.lemmas.Bool.Decides.{nat_tests}
-use Rattle.slave_wiring.specs.Changes.{Change, Set, Restart, entry_interval, interval_given, base, set_or, Entry, Side, vr_for, entries, has_id, ids, ascending}
+use Rattle.slave_spec.specs.Changes.{Change, Set, Restart, entry_interval, interval_given, base, set_or, Entry, Side, vr_for, entries, has_id, ids, ascending}
 use Rattle.wirings.specs.Ids.{IsThere, IsPlaceFor}
 use Rattle.wirings.proofs.Ascending.{by_test, Ascends, ascending_ascends, is_among, among_put, map_among, among_there, not_among}
 

@@ -10,9 +10,9 @@ use Rattle.dcp_types.specs.Values.{width}
 use Rattle.pdu_layout.specs.declared.messages.Cfg.TheVariants as cfg
 use Rattle.pdu_layout.specs.Reading.{value_in}
 use Rattle.slave_desc.specs.declared.descriptions.SlaveDesc.{SlaveDesc}
-use Rattle.slave_wiring.specs.Changes.{Change, Set, input, entries}
-use Rattle.slave_wiring.specs.Refusals.{port_with, is_wired}
-use Rattle.slave_wiring.specs.Payloads.{Kept, Spot, port_type, input_types, spot, cut_values, value_kept}
+use Rattle.slave_spec.specs.Changes.{Change, Set, input, entries}
+use Rattle.slave_spec.specs.Refusals.{port_with, is_wired}
+use Rattle.slave_spec.specs.Payloads.{Kept, Spot, port_type, input_types, spot, cut_values, value_kept}
 use Rattle.wirings.specs.Receiving.{segment_of, segment_value, IsPlaced}
 use Rattle.wirings.specs.declared.tables.Segment.{Segment}
 use Rattle.wirings.proofs.Ascending.{by_test}

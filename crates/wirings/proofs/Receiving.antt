@@ -9,10 +9,10 @@ use Rattle.pdu_layout.specs.declared.messages.NetInfo.{NetInfo}
 use Rattle.slave_desc.specs.declared.ports.Port.{Port}
 use Rattle.slave_desc.specs.declared.descriptions.SlaveDesc.{SlaveDesc}
 use Rattle.slave_desc.specs.Descriptions.{AreApart}
-use Rattle.slave_wiring.specs.Changes.{Change, Set, input, has_id, ids, source}
-use Rattle.slave_wiring.specs.Refusals.{refusal_of_setting, refused_unless, is_transport}
-use Rattle.slave_wiring.specs.Payloads as payloads
-use Rattle.slave_wiring.specs.Payloads.{WiringState, Kept, Spot, bare_wires, brought, is_wanted, port_type, input_types, spot, spot_given, value_kept, spot_value, input_value, wired_values, kept_under, is_address, is_here, is_kept_of, restarted, cut_values}
+use Rattle.slave_spec.specs.Changes.{Change, Set, input, has_id, ids, source}
+use Rattle.slave_spec.specs.Refusals.{refusal_of_setting, refused_unless, is_transport}
+use Rattle.slave_spec.specs.Payloads as payloads
+use Rattle.slave_spec.specs.Payloads.{WiringState, Kept, Spot, bare_wires, brought, is_wanted, port_type, input_types, spot, spot_given, value_kept, spot_value, input_value, wired_values, kept_under, is_address, is_here, is_kept_of, restarted, cut_values}
 use Rattle.wirings.specs.Ids.{IsThere, IsPlaceFor, IsFound}
 use Rattle.wirings.specs.Receiving.{input_row, AreInputs}
 use Rattle.wirings.specs.declared.tables.InputRow.{InputRow}

@@ -11,9 +11,9 @@ use Rattle.dcp_types.specs.declared.error_codes.ErrorCode.TheVariants.{NotSuppor
 use Rattle.pdu_layout.specs.declared.messages.Cfg.TheVariants as cfg
 use Rattle.slave_desc.specs.declared.ports.Port.{Port}
 use Rattle.slave_desc.specs.declared.descriptions.SlaveDesc.{SlaveDesc}
-use Rattle.slave_wiring.specs.Changes.{Change, Set, Restart, output, entries, has_id, ids, target, entry_interval, base, put_ascending, vr_for}
+use Rattle.slave_spec.specs.Changes.{Change, Set, Restart, output, entries, has_id, ids, target, entry_interval, base, put_ascending, vr_for}
 use Rattle.pdu_layout.specs.declared.messages.NetInfo.{NetInfo}
-use Rattle.slave_wiring.specs.Refusals.{is_transport, refusal_of_setting, is_full, port_with, refused_unless}
+use Rattle.slave_spec.specs.Refusals.{is_transport, refusal_of_setting, is_full, port_with, refused_unless}
 use Rattle.wirings.specs.Ids.{IsThere, IsPlaceFor, IsFound}
 use Rattle.wirings.specs.Ports.{IsPort, place_with}
 use Rattle.wirings.specs.Sending.{output_row, AreOutputs, row_restarted}

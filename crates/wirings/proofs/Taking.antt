@@ -9,10 +9,10 @@ use Rattle.dcp_types.specs.declared.addresses.Address.{Address}
 use Rattle.dcp_types.specs.Values.{width}
 use Rattle.slave_desc.specs.declared.ports.Port.{Port}
 use Rattle.slave_desc.specs.declared.descriptions.SlaveDesc.{SlaveDesc}
-use Rattle.slave_wiring.specs.Changes.{Change, Restart, input, has_id, ids, entry_interval, base}
-use Rattle.slave_wiring.specs.Refusals.{port_with}
-use Rattle.slave_wiring.specs.Payloads as payloads
-use Rattle.slave_wiring.specs.Payloads.{WiringState, Kept, Spot, brought, is_wanted, port_type, input_types, spot, spot_value, input_value, wired_values, kept_under, is_address, is_here, is_kept_of, restarted}
+use Rattle.slave_spec.specs.Changes.{Change, Restart, input, has_id, ids, entry_interval, base}
+use Rattle.slave_spec.specs.Refusals.{port_with}
+use Rattle.slave_spec.specs.Payloads as payloads
+use Rattle.slave_spec.specs.Payloads.{WiringState, Kept, Spot, brought, is_wanted, port_type, input_types, spot, spot_value, input_value, wired_values, kept_under, is_address, is_here, is_kept_of, restarted}
 use Rattle.wirings.specs.Ids.{IsThere, IsPlaceFor}
 use Rattle.wirings.specs.Receiving.{kept_ordinal, input_row, segment_for, input_after, IsCoherent, AreInputs, is_kept_for, wants, input_restarted}
 use Rattle.wirings.specs.declared.tables.InputRow.{InputRow}

@@ -9,10 +9,10 @@ use Rattle.dcp_types.specs.declared.error_codes.ErrorCode.TheVariants.{NotSuppor
 use Rattle.pdu_layout.specs.declared.messages.Cfg.TheVariants as cfg
 use Rattle.pdu_layout.specs.declared.messages.NetInfo.{NetInfo}
 use Rattle.slave_desc.specs.declared.descriptions.SlaveDesc.{SlaveDesc}
-use Rattle.slave_wiring.specs.Changes.{Change, Set, input, output, has_id, ids, source, complete, steps_in_run}
-use Rattle.slave_wiring.specs.Refusals.{refusal_of_setting, refused_unless, is_transport}
-use Rattle.slave_wiring.specs.Payloads as payloads
-use Rattle.slave_wiring.specs.Payloads.{WiringState, ready, is_here, kept_under}
+use Rattle.slave_spec.specs.Changes.{Change, Set, input, output, has_id, ids, source, complete, steps_in_run}
+use Rattle.slave_spec.specs.Refusals.{refusal_of_setting, refused_unless, is_transport}
+use Rattle.slave_spec.specs.Payloads as payloads
+use Rattle.slave_spec.specs.Payloads.{WiringState, ready, is_here, kept_under}
 use Rattle.wirings.specs.Sending.{output_row, AreOutputs}
 use Rattle.wirings.specs.Receiving.{input_row, AreInputs, is_kept_for}
 use Rattle.wirings.specs.Standing.{WiringFor}

@@ -1,8 +1,8 @@
 -- The port with a value reference.
 use Rattle.std.specs.Prelude.{◌≡◌, ℕ, suc, ◌==◌, ◌<◌, List, [], ◌∷◌, length, Some, if◌then◌else◌}
 use Rattle.slave_desc.specs.declared.ports.Port.{Port}
-use Rattle.slave_wiring.specs.Refusals.{port_with}
-use Rattle.slave_wiring.specs.Payloads.{port_type}
+use Rattle.slave_spec.specs.Refusals.{port_with}
+use Rattle.slave_spec.specs.Payloads.{port_type}
 use Rattle.wirings.specs.declared.places.PortPlace.{PortPlace}
 
 -- the number of the first port with this value reference, or how many ports there are

@@ -7,9 +7,9 @@ use Rattle.dcp_types.specs.Values.{width}
 use Rattle.pdu_layout.specs.Reading.{value_in}
 use Rattle.slave_desc.specs.declared.descriptions.SlaveDesc.{SlaveDesc}
 use Rattle.slave_desc.specs.Descriptions.{AreApart}
-use Rattle.slave_wiring.specs.Changes.{Change, input, entries, has_id, ids, source, entry_interval, base}
-use Rattle.slave_wiring.specs.Refusals.{port_with}
-use Rattle.slave_wiring.specs.Payloads.{WiringState, Kept, Spot, port_type, input_types, kept_under, is_address, spot, wired_values}
+use Rattle.slave_spec.specs.Changes.{Change, input, entries, has_id, ids, source, entry_interval, base}
+use Rattle.slave_spec.specs.Refusals.{port_with}
+use Rattle.slave_spec.specs.Payloads.{WiringState, Kept, Spot, port_type, input_types, kept_under, is_address, spot, wired_values}
 use Rattle.wirings.specs.declared.tables.InputRow.{InputRow}
 use Rattle.wirings.specs.declared.tables.Segment.{Segment}
 use Rattle.wirings.specs.declared.tables.Inputs.{Inputs}

@@ -2,7 +2,7 @@
 use Rattle.std.specs.Prelude.{◌≡◌, ℕ, ◌%◌, ◌+◌, ◌/◌, false, List, map, reverse, None}
 use Rattle.slave_desc.specs.declared.ports.Port.{Port}
 use Rattle.slave_desc.specs.declared.descriptions.SlaveDesc.{SlaveDesc}
-use Rattle.slave_wiring.specs.Changes.{Change, output, entries, has_id, ids, target, entry_interval, base}
+use Rattle.slave_spec.specs.Changes.{Change, output, entries, has_id, ids, target, entry_interval, base}
 use Rattle.wirings.specs.Ports.{place_with}
 use Rattle.wirings.specs.declared.tables.OutputRow.{OutputRow}
 use Rattle.wirings.specs.declared.tables.Outputs.{Outputs}

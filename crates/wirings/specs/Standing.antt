@@ -2,8 +2,8 @@
 use Rattle.std.specs.Prelude.{◌≡◌, nat_lt, length}
 use Rattle.std.specs.List.{filter_map}
 use Rattle.slave_desc.specs.declared.descriptions.SlaveDesc.{SlaveDesc}
-use Rattle.slave_wiring.specs.Changes.{time_given}
-use Rattle.slave_wiring.specs.Payloads.{WiringState}
+use Rattle.slave_spec.specs.Changes.{time_given}
+use Rattle.slave_spec.specs.Payloads.{WiringState}
 use Rattle.wirings.specs.Sending.{AreOutputs}
 use Rattle.wirings.specs.Receiving.{AreInputs}
 use Rattle.wirings.specs.declared.wirings.Wiring.{Wiring}

@@ -1,8 +1,8 @@
 //! The other ends of data messages.
 
 ghost use Rattle.std.specs.Prelude.{◌≡◌};
-ghost use Rattle.slave_wiring.specs.Refusals.{is_transport};
-ghost use Rattle.slave_wiring.specs.Payloads.{is_address};
+ghost use Rattle.slave_spec.specs.Refusals.{is_transport};
+ghost use Rattle.slave_spec.specs.Payloads.{is_address};
 
 use dcp_types::{Address, Protocol};
 use pdu_layout::NetInfo;

@@ -3,9 +3,9 @@
 ghost use Rattle.std.specs.Prelude.{◌≡◌, ◌==◌, ◌&&◌, List, ℕ, ◌≤◌, ◌<◌, ◌%◌, nat_lt, true, [], ◌∷◌, length, slice_get, Some, None, IfOk, IfSome, MatchResult, is_some, ⊤};
 ghost use Rattle.std.specs.List.{list_all};
 ghost use Rattle.slave_desc.specs.declared.descriptions.SlaveDesc.{SlaveDesc};
-ghost use Rattle.slave_wiring.specs.Changes.{Change, Set, Restart, output, ids, has_id, target, is_due};
-ghost use Rattle.slave_wiring.specs.Refusals.{refusal_of_setting, is_transport};
-ghost use Rattle.slave_wiring.specs.Payloads.{IsBuilt};
+ghost use Rattle.slave_spec.specs.Changes.{Change, Set, Restart, output, ids, has_id, target, is_due};
+ghost use Rattle.slave_spec.specs.Refusals.{refusal_of_setting, is_transport};
+ghost use Rattle.slave_spec.specs.Payloads.{IsBuilt};
 ghost use Rattle.pdu_layout.specs.declared.messages.Cfg.TheVariants as cfg;
 ghost use Rattle.wirings.specs.Ids.{IsThere, IsPlaceFor};
 ghost use Rattle.wirings.specs.Sending.{AreOutputs};

@@ -4,7 +4,7 @@ ghost use Rattle.std.specs.Prelude.{◌≡◌, ◌+◌, ◌*◌, ◌≤◌, ◌<
 ghost use Rattle.std.specs.List.{flat_map};
 ghost use Rattle.dcp_types.specs.Values.{width, fits};
 ghost use Rattle.pdu_layout.specs.Reading.{spelling};
-ghost use Rattle.slave_wiring.specs.Payloads.{data_message};
+ghost use Rattle.slave_spec.specs.Payloads.{data_message};
 ghost use Rattle.wirings.specs.Payloads.{value_for, place_bytes};
 
 use crate::places::{POSITIONS, PortPlace};

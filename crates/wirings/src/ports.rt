@@ -1,7 +1,7 @@
 //! The ports of a slave, by value reference.
 
 ghost use Rattle.std.specs.Prelude.{◌≡◌, MatchOption, None};
-ghost use Rattle.slave_wiring.specs.Refusals.{port_with};
+ghost use Rattle.slave_spec.specs.Refusals.{port_with};
 ghost use Rattle.wirings.specs.Ports.{IsPort};
 
 use crate::places::PortPlace;

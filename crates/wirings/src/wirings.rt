@@ -4,9 +4,9 @@ ghost use Rattle.std.specs.Prelude.{◌≡◌, ◌==◌, ◌&&◌, ◌||◌, ◌
 ghost use Rattle.std.specs.List.{list_all};
 ghost use Rattle.slave_desc.specs.declared.descriptions.SlaveDesc.{SlaveDesc};
 ghost use Rattle.slave_desc.specs.Descriptions.{AreApart};
-ghost use Rattle.slave_wiring.specs.Changes.{input, output, ids, has_id, is_due, complete};
-ghost use Rattle.slave_wiring.specs.Refusals.{refusal_of_setting};
-ghost use Rattle.slave_wiring.specs.Payloads.{WiringState, bare_wires, set, ready};
+ghost use Rattle.slave_spec.specs.Changes.{input, output, ids, has_id, is_due, complete};
+ghost use Rattle.slave_spec.specs.Refusals.{refusal_of_setting};
+ghost use Rattle.slave_spec.specs.Payloads.{WiringState, bare_wires, set, ready};
 ghost use Rattle.pdu_layout.specs.declared.messages.Cfg.TheVariants as cfg;
 ghost use Rattle.wirings.specs.Standing.{WiringFor};
 
@@ -15,7 +15,7 @@ use crate::tables::{Inputs, Outputs};
 use dcp_types::{Address, DataType, ErrorCode, OutOfMemory};
 use pdu_layout::{Cfg, NetInfo};
 use slave_desc::SlaveDesc;
-use slave_wiring::Wired;
+use slave_spec::Wired;
 use std::alloc::Global;
 
 /// The steps between two messages of a data id are at most so many.
@@ -170,12 +170,12 @@ impl Wiring {
 
 impl Wired for Wiring {
     ghost use Rattle.slave_desc.specs.declared.descriptions.SlaveDesc.{SlaveDesc};
-    ghost use Rattle.slave_wiring.specs.Payloads.{WiringState};
+    ghost use Rattle.slave_spec.specs.Payloads.{WiringState};
     ghost use Rattle.wirings.specs.Standing.{WiringFor};
 
     ghost stands = { λ w d x. WiringFor w d x };
 
-    #[tactic(auto, unfolding(slave_wiring::specs::Refusals::refusal_of_setting))]
+    #[tactic(auto, unfolding(slave_spec::specs::Refusals::refusal_of_setting))]
     fn apply(&mut self, body: &Cfg) -> Result<(), ErrorCode> {
         match body {
             Cfg::Clear => {

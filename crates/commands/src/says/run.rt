@@ -9,8 +9,7 @@ use crate::answers::{CommandAnswer, Unsaid};
 use crate::inputs::LIMIT;
 use crate::refusals::{refuse_past_limit, refuse_text};
 use dcp_net::Net;
-use host::HostFault;
-use scenario_runs::{Stopped, run_scenario};
+use host::{HostFault, Stopped, run_scenario};
 use scenario_text::read_scenario;
 use std::alloc::Global;
 

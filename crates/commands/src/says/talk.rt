@@ -10,8 +10,8 @@ use crate::inputs::LIMIT;
 use crate::refusals::{refuse_past_limit, refuse_text};
 use crate::said::{Statement, Text};
 use crate::statuses::Judgement;
-use dcp_slave::new_slave;
 use dcp_types::OutOfMemory;
+use slave_device::new_slave;
 use std::alloc::Global;
 use talk_text::{Talk, put_talk, read_talk};
 

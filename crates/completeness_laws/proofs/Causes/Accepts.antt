@@ -11,25 +11,25 @@ use Rattle.pdu_layout.specs.declared.messages.Stc.{Stc}
 use Rattle.pdu_layout.specs.declared.messages.Stc.TheVariants as stc
 use Rattle.pdu_layout.specs.declared.messages.Cfg.{Cfg}
 use Rattle.slave_states.specs.Transitions.{next_on, next_on_turn, is_same}
-use Rattle.slave_wiring.specs.Changes.{complete}
-use Rattle.slave_wiring.specs.Payloads.{ready}
-use Rattle.slave_wiring.specs.Refusals.{refused_unless}
+use Rattle.slave_spec.specs.Changes.{complete}
+use Rattle.slave_spec.specs.Payloads.{ready}
+use Rattle.slave_spec.specs.Refusals.{refused_unless}
 use Rattle.slave_spec.specs.declared.words.SlaveSetup.{SlaveSetup}
 use Rattle.slave_spec.specs.declared.words.Asked.{Asked}
 use Rattle.slave_spec.specs.declared.words.Asked.TheVariants as words
 use Rattle.slave_spec.specs.Transport as transport
 use Rattle.slave_spec.specs.Plants.{Plant, start_plant}
 use Rattle.slave_spec.specs.Requests.{is_in_error, is_left_out, first_true, moved_refusal, change_refusal, body_refusal, refusal, answer, answered_plant, answers}
-use Rattle.slave_stages.specs.Stages.{reached_by_turns}
+use Rattle.slave_laws.specs.Model.Stages.{reached_by_turns}
 use Rattle.master_spec.specs.declared.requests.Request.{Request}
 use Rattle.master_spec.specs.declared.requests.Request.TheVariants.{Change, Configure, AskState, AskError}
 use Rattle.master_spec.specs.declared.requests.Answer.TheVariants.{Ack, Nack, StateAck, ErrorAck}
 use Rattle.master_spec.specs.declared.tasks.Task.{Task}
 use Rattle.master_spec.specs.declared.tasks.Task.TheVariants as tasks
 use Rattle.master_spec.specs.Tasks.{requests_of, is_by_list, asks_step}
-use Rattle.phase_laws.proofs.Mains.{is_main_request}
-use Rattle.plan_order_laws.proofs.Hearing.{asked_for}
-use Rattle.plan_order_laws.proofs.Requests.{in_list}
+use Rattle.master_log_laws.proofs.Phases.Mains.{is_main_request}
+use Rattle.master_laws.proofs.PlanOrder.Hearing.{asked_for}
+use Rattle.master_laws.proofs.PlanOrder.Requests.{in_list}
 use Rattle.completeness_laws.proofs.Causes.Exchanges.{heard_answer}
 use Rattle.completeness_laws.proofs.Causes.Chains.{IsRunning, ComesFrom}
 

@@ -18,9 +18,9 @@ use Rattle.log_spec.specs.Messages.{Note}
 use Rattle.log_spec.specs.Log.{Parties, DecidedRequest}
 use Rattle.log_spec.specs.Moves.{move}
 use Rattle.slave_states.specs.Transitions.{next_on}
-use Rattle.slave_wiring.specs.Changes as wiring
-use Rattle.slave_wiring.specs.Changes.{complete}
-use Rattle.slave_wiring.specs.Payloads.{Kept, is_wanted}
+use Rattle.slave_spec.specs.Changes as wiring
+use Rattle.slave_spec.specs.Changes.{complete}
+use Rattle.slave_spec.specs.Payloads.{Kept, is_wanted}
 use Rattle.slave_spec.specs.declared.words.SlaveSetup.{SlaveSetup}
 use Rattle.slave_spec.specs.declared.words.SlaveRequest as req
 use Rattle.slave_spec.specs.declared.words.Asked.{Asked}
@@ -33,11 +33,11 @@ use Rattle.slave_spec.specs.Requests.{refusal, changed_to, set_to, asked_of, acc
 use Rattle.slave_spec.specs.Turns as turns
 use Rattle.slave_spec.specs.Turns.{Act, act, turned, is_listening}
 use Rattle.slave_spec.specs.Slaves.{machine}
-use Rattle.slave_meets.specs.Desks.{answer_note, Both, at}
-use Rattle.slave_sends.specs.Laws.{ReadsMessages}
-use Rattle.slave_holds.proofs.Along.{exchanged}
-use Rattle.slave_tuned.proofs.Parameters.{acknowledges, acknowledged}
-use Rattle.course_spec.specs.Taken.{asked_heard, is_acknowledged, setting_taken, settings_taken}
+use Rattle.slave_laws.specs.Talk.Desks.{answer_note, Both, at}
+use Rattle.slave_laws.specs.Talk.Sends.{ReadsMessages}
+use Rattle.slave_laws.proofs.Model.Along.{exchanged}
+use Rattle.slave_laws.proofs.Model.Parameters.{acknowledges, acknowledged}
+use Rattle.plan_laws.specs.Course.Taken.{asked_heard, is_acknowledged, setting_taken, settings_taken}
 use Rattle.plan_laws.specs.Taking.{IsScenarioSlave, TakesAll, plant_after_all}
 use Rattle.plan_laws.specs.Runs.{TakesAmid, after_amid, lists_until}
 use Rattle.plan_laws.proofs.Machines.{after_append}

@@ -10,10 +10,10 @@ use Rattle.pdu_layout.specs.declared.messages.Cfg.{Cfg}
 use Rattle.log_spec.specs.Log.{Parties, IsSlaveOf}
 use Rattle.log_spec.specs.Moves.{decided_exchanges}
 use Rattle.lockstep_laws.specs.Steps.{Show, view}
-use Rattle.model_laws.specs.Scenarios.{slave_numbered}
+use Rattle.lockstep_laws.specs.Models.Scenarios.{slave_numbered}
 use Rattle.slave_spec.specs.declared.words.Asked.{Asked}
-use Rattle.course_spec.specs.Taken.{settings_taken, told_since, same_settings}
-use Rattle.course_spec.specs.Courses.{tuned, opened}
+use Rattle.plan_laws.specs.Course.Taken.{settings_taken, told_since, same_settings}
+use Rattle.plan_laws.specs.Course.Courses.{tuned, opened}
 use Rattle.plan_laws.specs.Runs.{lists_until}
 use Rattle.master_spec.specs.declared.causes.Cause.{Cause}
 use Rattle.master_spec.specs.declared.causes.Verdict.{Verdict}
@@ -29,33 +29,33 @@ use Rattle.master_spec.specs.Jobs.{Job}
 use Rattle.master_spec.specs.Marks.{Begun, count, is_begun, open_request, verdict_of}
 use Rattle.master_spec.specs.Requests.{Asking, Decision, asks}
 use Rattle.master_spec.specs.Setup.{setup_from, jobs_of, slave_of}
-use Rattle.asking_laws.specs.Legal.{Rests, AreLegal, GoesByRule, BeginsJob}
-use Rattle.asking_laws.proofs.Legal.{going}
-use Rattle.index_laws.specs.Runs.{events_of_master, course_at, IsRun}
-use Rattle.index_laws.specs.Index.{Placed, at, marks_of, askings_told, ReadBack}
-use Rattle.index_laws.specs.Follows.{talk_with}
-use Rattle.index_laws.specs.Late.{AreLate}
-use Rattle.index_laws.proofs.Late.{all_report}
-use Rattle.index_laws.proofs.Laws.{listens}
-use Rattle.index_laws.proofs.Reported.{all_get, reported}
-use Rattle.index_laws.proofs.Runs.{with_at}
-use Rattle.scenario_laws.proofs.Heard.{setups_heard}
-use Rattle.phase_laws.specs.Laws.{AreDecided}
-use Rattle.phase_laws.proofs.Numbered.{ordered}
-use Rattle.master_meets.specs.Laws.{IsParty}
-use Rattle.master_hears.proofs.Decided.{decisions}
-use Rattle.barrier_laws.specs.Laws.{events_before}
-use Rattle.barrier_laws.proofs.Standing.{passed_done}
-use Rattle.plan_order_laws.proofs.Hearing.{asked_of}
-use Rattle.plan_order_laws.proofs.Taken.{settings_by, settings_with, ready_by, ready_with, AreTaken, taken}
-use Rattle.plan_order_laws.proofs.Standing.{Standing, at_first, standing, standing_next, after_task, after_job, IsReady, kind_of, AreAlike, alike_at, SameClock, same_clock}
-use Rattle.plan_order_laws.proofs.Planned.{jobs_alike}
-use Rattle.plan_order_laws.proofs.Phases.{Agrees, agrees_past}
-use Rattle.plan_order_laws.proofs.Asking.{finds, InPhase, in_phase}
-use Rattle.plan_order_laws.proofs.Lists.{all_same, lists_are}
+use Rattle.master_log_laws.specs.Asking.Legal.{Rests, AreLegal, GoesByRule, BeginsJob}
+use Rattle.master_log_laws.proofs.Asking.Legal.{going}
+use Rattle.master_log_laws.specs.Index.Runs.{events_of_master, course_at, IsRun}
+use Rattle.master_log_laws.specs.Index.Index.{Placed, at, marks_of, askings_told, ReadBack}
+use Rattle.master_log_laws.specs.Index.Follows.{talk_with}
+use Rattle.master_log_laws.specs.Index.Late.{AreLate}
+use Rattle.master_log_laws.proofs.Index.Late.{all_report}
+use Rattle.master_log_laws.proofs.Index.Laws.{listens}
+use Rattle.master_log_laws.proofs.Index.Reported.{all_get, reported}
+use Rattle.master_log_laws.proofs.Index.Runs.{with_at}
+use Rattle.master_log_laws.proofs.Scenarios.Heard.{setups_heard}
+use Rattle.master_log_laws.specs.Phases.Laws.{AreDecided}
+use Rattle.master_log_laws.proofs.Phases.Numbered.{ordered}
+use Rattle.master_laws.specs.Meets.Laws.{IsParty}
+use Rattle.master_laws.proofs.Hears.Decided.{decisions}
+use Rattle.master_laws.specs.Barrier.Laws.{events_before}
+use Rattle.master_laws.proofs.Barrier.Standing.{passed_done}
+use Rattle.master_laws.proofs.PlanOrder.Hearing.{asked_of}
+use Rattle.master_laws.proofs.PlanOrder.Taken.{settings_by, settings_with, ready_by, ready_with, AreTaken, taken}
+use Rattle.master_laws.proofs.PlanOrder.Standing.{Standing, at_first, standing, standing_next, after_task, after_job, IsReady, kind_of, AreAlike, alike_at, SameClock, same_clock}
+use Rattle.master_laws.proofs.PlanOrder.Planned.{jobs_alike}
+use Rattle.master_laws.proofs.PlanOrder.Phases.{Agrees, agrees_past}
+use Rattle.master_laws.proofs.PlanOrder.Asking.{finds, InPhase, in_phase}
+use Rattle.master_laws.proofs.PlanOrder.Lists.{all_same, lists_are}
 use Rattle.run_laws.specs.Laws.{parties, IsRunOf}
 use Rattle.run_laws.proofs.Runs.{party, are_parties}
-use Rattle.failure_laws.specs.Laws.{IsSetup}
+use Rattle.master_log_laws.specs.Failures.Laws.{IsSetup}
 use Rattle.completeness_laws.proofs.Causes.Ended.{IsEndedBy}
 use Rattle.completeness_laws.proofs.Causes.Unexpected.{is_run, ended}
 use Rattle.completeness_laws.proofs.Causes.Places.{events_are_before}

@@ -4,7 +4,7 @@ use Rattle.std.specs.Prelude.{slice_get}
 use Rattle.std.specs.List.{flat_map, range_with_len}
 use Rattle.dcp_types.specs.declared.states.State.{State}
 use Rattle.dcp_types.specs.declared.states.State.TheVariants.{Alive, Configuration, Preparing, Configuring, Initializing, SendingI, Synchronizing, Computing, SendingD, Stopping}
-use Rattle.slave_stages.specs.Stages.{SlaveStage}
+use Rattle.slave_laws.specs.Model.Stages.{SlaveStage}
 use Rattle.master_spec.specs.declared.setups.Script.{Script}
 use Rattle.master_spec.specs.declared.tasks.Task.{Task}
 use Rattle.master_spec.specs.declared.tasks.Task.TheVariants as tasks

@@ -11,9 +11,9 @@ use Rattle.slave_states.specs.Transitions.{next_on_turn, is_same}
 use Rattle.slave_spec.specs.declared.words.SlaveRequest.{SlaveRequest}
 use Rattle.slave_spec.specs.Requests.{is_in_error}
 use Rattle.slave_spec.specs.Transport as transport
-use Rattle.slave_meets.specs.Desks.{answer_note}
-use Rattle.course_spec.specs.Taken.{asked_in}
-use Rattle.slave_stages.specs.Stages.{SlaveStage, reached_by_turns, IsInStage, IsNoteOf, IsVerdictNote, FitsStage, AllFitStages}
+use Rattle.slave_laws.specs.Talk.Desks.{answer_note}
+use Rattle.plan_laws.specs.Course.Taken.{asked_in}
+use Rattle.slave_laws.specs.Model.Stages.{SlaveStage, reached_by_turns, IsInStage, IsNoteOf, IsVerdictNote, FitsStage, AllFitStages}
 use Rattle.master_spec.specs.declared.requests.Request.{Request}
 use Rattle.master_spec.specs.declared.requests.Request.TheVariants.{Change, Configure, AskState, AskError}
 use Rattle.master_spec.specs.declared.requests.Answer.{Answer}
@@ -25,10 +25,10 @@ use Rattle.master_spec.specs.Tasks.{is_by_end, target_of, passing_of}
 use Rattle.master_spec.specs.Conversation.{is_error, is_state}
 use Rattle.master_spec.specs.Requests.{Asking, Decision}
 use Rattle.master_spec.specs.Shown.{fits_change, fits_error}
-use Rattle.master_hears.specs.Laws.{IsAnswerAs, IsDecision, AreDecisions}
-use Rattle.failure_laws.specs.Because.{fits_mark}
-use Rattle.phase_laws.proofs.Now.{IsOf, IsDecidedBy}
-use Rattle.plan_order_laws.proofs.Hearing.{asked_for, asked_is}
+use Rattle.master_laws.specs.Hears.Laws.{IsAnswerAs, IsDecision, AreDecisions}
+use Rattle.master_log_laws.specs.Failures.Because.{fits_mark}
+use Rattle.master_log_laws.proofs.Phases.Now.{IsOf, IsDecidedBy}
+use Rattle.master_laws.proofs.PlanOrder.Hearing.{asked_for, asked_is}
 use Rattle.completeness_laws.proofs.Causes.Homes.{entered_at, reaches}
 
 -- ---- the newest exchange

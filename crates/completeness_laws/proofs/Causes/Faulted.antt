@@ -15,15 +15,15 @@ use Rattle.log_spec.specs.Log.{Parties, IsSlaveOf}
 use Rattle.log_spec.specs.Moves.{decided_exchanges}
 use Rattle.lockstep_laws.specs.Steps.{view}
 use Rattle.lockstep_laws.specs.Runs.{Behaves}
-use Rattle.slave_laws.specs.Whole.{slaves_asked}
-use Rattle.slave_meets.specs.Desks.{at}
-use Rattle.slave_holds.specs.Models.{plant_at}
-use Rattle.model_laws.specs.Scenarios.{slave_numbered}
-use Rattle.slave_reads.proofs.Rows.{slaves_are}
+use Rattle.slave_laws.specs.Data.Whole.{slaves_asked}
+use Rattle.slave_laws.specs.Talk.Desks.{at}
+use Rattle.slave_laws.specs.Model.Models.{plant_at}
+use Rattle.lockstep_laws.specs.Models.Scenarios.{slave_numbered}
+use Rattle.slave_laws.proofs.Wiring.Rows.{slaves_are}
 use Rattle.master_spec.specs.declared.causes.Cause.TheVariants as causes
 use Rattle.master_spec.specs.declared.reports.Report.TheVariants as reports
 use Rattle.master_spec.specs.Setup.{setup_from}
-use Rattle.index_laws.specs.Runs.{course_at}
+use Rattle.master_log_laws.specs.Index.Runs.{course_at}
 use Rattle.run_laws.specs.Laws.{parties, slave_setup_of, IsRunOf}
 use Rattle.completeness_laws.specs.Reasons.{IsFaultOf}
 use Rattle.completeness_laws.proofs.Causes.Unexpected.{ended}

@@ -20,7 +20,7 @@ use Rattle.log_spec.specs.Messages.{Note}
 use Rattle.log_spec.specs.Log.{Parties, DecidedRequest}
 use Rattle.log_spec.specs.Moves.{move}
 use Rattle.slave_states.specs.Transitions.{transition_row, next_on, next_on_turn, is_barred, or_wrong, is_same}
-use Rattle.slave_wiring.specs.Payloads.{brought}
+use Rattle.slave_spec.specs.Payloads.{brought}
 use Rattle.slave_spec.specs.declared.words.SlaveSetup.{SlaveSetup}
 use Rattle.slave_spec.specs.declared.words.SlaveRequest as req
 use Rattle.slave_spec.specs.declared.words.Asked.{Asked}
@@ -37,18 +37,18 @@ use Rattle.slave_spec.specs.Turns as turns
 use Rattle.slave_spec.specs.Turns.{Act, act, turned, is_missed, is_spared, sent_after, is_listening}
 use Rattle.slave_spec.specs.Slaves.{machine}
 use Rattle.slave_spec.proofs.Regular.{regular_after}
-use Rattle.slave_meets.specs.Desks.{answer_note, Both, at, events_of_slave}
-use Rattle.slave_meets.proofs.Meets.{slave_is}
-use Rattle.slave_meets.proofs.Plants.{act_step, no_refusal, row_of_next, state_is}
-use Rattle.slave_sends.specs.Laws.{ReadsMessages}
-use Rattle.slave_holds.specs.Models.{plant_at}
-use Rattle.slave_holds.proofs.Along.{exchanged}
-use Rattle.slave_tuned.proofs.Parameters.{acknowledges, acknowledged}
-use Rattle.course_spec.specs.Taken.{asked_heard, is_acknowledged}
-use Rattle.slave_stages.specs.Stages.{SlaveStage, entered_by, reached_by_turns, stage_entered, stage_told, stage_after, state_in_note, stage_by, IsInStage}
-use Rattle.slave_stages.specs.Laws.{StandsInStage}
-use Rattle.slave_stages.proofs.Standing.{slaves_stand}
-use Rattle.slave_stages.proofs.Tables.{same_states, states_are, error_rests, never_computes, leads}
+use Rattle.slave_laws.specs.Talk.Desks.{answer_note, Both, at, events_of_slave}
+use Rattle.slave_laws.proofs.Talk.Meets.{slave_is}
+use Rattle.slave_laws.proofs.Talk.Plants.{act_step, no_refusal, row_of_next, state_is}
+use Rattle.slave_laws.specs.Talk.Sends.{ReadsMessages}
+use Rattle.slave_laws.specs.Model.Models.{plant_at}
+use Rattle.slave_laws.proofs.Model.Along.{exchanged}
+use Rattle.slave_laws.proofs.Model.Parameters.{acknowledges, acknowledged}
+use Rattle.plan_laws.specs.Course.Taken.{asked_heard, is_acknowledged}
+use Rattle.slave_laws.specs.Model.Stages.{SlaveStage, entered_by, reached_by_turns, stage_entered, stage_told, stage_after, state_in_note, stage_by, IsInStage}
+use Rattle.slave_laws.specs.Model.Answering.{StandsInStage}
+use Rattle.slave_laws.proofs.Model.Standing.{slaves_stand}
+use Rattle.slave_laws.proofs.Model.Tables.{same_states, states_are, error_rests, never_computes, leads}
 use Rattle.completeness_laws.proofs.Causes.Goings.{Takes, Goes, stays, takes, brings, turns_on, goes}
 use Rattle.completeness_laws.proofs.Causes.Quiet.{IsOfModel, ModelFaults, out_of_range, step_faults, act_faults, answered_fault, brought_fault}
 

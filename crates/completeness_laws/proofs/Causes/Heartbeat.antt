@@ -5,7 +5,7 @@ use Rattle.scenario.specs.declared.scenarios.Scenario.{Scenario}
 use Rattle.scenario.specs.Sound.{IsScenario}
 use Rattle.slave_desc.specs.declared.descriptions.SlaveDesc.{SlaveDesc}
 use Rattle.slave_spec.specs.Requests.{code_or_zero}
-use Rattle.slave_holds.specs.Models.{plant_at}
+use Rattle.slave_laws.specs.Model.Models.{plant_at}
 use Rattle.master_spec.specs.declared.causes.Cause.{Cause}
 use Rattle.master_spec.specs.declared.causes.Cause.TheVariants as causes
 use Rattle.master_spec.specs.declared.reports.Report.TheVariants as reports
@@ -15,10 +15,10 @@ use Rattle.master_spec.specs.declared.requests.Answer.{Answer}
 use Rattle.master_spec.specs.declared.requests.Answer.TheVariants.{ErrorAck}
 use Rattle.master_spec.specs.Marks.{Mark, Begun, Asked, Again, Answered, Hinted, Brought, Turned, Ended}
 use Rattle.master_spec.specs.Setup.{setup_from}
-use Rattle.index_laws.specs.Runs.{course_at}
-use Rattle.index_laws.specs.Index.{marks_of, askings_told}
-use Rattle.failure_laws.specs.Because.{BecauseOf}
-use Rattle.phase_laws.proofs.Now.{past}
+use Rattle.master_log_laws.specs.Index.Runs.{course_at}
+use Rattle.master_log_laws.specs.Index.Index.{marks_of, askings_told}
+use Rattle.master_log_laws.specs.Failures.Because.{BecauseOf}
+use Rattle.master_log_laws.proofs.Phases.Now.{past}
 use Rattle.run_laws.specs.Laws.{parties, slave_setup_of, IsRunOf}
 use Rattle.completeness_laws.specs.AnswerCauses.{IsOfHeartbeat, MissedHeartbeatsAreTrue}
 use Rattle.completeness_laws.specs.Reasons.{HeartbeatWasMissed}

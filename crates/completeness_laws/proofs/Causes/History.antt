@@ -6,11 +6,11 @@ use Rattle.log_spec.specs.Moves.{move}
 use Rattle.slave_spec.specs.declared.words.SlaveSetup.{SlaveSetup}
 use Rattle.slave_spec.specs.Plants.{Plant}
 use Rattle.slave_spec.specs.Slaves.{machine}
-use Rattle.slave_meets.specs.Desks.{Both, at}
-use Rattle.slave_sends.specs.Laws.{ReadsMessages}
-use Rattle.slave_holds.specs.Models.{plant_at}
-use Rattle.slave_holds.proofs.Along.{exchanged}
-use Rattle.slave_tuned.specs.Tuned.{served_at}
+use Rattle.slave_laws.specs.Talk.Desks.{Both, at}
+use Rattle.slave_laws.specs.Talk.Sends.{ReadsMessages}
+use Rattle.slave_laws.specs.Model.Models.{plant_at}
+use Rattle.slave_laws.proofs.Model.Along.{exchanged}
+use Rattle.slave_laws.specs.Model.Tuned.{served_at}
 use Rattle.completeness_laws.proofs.Causes.Goings.{Takes, Goes, stays, takes, brings, turns_on, goes}
 
 module _ (s : SlaveSetup) (w : Parties) (n : ℕ) (rd : ReadsMessages w) where

@@ -11,7 +11,7 @@ use Rattle.pdu_layout.specs.declared.messages.Stc.{Stc}
 use Rattle.slave_states.specs.Transitions.{next_on_turn}
 use Rattle.slave_spec.specs.declared.words.Asked.{Asked}
 use Rattle.slave_spec.specs.declared.words.Asked.TheVariants as words
-use Rattle.slave_stages.specs.Stages.{SlaveStage, entered_by, reached_by_turns, stage_entered, stage_changed, stage_told}
+use Rattle.slave_laws.specs.Model.Stages.{SlaveStage, entered_by, reached_by_turns, stage_entered, stage_changed, stage_told}
 use Rattle.master_spec.specs.declared.requests.Request.{Request}
 use Rattle.master_spec.specs.declared.requests.Request.TheVariants.{Change, Configure, AskState, AskError}
 use Rattle.master_spec.specs.declared.requests.Answer.{Answer}
@@ -24,12 +24,12 @@ use Rattle.master_spec.specs.Conversation.{is_state}
 use Rattle.master_spec.specs.Jobs.{Job, asked_by}
 use Rattle.master_spec.specs.Requests.{Asking, Decision, is_main, is_state_question, is_acked_by, is_acked, acked}
 use Rattle.master_spec.specs.Shown.{names_in, names_target, IsMissing}
-use Rattle.phase_laws.proofs.Now.{IsOf}
-use Rattle.phase_laws.proofs.Mains.{is_main_request, of_main, acked_yes, acked_no, IsMain, IsTried, AreMains, AreQuestions, Asks, by_list, by_one, job_asks}
-use Rattle.phase_laws.proofs.Counts.{names_it, is_question, code_is_question}
-use Rattle.phase_laws.proofs.Tags.{mains_name}
-use Rattle.plan_order_laws.proofs.Hearing.{asked_for, asked_of, asked_is}
-use Rattle.plan_order_laws.proofs.Requests.{is_setting, kind_at, AllAsk}
+use Rattle.master_log_laws.proofs.Phases.Now.{IsOf}
+use Rattle.master_log_laws.proofs.Phases.Mains.{is_main_request, of_main, acked_yes, acked_no, IsMain, IsTried, AreMains, AreQuestions, Asks, by_list, by_one, job_asks}
+use Rattle.master_log_laws.proofs.Phases.Counts.{names_it, is_question, code_is_question}
+use Rattle.master_log_laws.proofs.Phases.Tags.{mains_name}
+use Rattle.master_laws.proofs.PlanOrder.Hearing.{asked_for, asked_of, asked_is}
+use Rattle.master_laws.proofs.PlanOrder.Requests.{is_setting, kind_at, AllAsk}
 use Rattle.completeness_laws.proofs.Causes.Told.{named_code, stage_with, stage_of}
 
 -- ---- the tables

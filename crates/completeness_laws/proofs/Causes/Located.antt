@@ -21,18 +21,18 @@ use Rattle.slave_spec.specs.Transport as transport
 use Rattle.slave_spec.specs.Transport.{is_open}
 use Rattle.slave_spec.specs.Plants.{Plant}
 use Rattle.slave_spec.specs.Slaves.{machine}
-use Rattle.slave_meets.specs.Plants.{under_way}
-use Rattle.slave_meets.specs.Desks.{at}
-use Rattle.slave_meets.specs.Benches.{bench_at}
-use Rattle.slave_holds.specs.Models.{plant_at}
-use Rattle.slave_tuned.specs.Tuned.{served_at}
-use Rattle.slave_course.proofs.Courses.{on_course}
-use Rattle.slave_laws.specs.Whole.{slaves_asked}
-use Rattle.slave_laws.proofs.Stepping.{asked_may}
-use Rattle.slave_stages.specs.Stages.{SlaveStage, stage_by}
-use Rattle.slave_stages.proofs.Standing.{slaves_stand}
-use Rattle.course_spec.specs.Taken.{resets_taken}
-use Rattle.model_laws.specs.Scenarios.{slave_numbered}
+use Rattle.slave_laws.specs.Talk.Plants.{under_way}
+use Rattle.slave_laws.specs.Talk.Desks.{at}
+use Rattle.slave_laws.specs.Talk.Benches.{bench_at}
+use Rattle.slave_laws.specs.Model.Models.{plant_at}
+use Rattle.slave_laws.specs.Model.Tuned.{served_at}
+use Rattle.slave_laws.proofs.Wiring.Courses.{on_course}
+use Rattle.slave_laws.specs.Data.Whole.{slaves_asked}
+use Rattle.slave_laws.proofs.Data.Stepping.{asked_may}
+use Rattle.slave_laws.specs.Model.Stages.{SlaveStage, stage_by}
+use Rattle.slave_laws.proofs.Model.Standing.{slaves_stand}
+use Rattle.plan_laws.specs.Course.Taken.{resets_taken}
+use Rattle.lockstep_laws.specs.Models.Scenarios.{slave_numbered}
 use Rattle.master_spec.specs.declared.causes.Cause.TheVariants as causes
 use Rattle.master_spec.specs.declared.reports.Report.TheVariants as reports
 use Rattle.master_spec.specs.declared.requests.Request.{Request}
@@ -47,22 +47,22 @@ use Rattle.master_spec.specs.Marks.{Answered}
 use Rattle.master_spec.specs.Requests.{Asking, is_main, is_state_question, acked}
 use Rattle.master_spec.specs.Conversation.{is_error}
 use Rattle.master_spec.specs.Setup.{setup_from, jobs_of}
-use Rattle.asking_laws.specs.Legal.{AreLegal}
-use Rattle.index_laws.specs.Runs.{course_at}
-use Rattle.index_laws.specs.Index.{marks_of, askings_told}
-use Rattle.scenario_laws.proofs.Heard.{setups_heard}
-use Rattle.phase_laws.proofs.Now.{now, past, IsOf, IsDecidedBy}
-use Rattle.phase_laws.proofs.Mains.{is_main_request, of_main, asked_main, questions_acked, AreQuestions, Asks, by_list, by_one, job_asks}
-use Rattle.phase_laws.proofs.Stage.{Main, Question, IsAfterError}
-use Rattle.plan_order_laws.proofs.Taken.{events_by, events_are, taken}
-use Rattle.plan_order_laws.proofs.Requests.{resets_slave, is_row_task, AllAsk, all_ask}
-use Rattle.plan_order_laws.proofs.Effects.{resets_same, events_same, events_more}
-use Rattle.plan_order_laws.proofs.Standing.{Standing, at_first, standing, after_task, after_job}
-use Rattle.plan_order_laws.proofs.Phases.{Agrees, agrees_past}
-use Rattle.row_laws.proofs.Views.{viewed}
+use Rattle.master_log_laws.specs.Asking.Legal.{AreLegal}
+use Rattle.master_log_laws.specs.Index.Runs.{course_at}
+use Rattle.master_log_laws.specs.Index.Index.{marks_of, askings_told}
+use Rattle.master_log_laws.proofs.Scenarios.Heard.{setups_heard}
+use Rattle.master_log_laws.proofs.Phases.Now.{now, past, IsOf, IsDecidedBy}
+use Rattle.master_log_laws.proofs.Phases.Mains.{is_main_request, of_main, asked_main, questions_acked, AreQuestions, Asks, by_list, by_one, job_asks}
+use Rattle.master_log_laws.proofs.Phases.Stage.{Main, Question, IsAfterError}
+use Rattle.master_laws.proofs.PlanOrder.Taken.{events_by, events_are, taken}
+use Rattle.master_laws.proofs.PlanOrder.Requests.{resets_slave, is_row_task, AllAsk, all_ask}
+use Rattle.master_laws.proofs.PlanOrder.Effects.{resets_same, events_same, events_more}
+use Rattle.master_laws.proofs.PlanOrder.Standing.{Standing, at_first, standing, after_task, after_job}
+use Rattle.master_laws.proofs.PlanOrder.Phases.{Agrees, agrees_past}
+use Rattle.master_laws.proofs.Rows.Views.{viewed}
 use Rattle.run_laws.specs.Laws.{parties, slave_setup_of, IsRunOf}
-use Rattle.headline_laws.proofs.Moments.{so_far, asked_always}
-use Rattle.headline_laws.proofs.Behaving.{are_slaves}
+use Rattle.run_laws.proofs.Headline.Moments.{so_far, asked_always}
+use Rattle.run_laws.proofs.Headline.Behaving.{are_slaves}
 use Rattle.completeness_laws.specs.StepPhases.{phase_of_step}
 use Rattle.completeness_laws.proofs.Causes.Goings.{open_during}
 use Rattle.completeness_laws.proofs.Causes.Told.{stage_of}

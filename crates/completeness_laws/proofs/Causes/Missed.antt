@@ -7,8 +7,8 @@ use Rattle.scenario.specs.declared.scenarios.Scenario.{Scenario}
 use Rattle.slave_desc.specs.declared.descriptions.SlaveDesc.{SlaveDesc}
 use Rattle.log_spec.specs.Log.{Parties, DecidedRequest}
 use Rattle.slave_spec.specs.declared.words.SlaveSetup.{SlaveSetup}
-use Rattle.slave_holds.specs.Models.{plant_at}
-use Rattle.slave_tuned.specs.Tuned.{served_at}
+use Rattle.slave_laws.specs.Model.Models.{plant_at}
+use Rattle.slave_laws.specs.Model.Tuned.{served_at}
 use Rattle.run_laws.specs.Laws.{parties, slave_setup_of}
 use Rattle.completeness_laws.specs.Reasons.{HeartbeatWasMissed}
 use Rattle.completeness_laws.proofs.Causes.History.{WasTaken}

@@ -13,7 +13,7 @@ use Rattle.pdu_layout.specs.declared.messages.Inf.TheVariants as inf
 use Rattle.log_spec.specs.Log.{Parties, DecidedRequest}
 use Rattle.log_spec.specs.Moves.{move}
 use Rattle.slave_states.specs.Transitions.{next_on}
-use Rattle.slave_wiring.specs.Payloads.{brought}
+use Rattle.slave_spec.specs.Payloads.{brought}
 use Rattle.slave_spec.specs.declared.words.SlaveSetup.{SlaveSetup}
 use Rattle.slave_spec.specs.declared.words.Asked.{Asked}
 use Rattle.slave_spec.specs.declared.words.Asked.TheVariants.{Change, Setting, Question}
@@ -27,12 +27,12 @@ use Rattle.slave_spec.specs.Requests.{is_in_error, refusal, set_to, accepted, an
 use Rattle.slave_spec.specs.Turns as turns
 use Rattle.slave_spec.specs.Turns.{Act, act, turned, is_missed, is_listening}
 use Rattle.slave_spec.specs.Slaves.{machine}
-use Rattle.slave_meets.specs.Desks.{Both, at}
-use Rattle.slave_meets.proofs.Plants.{act_step, no_refusal}
-use Rattle.slave_sends.specs.Laws.{ReadsMessages}
-use Rattle.slave_holds.proofs.Along.{exchanged}
-use Rattle.slave_tuned.specs.Tuned.{served_at}
-use Rattle.slave_stages.specs.Stages.{SlaveStage, reached_by_turns, stage_told, stage_by}
+use Rattle.slave_laws.specs.Talk.Desks.{Both, at}
+use Rattle.slave_laws.proofs.Talk.Plants.{act_step, no_refusal}
+use Rattle.slave_laws.specs.Talk.Sends.{ReadsMessages}
+use Rattle.slave_laws.proofs.Model.Along.{exchanged}
+use Rattle.slave_laws.specs.Model.Tuned.{served_at}
+use Rattle.slave_laws.specs.Model.Stages.{SlaveStage, reached_by_turns, stage_told, stage_by}
 use Rattle.completeness_laws.proofs.Causes.Goings.{Takes, Turns_on, Goes, stays, takes, brings, turns_on, goes}
 use Rattle.completeness_laws.proofs.Causes.Quiet.{IsOfModel, ModelFaults, act_faults, answered_fault, brought_fault}
 use Rattle.completeness_laws.proofs.Causes.Faults.{known, regular_at, stage_is, refused_stage, after, error_ends, ends_here, still_open}

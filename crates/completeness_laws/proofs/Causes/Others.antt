@@ -23,20 +23,20 @@ use Rattle.lockstep_laws.proofs.Conversation.{known}
 use Rattle.lockstep_laws.proofs.Local.{Counts}
 use Rattle.lockstep_laws.proofs.Places.{Ahead, Fits, fits, ahead}
 use Rattle.lockstep_laws.proofs.Asking.{asked_in_order}
-use Rattle.model_laws.specs.Machines.{AreMachines}
-use Rattle.model_laws.proofs.Values.{in_order}
-use Rattle.model_laws.proofs.Exists.{step_fits, run_of_place}
-use Rattle.model_laws.specs.Scenarios.{slave_numbered}
+use Rattle.lockstep_laws.specs.Models.Machines.{AreMachines}
+use Rattle.lockstep_laws.proofs.Models.Values.{in_order}
+use Rattle.lockstep_laws.proofs.Models.Exists.{step_fits, run_of_place}
+use Rattle.lockstep_laws.specs.Models.Scenarios.{slave_numbered}
 use Rattle.slave_spec.specs.declared.words.SlaveSetup.{SlaveSetup}
 use Rattle.slave_spec.specs.Slaves.{machine}
-use Rattle.slave_meets.specs.Desks.{at}
-use Rattle.slave_meets.specs.Benches.{bench_at}
-use Rattle.slave_holds.specs.Models.{plant_at}
-use Rattle.slave_data.specs.Made.{setup_at, parties, machines}
-use Rattle.slave_laws.specs.Whole.{slaves_asked}
-use Rattle.slave_reads.proofs.Rows.{slaves_are}
-use Rattle.course_spec.specs.Courses.{opened}
-use Rattle.headline_laws.proofs.Behaving.{are_slaves}
+use Rattle.slave_laws.specs.Talk.Desks.{at}
+use Rattle.slave_laws.specs.Talk.Benches.{bench_at}
+use Rattle.slave_laws.specs.Model.Models.{plant_at}
+use Rattle.slave_laws.specs.Data.Made.{setup_at, parties, machines}
+use Rattle.slave_laws.specs.Data.Whole.{slaves_asked}
+use Rattle.slave_laws.proofs.Wiring.Rows.{slaves_are}
+use Rattle.plan_laws.specs.Course.Courses.{opened}
+use Rattle.run_laws.proofs.Headline.Behaving.{are_slaves}
 use Rattle.completeness_laws.proofs.Causes.Own.{locked}
 
 view_grows : (t : Told) (v : BenchProgress) → v.done ≤ (view_after t v).done

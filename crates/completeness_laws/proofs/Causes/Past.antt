@@ -4,7 +4,7 @@ use Rattle.std.specs.Prelude.{slice_get}
 use Rattle.std.specs.List.{list_any}
 use Rattle.dcp_types.specs.declared.limits.Limits.{Limits}
 use Rattle.dcp_types.specs.declared.states.State.TheVariants.{Configuration}
-use Rattle.slave_stages.specs.Stages.{SlaveStage, stage_by}
+use Rattle.slave_laws.specs.Model.Stages.{SlaveStage, stage_by}
 use Rattle.master_spec.specs.declared.causes.Verdict.TheVariants as verdicts
 use Rattle.master_spec.specs.declared.setups.Script.{Script}
 use Rattle.master_spec.specs.declared.tasks.Task.{Task}
@@ -13,16 +13,16 @@ use Rattle.master_spec.specs.Tasks.{is_by_list, is_by_end, target_of}
 use Rattle.master_spec.specs.Jobs.{Job, asked_by, jobs}
 use Rattle.master_spec.specs.Marks.{Mark, Begun, Asked, Again, Answered, Hinted, Brought, Turned, Ended, count, is_begun, open_in, open_request, job_of, verdict_of, is_passed}
 use Rattle.master_spec.specs.Requests.{Asking, acked}
-use Rattle.asking_laws.specs.Legal.{Rests, IsLegal, AreLegal}
-use Rattle.index_laws.specs.Index.{Placed, marks_of, askings_told}
-use Rattle.phase_laws.proofs.Now.{now, past, past_by, split}
-use Rattle.phase_laws.proofs.Mains.{AreMains, AreQuestions}
-use Rattle.phase_laws.proofs.Counts.{names_it, reached_now}
-use Rattle.phase_laws.proofs.Stage.{Stage, idling, main_open, question_open, trying, mains_done, state_told, mains_acked, more_questions}
-use Rattle.phase_laws.proofs.Stages.{stage}
-use Rattle.phase_laws.proofs.Tags.{none_asked, HasPassed, verdict_passed, passed_reached, tried_not_passed, job_phase, counted}
-use Rattle.failure_laws.proofs.Steady.{steady}
-use Rattle.plan_order_laws.proofs.Requests.{AllAsk, all_ask}
+use Rattle.master_log_laws.specs.Asking.Legal.{Rests, IsLegal, AreLegal}
+use Rattle.master_log_laws.specs.Index.Index.{Placed, marks_of, askings_told}
+use Rattle.master_log_laws.proofs.Phases.Now.{now, past, past_by, split}
+use Rattle.master_log_laws.proofs.Phases.Mains.{AreMains, AreQuestions}
+use Rattle.master_log_laws.proofs.Phases.Counts.{names_it, reached_now}
+use Rattle.master_log_laws.proofs.Phases.Stage.{Stage, idling, main_open, question_open, trying, mains_done, state_told, mains_acked, more_questions}
+use Rattle.master_log_laws.proofs.Phases.Stages.{stage}
+use Rattle.master_log_laws.proofs.Phases.Tags.{none_asked, HasPassed, verdict_passed, passed_reached, tried_not_passed, job_phase, counted}
+use Rattle.master_log_laws.proofs.Failures.Steady.{steady}
+use Rattle.master_laws.proofs.PlanOrder.Requests.{AllAsk, all_ask}
 use Rattle.completeness_laws.proofs.Causes.Told.{stage_of}
 use Rattle.completeness_laws.proofs.Causes.Homes.{entered_at, ComesTo, IsFull, ask_left, full}
 

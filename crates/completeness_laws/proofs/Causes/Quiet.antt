@@ -25,7 +25,7 @@ use Rattle.log_spec.specs.Messages.{Role, Request, Answer, Value, Else}
 use Rattle.log_spec.specs.Log.{Parties, same, role_heard, DecidedRequest}
 use Rattle.log_spec.specs.Moves.{Asks, Comes, Tells, Hears, Brings, Turns, Rests, Other, sent_move, got_move, move}
 use Rattle.slave_states.specs.Transitions.{next_on}
-use Rattle.slave_wiring.specs.Payloads.{brought, wired_values}
+use Rattle.slave_spec.specs.Payloads.{brought, wired_values}
 use Rattle.slave_spec.specs.declared.words.SlaveSetup.{SlaveSetup}
 use Rattle.slave_spec.specs.declared.words.Asked.{Asked}
 use Rattle.slave_spec.specs.declared.words.Asked.TheVariants.{Change, Setting, Question}
@@ -36,10 +36,10 @@ use Rattle.slave_spec.specs.Requests.{refusal, changed_to, set_to, accepted, ans
 use Rattle.slave_spec.specs.Turns as turns
 use Rattle.slave_spec.specs.Turns.{Act, act, state_act, computing, step_act, is_missed, is_spared, turned, is_listening}
 use Rattle.slave_spec.specs.Slaves.{machine}
-use Rattle.slave_meets.specs.Desks.{Both, at}
-use Rattle.slave_sends.specs.Laws.{ReadsMessages}
-use Rattle.slave_holds.specs.Models.{plant_at}
-use Rattle.slave_tuned.specs.Tuned.{served_at}
+use Rattle.slave_laws.specs.Talk.Desks.{Both, at}
+use Rattle.slave_laws.specs.Talk.Sends.{ReadsMessages}
+use Rattle.slave_laws.specs.Model.Models.{plant_at}
+use Rattle.slave_laws.specs.Model.Tuned.{served_at}
 use Rattle.master_spec.specs.Requests.{is_turn_of}
 use Rattle.completeness_laws.proofs.Delivery.Happens.{same_both}
 use Rattle.completeness_laws.proofs.Causes.Goings.{Takes, Takes_data, Turns_on, Goes, stays, takes, brings, turns_on, goes}

@@ -21,9 +21,9 @@ use Rattle.slave_spec.specs.Transport.{is_open}
 use Rattle.slave_spec.specs.Plants.{Plant}
 use Rattle.slave_spec.specs.Slaves.{machine}
 use Rattle.slave_spec.specs.Requests.{is_in_error, refusal, answer, answers, code_or_zero}
-use Rattle.slave_meets.specs.Desks.{at}
-use Rattle.slave_stages.proofs.Standing.{slaves_stand}
-use Rattle.course_spec.specs.Taken.{asked_heard, asked_in}
+use Rattle.slave_laws.specs.Talk.Desks.{at}
+use Rattle.slave_laws.proofs.Model.Standing.{slaves_stand}
+use Rattle.plan_laws.specs.Course.Taken.{asked_heard, asked_in}
 use Rattle.pdu_layout.specs.declared.messages.Inf.TheVariants as inf
 use Rattle.dcp_types.specs.declared.states.State.{State}
 use Rattle.log_spec.specs.Log as logs
@@ -31,19 +31,19 @@ use Rattle.master_spec.specs.declared.requests.Request.TheVariants.{AskState}
 use Rattle.master_spec.specs.declared.requests.Answer.TheVariants.{StateAck}
 use Rattle.master_spec.specs.Conversation.{is_error}
 use Rattle.master_spec.specs.Requests.{Asking}
-use Rattle.master_hears.specs.Laws.{AreDecisions}
-use Rattle.index_laws.specs.Index.{askings_told}
-use Rattle.phase_laws.proofs.Now.{past}
-use Rattle.plan_order_laws.proofs.Hearing.{asked_for}
+use Rattle.master_laws.specs.Hears.Laws.{AreDecisions}
+use Rattle.master_log_laws.specs.Index.Index.{askings_told}
+use Rattle.master_log_laws.proofs.Phases.Now.{past}
+use Rattle.master_laws.proofs.PlanOrder.Hearing.{asked_for}
 use Rattle.completeness_laws.proofs.Causes.Exchanges.{heard_answer, newest_exchange, note_heard}
 use Rattle.completeness_laws.proofs.Causes.History.{was_taken}
 use Rattle.completeness_laws.proofs.Causes.Faults.{fault_stays}
-use Rattle.slave_holds.specs.Models.{plant_at}
+use Rattle.slave_laws.specs.Model.Models.{plant_at}
 use Rattle.master_spec.specs.declared.causes.Cause.{Cause}
 use Rattle.master_spec.specs.declared.causes.Cause.TheVariants as causes
 use Rattle.master_spec.specs.declared.reports.Report.TheVariants as reports
 use Rattle.master_spec.specs.Setup.{setup_from}
-use Rattle.index_laws.specs.Runs.{course_at}
+use Rattle.master_log_laws.specs.Index.Runs.{course_at}
 use Rattle.run_laws.specs.Laws.{parties, slave_setup_of, IsRunOf}
 use Rattle.completeness_laws.specs.AnswerCauses.{IsOfReference, FaultsAreOfTheReference}
 use Rattle.completeness_laws.specs.Reasons.{IsFaultOf}

@@ -17,7 +17,7 @@ use Rattle.scenario.specs.Sound.{IsScenario}
 use Rattle.slave_desc.specs.declared.descriptions.SlaveDesc.{SlaveDesc}
 use Rattle.log_spec.specs.Log.{Parties}
 use Rattle.slave_states.specs.Transitions.{is_same, next_on_turn}
-use Rattle.slave_wiring.specs.Changes.{complete}
+use Rattle.slave_spec.specs.Changes.{complete}
 use Rattle.slave_spec.specs.declared.words.SlaveSetup.{SlaveSetup}
 use Rattle.slave_spec.specs.declared.words.Session.{Session}
 use Rattle.slave_spec.specs.declared.words.Session.TheVariants.{Before, During, After}
@@ -27,19 +27,19 @@ use Rattle.slave_spec.specs.Plants.{Plant, start_plant}
 use Rattle.slave_spec.specs.Begun.{IsRegular, IsRegularIn}
 use Rattle.slave_spec.specs.Requests.{is_in_error, refusal}
 use Rattle.slave_spec.specs.Slaves.{machine}
-use Rattle.slave_meets.specs.Desks.{at}
-use Rattle.slave_holds.specs.Models.{plant_at}
-use Rattle.slave_tuned.specs.Tuned.{served_at}
-use Rattle.slave_course.proofs.Courses.{is_counted}
-use Rattle.slave_data.proofs.Held.{of_scenario}
-use Rattle.slave_laws.proofs.Stepping.{asked_may}
-use Rattle.slave_stages.specs.Stages.{SlaveStage, reached_by_turns, stage_by, IsInStage}
-use Rattle.slave_stages.specs.Laws.{StandsInStage}
-use Rattle.slave_stages.proofs.Standing.{slaves_stand}
-use Rattle.course_spec.specs.Taken.{settings_taken}
+use Rattle.slave_laws.specs.Talk.Desks.{at}
+use Rattle.slave_laws.specs.Model.Models.{plant_at}
+use Rattle.slave_laws.specs.Model.Tuned.{served_at}
+use Rattle.slave_laws.proofs.Wiring.Courses.{is_counted}
+use Rattle.slave_laws.proofs.Data.Held.{of_scenario}
+use Rattle.slave_laws.proofs.Data.Stepping.{asked_may}
+use Rattle.slave_laws.specs.Model.Stages.{SlaveStage, reached_by_turns, stage_by, IsInStage}
+use Rattle.slave_laws.specs.Model.Answering.{StandsInStage}
+use Rattle.slave_laws.proofs.Model.Standing.{slaves_stand}
+use Rattle.plan_laws.specs.Course.Taken.{settings_taken}
 use Rattle.plan_laws.specs.Taking.{IsScenarioSlave}
 use Rattle.plan_laws.specs.Runs.{lists_until}
-use Rattle.model_laws.specs.Scenarios.{slave_numbered}
+use Rattle.lockstep_laws.specs.Models.Scenarios.{slave_numbered}
 use Rattle.master_spec.specs.declared.causes.Cause.{Cause}
 use Rattle.master_spec.specs.declared.causes.Cause.TheVariants as causes
 use Rattle.master_spec.specs.declared.reports.Report.TheVariants as reports
@@ -57,24 +57,24 @@ use Rattle.master_spec.specs.Jobs.{Job, asked_by}
 use Rattle.master_spec.specs.Marks.{Mark, Begun, Asked, Again, Answered, Hinted, Brought, Turned, Ended, is_missing}
 use Rattle.master_spec.specs.Requests.{Asking, acked}
 use Rattle.master_spec.specs.Setup.{setup_from, jobs_of, script_of, slave_of}
-use Rattle.index_laws.specs.Runs.{course_at}
-use Rattle.index_laws.specs.Index.{marks_of, askings_told}
-use Rattle.scenario_laws.proofs.Heard.{setups_heard}
-use Rattle.failure_laws.specs.Because.{BecauseOf}
-use Rattle.phase_laws.proofs.Now.{now, past}
-use Rattle.phase_laws.proofs.Mains.{is_main_request, asked_main, change_slot, list_slot}
-use Rattle.phase_laws.proofs.Stage.{Main, Question}
-use Rattle.plan_order_laws.proofs.Hearing.{asked_for}
-use Rattle.plan_order_laws.proofs.Taken.{settings_by, taken}
-use Rattle.plan_order_laws.proofs.Requests.{in_list, AllAsk, all_ask}
-use Rattle.plan_order_laws.proofs.Effects.{settings_same, settings_mains}
-use Rattle.plan_order_laws.proofs.Standing.{Standing, at_first, standing, standing_next, after_job, set_until, IsSet, Finds}
-use Rattle.plan_order_laws.proofs.Phases.{agrees_past}
-use Rattle.plan_order_laws.proofs.Asking.{finds}
-use Rattle.plan_order_laws.proofs.Lists.{lists_are}
+use Rattle.master_log_laws.specs.Index.Runs.{course_at}
+use Rattle.master_log_laws.specs.Index.Index.{marks_of, askings_told}
+use Rattle.master_log_laws.proofs.Scenarios.Heard.{setups_heard}
+use Rattle.master_log_laws.specs.Failures.Because.{BecauseOf}
+use Rattle.master_log_laws.proofs.Phases.Now.{now, past}
+use Rattle.master_log_laws.proofs.Phases.Mains.{is_main_request, asked_main, change_slot, list_slot}
+use Rattle.master_log_laws.proofs.Phases.Stage.{Main, Question}
+use Rattle.master_laws.proofs.PlanOrder.Hearing.{asked_for}
+use Rattle.master_laws.proofs.PlanOrder.Taken.{settings_by, taken}
+use Rattle.master_laws.proofs.PlanOrder.Requests.{in_list, AllAsk, all_ask}
+use Rattle.master_laws.proofs.PlanOrder.Effects.{settings_same, settings_mains}
+use Rattle.master_laws.proofs.PlanOrder.Standing.{Standing, at_first, standing, standing_next, after_job, set_until, IsSet, Finds}
+use Rattle.master_laws.proofs.PlanOrder.Phases.{agrees_past}
+use Rattle.master_laws.proofs.PlanOrder.Asking.{finds}
+use Rattle.master_laws.proofs.PlanOrder.Lists.{lists_are}
 use Rattle.run_laws.specs.Laws.{parties, slave_setup_of, IsRunOf}
 use Rattle.run_laws.proofs.Runs.{party}
-use Rattle.headline_laws.proofs.Moments.{asked_always}
+use Rattle.run_laws.proofs.Headline.Moments.{asked_always}
 use Rattle.completeness_laws.specs.AnswerCauses.{IsOfRefusal, IsRefusedInError, RefusedInError}
 use Rattle.completeness_laws.proofs.Causes.Goings.{open_during}
 use Rattle.completeness_laws.proofs.Causes.Told.{stage_of}

@@ -18,25 +18,25 @@ use Rattle.lockstep_laws.proofs.Conversation.{drop_later}
 use Rattle.slave_spec.specs.declared.words.SlaveSetup.{SlaveSetup}
 use Rattle.slave_spec.specs.Plants.{Plant}
 use Rattle.slave_spec.specs.Slaves.{machine}
-use Rattle.slave_meets.specs.Desks.{at}
-use Rattle.slave_holds.specs.Models.{plant_at}
-use Rattle.slave_course.specs.Wired.{is_past, is_during}
-use Rattle.slave_laws.specs.Whole.{slaves_asked}
-use Rattle.model_laws.specs.Scenarios.{slave_numbered}
+use Rattle.slave_laws.specs.Talk.Desks.{at}
+use Rattle.slave_laws.specs.Model.Models.{plant_at}
+use Rattle.slave_laws.specs.Wiring.Wired.{is_past, is_during}
+use Rattle.slave_laws.specs.Data.Whole.{slaves_asked}
+use Rattle.lockstep_laws.specs.Models.Scenarios.{slave_numbered}
 use Rattle.master_spec.specs.declared.causes.Cause.TheVariants as causes
 use Rattle.master_spec.specs.declared.reports.Report.TheVariants as reports
 use Rattle.master_spec.specs.declared.requests.Request.TheVariants.{AskError}
 use Rattle.master_spec.specs.declared.requests.Answer.TheVariants.{ErrorAck}
 use Rattle.master_spec.specs.Requests.{Asking}
 use Rattle.master_spec.specs.Setup.{setup_from}
-use Rattle.index_laws.specs.Runs.{course_at}
-use Rattle.index_laws.specs.Index.{askings_told}
-use Rattle.phase_laws.proofs.Now.{past}
-use Rattle.plan_order_laws.proofs.Taken.{events_by, events_are}
-use Rattle.row_laws.proofs.Views.{viewed}
+use Rattle.master_log_laws.specs.Index.Runs.{course_at}
+use Rattle.master_log_laws.specs.Index.Index.{askings_told}
+use Rattle.master_log_laws.proofs.Phases.Now.{past}
+use Rattle.master_laws.proofs.PlanOrder.Taken.{events_by, events_are}
+use Rattle.master_laws.proofs.Rows.Views.{viewed}
 use Rattle.run_laws.specs.Laws.{parties, slave_setup_of, IsRunOf}
-use Rattle.headline_laws.proofs.Moments.{so_far}
-use Rattle.headline_laws.proofs.Behaving.{are_slaves}
+use Rattle.run_laws.proofs.Headline.Moments.{so_far}
+use Rattle.run_laws.proofs.Headline.Behaving.{are_slaves}
 use Rattle.completeness_laws.proofs.Causes.Goings.{open_during}
 use Rattle.completeness_laws.proofs.Causes.Ended.{IsEndedBy, IsEndedByAnswer}
 use Rattle.completeness_laws.proofs.Causes.Unexpected.{ended, last, last_answer, IsLastAnswer}

@@ -16,17 +16,17 @@ use Rattle.slave_spec.specs.declared.words.Asked.TheVariants.{Question}
 use Rattle.slave_spec.specs.Transport as transport
 use Rattle.slave_spec.specs.Plants.{Plant}
 use Rattle.slave_spec.specs.Requests.{refusal, answer, answers, code_or_zero}
-use Rattle.slave_sends.specs.Laws.{ReadsMessages}
-use Rattle.slave_holds.specs.Models.{plant_at}
-use Rattle.slave_tuned.specs.Tuned.{served_at}
-use Rattle.course_spec.specs.Taken.{asked_heard, asked_in}
-use Rattle.slave_stages.specs.Stages.{stage_by}
+use Rattle.slave_laws.specs.Talk.Sends.{ReadsMessages}
+use Rattle.slave_laws.specs.Model.Models.{plant_at}
+use Rattle.slave_laws.specs.Model.Tuned.{served_at}
+use Rattle.plan_laws.specs.Course.Taken.{asked_heard, asked_in}
+use Rattle.slave_laws.specs.Model.Stages.{stage_by}
 use Rattle.master_spec.specs.declared.requests.Request.{Request}
 use Rattle.master_spec.specs.declared.requests.Answer.{Answer}
 use Rattle.master_spec.specs.declared.requests.Answer.TheVariants.{ErrorAck}
 use Rattle.master_spec.specs.Requests.{Asking}
-use Rattle.master_hears.specs.Laws.{AreDecisions}
-use Rattle.plan_order_laws.proofs.Hearing.{asked_for}
+use Rattle.master_laws.specs.Hears.Laws.{AreDecisions}
+use Rattle.master_laws.proofs.PlanOrder.Hearing.{asked_for}
 use Rattle.run_laws.specs.Laws.{parties, slave_setup_of}
 use Rattle.completeness_laws.proofs.Causes.Told.{stage_of}
 use Rattle.completeness_laws.proofs.Causes.Exchanges.{heard_answer, note_heard}

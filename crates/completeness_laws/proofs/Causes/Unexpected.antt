@@ -10,9 +10,9 @@ use Rattle.log_spec.specs.Log.{Parties, IsSlaveOf}
 use Rattle.log_spec.specs.Log as logs
 use Rattle.log_spec.specs.Moves.{decided_exchanges}
 use Rattle.slave_spec.specs.declared.words.Asked as words
-use Rattle.slave_tuned.specs.Tuned.{served_at}
-use Rattle.slave_stages.specs.Stages.{SlaveStage, stage_by, FitsStage, AllFitStages}
-use Rattle.slave_stages.proofs.Standing.{answers_fit}
+use Rattle.slave_laws.specs.Model.Tuned.{served_at}
+use Rattle.slave_laws.specs.Model.Stages.{SlaveStage, stage_by, FitsStage, AllFitStages}
+use Rattle.slave_laws.proofs.Model.Standing.{answers_fit}
 use Rattle.master_spec.specs.declared.causes.Cause.{Cause}
 use Rattle.master_spec.specs.declared.causes.Cause.TheVariants as causes
 use Rattle.master_spec.specs.declared.reports.Report.TheVariants as reports
@@ -26,25 +26,25 @@ use Rattle.master_spec.specs.Marks.{Mark, Begun, Asked, Again, Answered, Hinted,
 use Rattle.master_spec.specs.Requests.{Asking, Decision, asks, is_state_question, acked}
 use Rattle.master_spec.specs.Setup.{setup_from, jobs_of}
 use Rattle.master_spec.specs.Shown.{names_target}
-use Rattle.asking_laws.specs.Legal.{AreLegal}
-use Rattle.index_laws.specs.Runs.{course_at, IsRun}
-use Rattle.index_laws.specs.Index.{at, marks_of, askings_told}
-use Rattle.index_laws.specs.Late.{AreLate}
-use Rattle.index_laws.proofs.ByEntry.{entry_by_entry}
-use Rattle.scenario_laws.proofs.Heard.{setups_heard}
-use Rattle.failure_laws.specs.Because.{BecauseOf, fits_mark}
-use Rattle.master_meets.specs.Laws.{IsParty}
-use Rattle.master_hears.specs.Laws.{AreDecisions}
-use Rattle.master_hears.proofs.Decided.{decisions}
-use Rattle.phase_laws.proofs.Now.{now, past}
-use Rattle.phase_laws.proofs.Mains.{is_main_request, asked_main}
-use Rattle.phase_laws.proofs.Counts.{names_it, reached_now}
-use Rattle.phase_laws.proofs.Stage.{Main, Question}
-use Rattle.plan_order_laws.proofs.Hearing.{asked_for}
-use Rattle.plan_order_laws.proofs.Requests.{AllAsk, all_ask}
+use Rattle.master_log_laws.specs.Asking.Legal.{AreLegal}
+use Rattle.master_log_laws.specs.Index.Runs.{course_at, IsRun}
+use Rattle.master_log_laws.specs.Index.Index.{at, marks_of, askings_told}
+use Rattle.master_log_laws.specs.Index.Late.{AreLate}
+use Rattle.master_log_laws.proofs.Index.ByEntry.{entry_by_entry}
+use Rattle.master_log_laws.proofs.Scenarios.Heard.{setups_heard}
+use Rattle.master_log_laws.specs.Failures.Because.{BecauseOf, fits_mark}
+use Rattle.master_laws.specs.Meets.Laws.{IsParty}
+use Rattle.master_laws.specs.Hears.Laws.{AreDecisions}
+use Rattle.master_laws.proofs.Hears.Decided.{decisions}
+use Rattle.master_log_laws.proofs.Phases.Now.{now, past}
+use Rattle.master_log_laws.proofs.Phases.Mains.{is_main_request, asked_main}
+use Rattle.master_log_laws.proofs.Phases.Counts.{names_it, reached_now}
+use Rattle.master_log_laws.proofs.Phases.Stage.{Main, Question}
+use Rattle.master_laws.proofs.PlanOrder.Hearing.{asked_for}
+use Rattle.master_laws.proofs.PlanOrder.Requests.{AllAsk, all_ask}
 use Rattle.run_laws.specs.Laws.{parties, slave_setup_of, IsRunOf}
 use Rattle.run_laws.proofs.Runs.{are_parties}
-use Rattle.headline_laws.proofs.Moments.{served_always}
+use Rattle.run_laws.proofs.Headline.Moments.{served_always}
 use Rattle.completeness_laws.specs.AnswerCauses.{IsExpected, NeverUnexpected}
 use Rattle.completeness_laws.proofs.Causes.Told.{stage_of, staged}
 use Rattle.completeness_laws.proofs.Causes.Homes.{ComesTo, ask_left, full}

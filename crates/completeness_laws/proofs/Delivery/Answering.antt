@@ -26,22 +26,22 @@ use Rattle.master_spec.specs.Course.{payload_size, mark_for, mark_of_gram}
 use Rattle.master_spec.specs.Conversation.{if_open}
 use Rattle.master_spec.specs.Requests.{Asking, Decision, decided_by, with_news, asks}
 use Rattle.master_spec.specs.Marks.{Mark, Answered, Hinted, Brought, newest_number, open_request}
-use Rattle.index_laws.specs.Runs.{IsRun}
-use Rattle.index_laws.specs.Index.{Placed, marks_of, askings_told, IsHeadRequest}
-use Rattle.index_laws.specs.Follows.{talk_with}
-use Rattle.index_laws.specs.Laws.{AreHeard}
-use Rattle.phase_laws.specs.Laws.{AreDecided, AreOneByOne}
-use Rattle.phase_laws.proofs.Numbered.{one_by_one}
-use Rattle.master_meets.specs.Laws.{note_of}
-use Rattle.master_meets.proofs.Asking.{are_asked}
-use Rattle.master_hears.specs.Laws.{IsAnswerAs, AreDecisions}
-use Rattle.master_hears.proofs.Decided.{are_told}
-use Rattle.model_laws.specs.Scenarios.{slave_numbered}
-use Rattle.scenario_laws.proofs.Heard.{setups_heard}
-use Rattle.slave_laws.specs.Whole.{slaves_asked}
+use Rattle.master_log_laws.specs.Index.Runs.{IsRun}
+use Rattle.master_log_laws.specs.Index.Index.{Placed, marks_of, askings_told, IsHeadRequest}
+use Rattle.master_log_laws.specs.Index.Follows.{talk_with}
+use Rattle.master_log_laws.specs.Index.Laws.{AreHeard}
+use Rattle.master_log_laws.specs.Phases.Laws.{AreDecided, AreOneByOne}
+use Rattle.master_log_laws.proofs.Phases.Numbered.{one_by_one}
+use Rattle.master_laws.specs.Meets.Laws.{note_of}
+use Rattle.master_laws.proofs.Meets.Asking.{are_asked}
+use Rattle.master_laws.specs.Hears.Laws.{IsAnswerAs, AreDecisions}
+use Rattle.master_laws.proofs.Hears.Decided.{are_told}
+use Rattle.lockstep_laws.specs.Models.Scenarios.{slave_numbered}
+use Rattle.master_log_laws.proofs.Scenarios.Heard.{setups_heard}
+use Rattle.slave_laws.specs.Data.Whole.{slaves_asked}
 use Rattle.run_laws.specs.Laws.{parties}
 use Rattle.run_laws.proofs.Runs.{party, are_parties}
-use Rattle.headline_laws.proofs.Behaving.{are_slaves}
+use Rattle.run_laws.proofs.Headline.Behaving.{are_slaves}
 use Rattle.completeness_laws.proofs.Delivery.Ended.{numbered_at, run_front, TalkFacts}
 use Rattle.completeness_laws.proofs.Delivery.Askings.{FirstAt, AreAt, are_at, at_one}
 use Rattle.completeness_laws.proofs.Delivery.Since.{served, TakenIn, taken_in}

@@ -17,10 +17,10 @@ use Rattle.master_spec.specs.declared.requests.Answer.TheVariants.{Ack, Nack, St
 use Rattle.master_spec.specs.declared.setups.Slave.{Slave}
 use Rattle.master_spec.specs.News.{News, Answers, Hints, Brings, Nothing, acks, nacks, state_acks, error_acks, log_acks, hints, news_brought, news_by, news_of}
 use Rattle.master_spec.specs.Requests.{Asking, Decision, is_request, asking_with, asking_in, with_asking, decided_by, with_news, asks, is_state_request, is_main, is_ack, is_acked}
-use Rattle.master_hears.specs.Laws.{IsDecision, AreDecisions}
-use Rattle.course_spec.specs.Taken.{is_acknowledged}
-use Rattle.phase_laws.proofs.Mains.{AreQuestions}
-use Rattle.failure_laws.proofs.Lasts.{is_acked_change}
+use Rattle.master_laws.specs.Hears.Laws.{IsDecision, AreDecisions}
+use Rattle.plan_laws.specs.Course.Taken.{is_acknowledged}
+use Rattle.master_log_laws.proofs.Phases.Mains.{AreQuestions}
+use Rattle.master_log_laws.proofs.Failures.Lasts.{is_acked_change}
 use Rattle.completeness_laws.proofs.Delivery.Since.{is_change_code, is_change_taken, changes}
 
 clash : true ≡ false → ⊥

@@ -20,12 +20,12 @@ use Rattle.master_spec.specs.Jobs.{Job}
 use Rattle.master_spec.specs.Marks.{Mark, Begun, Asked, Again, Answered, Hinted, Brought, Turned, Ended, cause_of}
 use Rattle.master_spec.specs.Conversation.{reaction, done, extended}
 use Rattle.master_spec.specs.Course.{CourseTalk, Course, course, mark_of_gram, marked, begun_with, task_begun, is_settled, is_quiet, failed, phases, with_next, with_report, decided, with_turns, decided_if, course_turned, still, after_gram, course_after_turn, step}
-use Rattle.index_laws.specs.Runs.{events_of_master, with_event, course_at}
-use Rattle.index_laws.specs.Follows.{talk_with}
-use Rattle.index_laws.proofs.Mine.{get_map}
-use Rattle.index_laws.proofs.Outputs.{IsNews, gram_news}
-use Rattle.index_laws.proofs.Runs.{step_gram, step_tick, step_still}
-use Rattle.failure_laws.proofs.Because.{because}
+use Rattle.master_log_laws.specs.Index.Runs.{events_of_master, with_event, course_at}
+use Rattle.master_log_laws.specs.Index.Follows.{talk_with}
+use Rattle.master_log_laws.proofs.Index.Mine.{get_map}
+use Rattle.master_log_laws.proofs.Index.Outputs.{IsNews, gram_news}
+use Rattle.master_log_laws.proofs.Index.Runs.{step_gram, step_tick, step_still}
+use Rattle.master_log_laws.proofs.Failures.Because.{because}
 use Rattle.completeness_laws.specs.Moments.{cause_in}
 
 pub none_some : (c : Cause) (o : Option Cause) → o ≡ None → o ≡ Some c → ⊥

@@ -11,15 +11,15 @@ use Rattle.dcp_ends.specs.declared.entries.LogEntry.TheVariants.{Sent, Got, Idle
 use Rattle.slave_desc.specs.declared.descriptions.SlaveDesc.{SlaveDesc}
 use Rattle.scenario.specs.declared.scenarios.Scenario.{Scenario}
 use Rattle.scenario.specs.Sound.{IsScenario}
-use Rattle.plan_spec.specs.declared.links.DataLink.{DataLink}
+use Rattle.master_spec.specs.declared.links.DataLink.{DataLink}
 use Rattle.plan_laws.proofs.Told.{all_ids}
 use Rattle.log_spec.specs.Messages.{Note, Role, Answer, Value, Else}
 use Rattle.log_spec.specs.Log.{Parties, IsSlaveOf, same, role_heard}
 use Rattle.log_spec.specs.Moves.{Move, Asks, Comes, Tells, Hears, Brings, Turns, Rests, Other, move}
 use Rattle.lockstep_laws.specs.Slaves.{Post, IsFirstPost, tail}
 use Rattle.lockstep_laws.specs.Asked.{AskedAsPlanned}
-use Rattle.slave_wiring.specs.Changes.{Change, output, ids, target, is_due, ordinal}
-use Rattle.slave_wiring.specs.Payloads.{payload, data_message}
+use Rattle.slave_spec.specs.Changes.{Change, output, ids, target, is_due, ordinal}
+use Rattle.slave_spec.specs.Payloads.{payload, data_message}
 use Rattle.slave_spec.specs.Heard as spec
 use Rattle.slave_spec.specs.Transport as transport
 use Rattle.slave_spec.specs.Transport.{SlaveState, parcel_send}
@@ -32,17 +32,17 @@ use Rattle.slave_spec.specs.declared.words.Session.{Session}
 use Rattle.slave_spec.specs.declared.words.Session.TheVariants.{Before, During, After}
 use Rattle.slave_spec.specs.declared.words.Fate.{Fate}
 use Rattle.slave_spec.specs.declared.words.Fate.TheVariants.{Dropped, Refused, Repeated, Taken}
-use Rattle.slave_meets.specs.Desks.{post, answer_note, Both, sent_next, got, ticked, at, events_of_slave, AreElse, IsAnswer, AreAnswersKept, IsReadBack}
-use Rattle.slave_meets.proofs.Meets.{slave_is}
-use Rattle.slave_sends.specs.Ranges.{SlaveFits, PayloadsFit}
-use Rattle.slave_sends.proofs.Spelt.{data_is}
-use Rattle.slave_sends.proofs.Sending.{in_range, sends_back}
-use Rattle.course_spec.specs.Courses.{may}
-use Rattle.slave_course.specs.Wired.{is_during}
-use Rattle.slave_course.proofs.Courses.{is_planned}
-use Rattle.slave_data.specs.Made.{setup_at, parties}
-use Rattle.slave_data.proofs.Held.{of_scenario, reads}
-use Rattle.slave_data.proofs.Owing.{small_ids, payload_are, payload_length, all_chosen, sending_past, map_joined}
+use Rattle.slave_laws.specs.Talk.Desks.{post, answer_note, Both, sent_next, got, ticked, at, events_of_slave, AreElse, IsAnswer, AreAnswersKept, IsReadBack}
+use Rattle.slave_laws.proofs.Talk.Meets.{slave_is}
+use Rattle.slave_laws.specs.Talk.Ranges.{SlaveFits, PayloadsFit}
+use Rattle.slave_laws.proofs.Talk.Spelt.{data_is}
+use Rattle.slave_laws.proofs.Talk.Sending.{in_range, sends_back}
+use Rattle.plan_laws.specs.Course.Courses.{may}
+use Rattle.slave_laws.specs.Wiring.Wired.{is_during}
+use Rattle.slave_laws.proofs.Wiring.Courses.{is_planned}
+use Rattle.slave_laws.specs.Data.Made.{setup_at, parties}
+use Rattle.slave_laws.proofs.Data.Held.{of_scenario, reads}
+use Rattle.slave_laws.proofs.Data.Owing.{small_ids, payload_are, payload_length, all_chosen, sending_past, map_joined}
 use Rattle.completeness_laws.proofs.Delivery.Addresses.{IsLinkAt, AllRight, right_target, planned_right}
 
 module _ (sc : Scenario) (other : SlaveDesc) (ok : IsScenario sc) (s : ℕ) (it : IsSlaveOf (parties sc other) s) where

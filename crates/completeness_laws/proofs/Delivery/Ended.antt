@@ -13,15 +13,15 @@ use Rattle.master_spec.specs.declared.setups.Setup.{Setup}
 use Rattle.master_spec.specs.Setup.{setup_from, slave_of, jobs_of}
 use Rattle.master_spec.specs.Marks.{Mark, count, is_begun, cause_of}
 use Rattle.master_spec.specs.Requests.{asks}
-use Rattle.asking_laws.specs.Legal.{Rests, AreLegal, GoesByRule}
-use Rattle.asking_laws.proofs.Legal.{going}
-use Rattle.index_laws.specs.Runs.{events_of_master, course_at, owed, where_it_is, MasterActs, IsRun}
-use Rattle.index_laws.specs.Index.{marks_of, ReadBack, Owes}
-use Rattle.index_laws.specs.Follows.{mine, talk_with, FollowsCourse}
-use Rattle.index_laws.proofs.Laws.{listens}
-use Rattle.index_laws.proofs.Runs.{followed, with_at}
-use Rattle.scenario_laws.proofs.Heard.{setups_heard}
-use Rattle.model_laws.specs.Scenarios.{slave_numbered}
+use Rattle.master_log_laws.specs.Asking.Legal.{Rests, AreLegal, GoesByRule}
+use Rattle.master_log_laws.proofs.Asking.Legal.{going}
+use Rattle.master_log_laws.specs.Index.Runs.{events_of_master, course_at, owed, where_it_is, MasterActs, IsRun}
+use Rattle.master_log_laws.specs.Index.Index.{marks_of, ReadBack, Owes}
+use Rattle.master_log_laws.specs.Index.Follows.{mine, talk_with, FollowsCourse}
+use Rattle.master_log_laws.proofs.Index.Laws.{listens}
+use Rattle.master_log_laws.proofs.Index.Runs.{followed, with_at}
+use Rattle.master_log_laws.proofs.Scenarios.Heard.{setups_heard}
+use Rattle.lockstep_laws.specs.Models.Scenarios.{slave_numbered}
 use Rattle.run_laws.specs.Laws.{parties}
 use Rattle.run_laws.proofs.Runs.{party}
 use Rattle.completeness_laws.specs.Moments.{cause_in, cause_at, EndsHere}

@@ -10,10 +10,10 @@ use Rattle.master_spec.specs.declared.causes.Cause.{Cause}
 use Rattle.master_spec.specs.declared.setups.Slave.{Slave}
 use Rattle.master_spec.specs.declared.setups.Setup.{Setup}
 use Rattle.master_spec.specs.Exchanged.{Brings}
-use Rattle.index_laws.specs.Runs.{course_at}
-use Rattle.index_laws.specs.Dates.{phase_before}
-use Rattle.index_laws.proofs.Dates.{phase_later, brings_later}
-use Rattle.index_laws.proofs.Runs.{none_before}
+use Rattle.master_log_laws.specs.Index.Runs.{course_at}
+use Rattle.master_log_laws.specs.Index.Dates.{phase_before}
+use Rattle.master_log_laws.proofs.Index.Dates.{phase_later, brings_later}
+use Rattle.master_log_laws.proofs.Index.Runs.{none_before}
 use Rattle.completeness_laws.specs.Moments.{cause_in}
 use Rattle.completeness_laws.proofs.Delivery.Coming.{none_some}
 use Rattle.completeness_laws.proofs.Delivery.Staying.{entry_stays}

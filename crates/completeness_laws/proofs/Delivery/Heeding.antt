@@ -16,7 +16,7 @@ use Rattle.dcp_ends.specs.declared.entries.LogEntry.{LogEntry}
 use Rattle.log_spec.specs.Messages.{Note}
 use Rattle.log_spec.specs.Log.{Parties, DecidedRequest}
 use Rattle.slave_states.specs.Transitions.{transition_row, next_on, next_on_turn}
-use Rattle.slave_wiring.specs.Payloads.{brought}
+use Rattle.slave_spec.specs.Payloads.{brought}
 use Rattle.slave_spec.specs.declared.words.SlaveSetup.{SlaveSetup}
 use Rattle.slave_spec.specs.declared.words.SlaveRequest as req
 use Rattle.slave_spec.specs.declared.words.Asked.{Asked}
@@ -29,16 +29,16 @@ use Rattle.slave_spec.specs.Plants.{Plant, start_plant}
 use Rattle.slave_spec.specs.Requests.{refusal, changed_to, set_to, accepted, answer, answered_plant, answers}
 use Rattle.slave_spec.specs.Turns.{Act, Stay, Wait, Fault, Step, Pass, act, turned, is_listening, brings}
 use Rattle.slave_spec.specs.Slaves.{machine}
-use Rattle.slave_meets.specs.Desks.{answer_note, at}
-use Rattle.slave_meets.proofs.Plants.{no_refusal, row_of_next, state_is}
-use Rattle.slave_sends.specs.Laws.{ReadsMessages}
-use Rattle.slave_sends.proofs.Sending.{sends_back}
-use Rattle.slave_holds.specs.Models.{plant_at}
-use Rattle.slave_holds.proofs.Inputs.{set_where}
-use Rattle.slave_holds.proofs.Along.{exchanged, Lasts, along}
-use Rattle.course_spec.specs.Taken.{asked_heard, is_acknowledged, tells_initialized, told_after, told_since}
-use Rattle.slave_tuned.specs.Tuned.{served_at}
-use Rattle.slave_tuned.proofs.Parameters.{acknowledges, acknowledged}
+use Rattle.slave_laws.specs.Talk.Desks.{answer_note, at}
+use Rattle.slave_laws.proofs.Talk.Plants.{no_refusal, row_of_next, state_is}
+use Rattle.slave_laws.specs.Talk.Sends.{ReadsMessages}
+use Rattle.slave_laws.proofs.Talk.Sending.{sends_back}
+use Rattle.slave_laws.specs.Model.Models.{plant_at}
+use Rattle.slave_laws.proofs.Model.Inputs.{set_where}
+use Rattle.slave_laws.proofs.Model.Along.{exchanged, Lasts, along}
+use Rattle.plan_laws.specs.Course.Taken.{asked_heard, is_acknowledged, tells_initialized, told_after, told_since}
+use Rattle.slave_laws.specs.Model.Tuned.{served_at}
+use Rattle.slave_laws.proofs.Model.Parameters.{acknowledges, acknowledged}
 
 never : {A : Type 0} → false ≡ true → A
 never e = absurd cc

@@ -14,8 +14,8 @@ use Rattle.dcp_ends.specs.declared.entries.LogEntry.{LogEntry}
 use Rattle.log_spec.specs.Log.{Parties, DecidedRequest}
 use Rattle.log_spec.specs.Moves.{move}
 use Rattle.slave_states.specs.Transitions.{transition_row, next_on_turn}
-use Rattle.slave_wiring.specs.Changes.{input, has_id, source, ordinal, steps_in_run}
-use Rattle.slave_wiring.specs.Payloads.{Kept, WiringState, kept_under, is_kept_of, is_here, is_address, input_types, is_wanted, brought}
+use Rattle.slave_spec.specs.Changes.{input, has_id, source, ordinal, steps_in_run}
+use Rattle.slave_spec.specs.Payloads.{Kept, WiringState, kept_under, is_kept_of, is_here, is_address, input_types, is_wanted, brought}
 use Rattle.slave_spec.specs.declared.words.SlaveSetup.{SlaveSetup}
 use Rattle.slave_spec.specs.declared.words.Asked.{Asked}
 use Rattle.slave_spec.specs.declared.words.Asked.TheVariants.{Change, Setting}
@@ -29,13 +29,13 @@ use Rattle.slave_spec.specs.Requests.{refusal, answers}
 use Rattle.slave_spec.specs.Turns.{Act, Stay, Wait, Fault, Step, Pass, act, turned, is_listening}
 use Rattle.slave_spec.specs.Turns as turning
 use Rattle.slave_spec.specs.Slaves.{machine, has_ended}
-use Rattle.slave_meets.specs.Desks.{Both, at}
-use Rattle.slave_meets.proofs.Plants.{act_step}
-use Rattle.slave_sends.specs.Laws.{ReadsMessages}
-use Rattle.slave_holds.specs.Models.{plant_at}
-use Rattle.course_spec.specs.Taken.{told_since}
-use Rattle.slave_tuned.specs.Tuned.{served_at}
-use Rattle.slave_tuned.proofs.Parameters.{acknowledges}
+use Rattle.slave_laws.specs.Talk.Desks.{Both, at}
+use Rattle.slave_laws.proofs.Talk.Plants.{act_step}
+use Rattle.slave_laws.specs.Talk.Sends.{ReadsMessages}
+use Rattle.slave_laws.specs.Model.Models.{plant_at}
+use Rattle.plan_laws.specs.Course.Taken.{told_since}
+use Rattle.slave_laws.specs.Model.Tuned.{served_at}
+use Rattle.slave_laws.proofs.Model.Parameters.{acknowledges}
 use Rattle.completeness_laws.proofs.Causes.Goings.{Takes, Goes, stays, takes, brings, turns_on, goes}
 use Rattle.completeness_laws.proofs.Causes.Faults.{regular_at}
 use Rattle.completeness_laws.proofs.Delivery.Heeding.{is_on, Result, Stays, Sets, Moves, Resets, result, still_told}

@@ -27,19 +27,19 @@ use Rattle.master_spec.specs.Jobs.{Job}
 use Rattle.master_spec.specs.Exchanged.{IsIn, IsDecided, entry_at}
 use Rattle.master_spec.specs.Requests.{Asking, Decision, asks, acked, is_main, is_step, phase_at, of_phase}
 use Rattle.master_spec.specs.Shown.{Shown, IsMissing}
-use Rattle.index_laws.specs.Runs.{IsRun}
-use Rattle.index_laws.proofs.ByEntry.{entry_by_entry}
-use Rattle.index_laws.proofs.Dates.{entry_now, entry_later}
-use Rattle.master_hears.specs.Laws.{IsAnswerAs}
-use Rattle.model_laws.specs.Scenarios.{slave_numbered}
-use Rattle.scenario_laws.proofs.Heard.{setups_heard}
-use Rattle.slave_laws.specs.Whole.{slaves_asked}
-use Rattle.slave_data.proofs.Held.{reads}
+use Rattle.master_log_laws.specs.Index.Runs.{IsRun}
+use Rattle.master_log_laws.proofs.Index.ByEntry.{entry_by_entry}
+use Rattle.master_log_laws.proofs.Index.Dates.{entry_now, entry_later}
+use Rattle.master_laws.specs.Hears.Laws.{IsAnswerAs}
+use Rattle.lockstep_laws.specs.Models.Scenarios.{slave_numbered}
+use Rattle.master_log_laws.proofs.Scenarios.Heard.{setups_heard}
+use Rattle.slave_laws.specs.Data.Whole.{slaves_asked}
+use Rattle.slave_laws.proofs.Data.Held.{reads}
 use Rattle.run_laws.specs.Laws.{parties, slave_setup_of, IsRunInRounds}
 use Rattle.run_laws.proofs.Runs.{are_parties}
 use Rattle.run_laws.proofs.Rounded.{rounds_are_runs}
-use Rattle.headline_laws.proofs.Behaving.{are_slaves}
-use Rattle.headline_laws.proofs.Moments.{so_far}
+use Rattle.run_laws.proofs.Headline.Behaving.{are_slaves}
+use Rattle.run_laws.proofs.Headline.Moments.{so_far}
 use Rattle.completeness_laws.specs.Reasons.{InputsWereSent}
 use Rattle.completeness_laws.proofs.Causes.Moments.{served_grows}
 use Rattle.completeness_laws.proofs.Delivery.Askings.{DecidedAt, AreAt, are_at, at_one, same_ack}

@@ -18,10 +18,10 @@ use Rattle.lockstep_laws.proofs.Local.{Counts}
 use Rattle.lockstep_laws.proofs.Conversation.{earlier, drop_later, known}
 use Rattle.lockstep_laws.proofs.Barrier.{IsEvent, asked_first, IsOpen, UnderWay, together}
 use Rattle.lockstep_laws.proofs.Places.{step_is, fits, ahead}
-use Rattle.model_laws.specs.Ordinals.{ordinals_below, ordinal_at}
-use Rattle.model_laws.specs.Machines.{Machines, values_owed}
-use Rattle.model_laws.proofs.EachQth.{count_next}
-use Rattle.model_laws.proofs.Values.{sends_values}
+use Rattle.lockstep_laws.specs.Models.Ordinals.{ordinals_below, ordinal_at}
+use Rattle.lockstep_laws.specs.Models.Machines.{Machines, values_owed}
+use Rattle.lockstep_laws.proofs.Models.EachQth.{count_next}
+use Rattle.lockstep_laws.proofs.Models.Values.{sends_values}
 use Rattle.master_spec.specs.declared.requests.Answer.TheVariants.{Nack}
 use Rattle.master_spec.specs.News.{Answers, news_in}
 use Rattle.slave_spec.specs.declared.words.SlaveSetup.{SlaveSetup}
@@ -30,18 +30,18 @@ use Rattle.slave_spec.specs.declared.words.Session.TheVariants.{Before}
 use Rattle.slave_spec.specs.Transport as transport
 use Rattle.slave_spec.specs.Requests.{answers}
 use Rattle.slave_spec.specs.Slaves.{machine}
-use Rattle.slave_meets.specs.Desks.{answer_note, at}
-use Rattle.slave_holds.specs.Models.{plant_at}
-use Rattle.slave_data.specs.Made.{machines}
-use Rattle.slave_data.proofs.Held.{reads}
-use Rattle.slave_tuned.specs.Tuned.{served_at}
-use Rattle.slave_laws.specs.Whole.{slaves_asked}
-use Rattle.slave_laws.proofs.Feeding.{some_interval}
-use Rattle.slave_reads.proofs.Rows.{slaves_are}
-use Rattle.slave_links.specs.Links.{interval_of}
-use Rattle.master_hears.specs.Laws.{IsAnswerAs}
+use Rattle.slave_laws.specs.Talk.Desks.{answer_note, at}
+use Rattle.slave_laws.specs.Model.Models.{plant_at}
+use Rattle.slave_laws.specs.Data.Made.{machines}
+use Rattle.slave_laws.proofs.Data.Held.{reads}
+use Rattle.slave_laws.specs.Model.Tuned.{served_at}
+use Rattle.slave_laws.specs.Data.Whole.{slaves_asked}
+use Rattle.slave_laws.proofs.Data.Feeding.{some_interval}
+use Rattle.slave_laws.proofs.Wiring.Rows.{slaves_are}
+use Rattle.slave_laws.specs.Wiring.Links.{interval_of}
+use Rattle.master_laws.specs.Hears.Laws.{IsAnswerAs}
 use Rattle.run_laws.specs.Laws.{parties, slave_setup_of, IsRunInRounds}
-use Rattle.headline_laws.proofs.Behaving.{are_slaves}
+use Rattle.run_laws.proofs.Headline.Behaving.{are_slaves}
 use Rattle.completeness_laws.proofs.Causes.Goings.{Takes, Goes, stays, takes, brings, turns_on, goes}
 use Rattle.completeness_laws.proofs.Delivery.Happens.{TakesIt}
 use Rattle.completeness_laws.proofs.Delivery.Since.{TakenIn}

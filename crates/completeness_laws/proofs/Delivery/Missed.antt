@@ -14,8 +14,8 @@ use Rattle.pdu_layout.specs.Message.{Message}
 use Rattle.slave_desc.specs.declared.descriptions.SlaveDesc.{SlaveDesc}
 use Rattle.scenario.specs.declared.scenarios.Scenario.{Scenario}
 use Rattle.scenario.specs.Sound.{IsScenario}
-use Rattle.plan_spec.specs.declared.links.DataLink.{DataLink}
-use Rattle.plan_spec.specs.Setup.{source_address, address_at}
+use Rattle.master_spec.specs.declared.links.DataLink.{DataLink}
+use Rattle.master_spec.specs.PlanSetup.{source_address, address_at}
 use Rattle.plan_laws.specs.Taking.{IsScenarioSlave}
 use Rattle.log_spec.specs.Log.{Parties, IsSlaveOf, values_sent}
 use Rattle.log_spec.proofs.Moves.{same_self}
@@ -26,13 +26,13 @@ use Rattle.lockstep_laws.specs.Runs.{Behaves}
 use Rattle.lockstep_laws.proofs.Conversation.{earlier, drop_later}
 use Rattle.lockstep_laws.proofs.Places.{fits, events_together}
 use Rattle.lockstep_laws.proofs.Asking.{asked_in_order}
-use Rattle.model_laws.specs.Ordinals.{ordinals_in_run, ordinals_below, ordinal_at}
-use Rattle.model_laws.specs.Machines.{Machines, carried, values_owed}
-use Rattle.model_laws.specs.Scenarios.{slave_numbered}
-use Rattle.model_laws.proofs.EachQth.{ordinal_is, sent, count_next}
-use Rattle.model_laws.proofs.Values.{sends_values}
-use Rattle.slave_wiring.specs.Changes.{input, has_id, entry_interval, steps_in_run, ordinal, source}
-use Rattle.slave_wiring.specs.Payloads.{Kept, kept_under, is_kept_of, is_here, is_address, input_types, is_wanted, brought, payload}
+use Rattle.lockstep_laws.specs.Models.Ordinals.{ordinals_in_run, ordinals_below, ordinal_at}
+use Rattle.lockstep_laws.specs.Models.Machines.{Machines, carried, values_owed}
+use Rattle.lockstep_laws.specs.Models.Scenarios.{slave_numbered}
+use Rattle.lockstep_laws.proofs.Models.EachQth.{ordinal_is, sent, count_next}
+use Rattle.lockstep_laws.proofs.Models.Values.{sends_values}
+use Rattle.slave_spec.specs.Changes.{input, has_id, entry_interval, steps_in_run, ordinal, source}
+use Rattle.slave_spec.specs.Payloads.{Kept, kept_under, is_kept_of, is_here, is_address, input_types, is_wanted, brought, payload}
 use Rattle.slave_spec.specs.declared.words.SlaveSetup.{SlaveSetup}
 use Rattle.slave_spec.specs.declared.words.Session.{Session}
 use Rattle.slave_spec.specs.declared.words.Session.TheVariants.{Before, During, After}
@@ -42,25 +42,25 @@ use Rattle.slave_spec.specs.Transport.{SlaveState}
 use Rattle.slave_spec.specs.Plants.{Plant}
 use Rattle.slave_spec.specs.Turns.{is_listening, brings}
 use Rattle.slave_spec.specs.Slaves.{machine, has_ended}
-use Rattle.slave_meets.specs.Desks.{got, at}
-use Rattle.slave_holds.specs.Models.{plant_at}
-use Rattle.slave_tuned.specs.Tuned.{served_at}
-use Rattle.slave_course.specs.Wired.{planned_changes, changes_restarted, is_past}
-use Rattle.slave_course.specs.Ordinals.{IsCountedOn}
-use Rattle.slave_course.proofs.Counting.{inputs_go_on}
-use Rattle.slave_course.proofs.Courses.{is_planned}
-use Rattle.slave_links.specs.Links.{interval_of, data_link_of, from_of}
-use Rattle.slave_links.proofs.Planned.{input_intervals}
-use Rattle.slave_data.specs.Made.{machines}
-use Rattle.slave_data.proofs.Held.{of_scenario, reads}
-use Rattle.course_spec.specs.Taken.{told_since}
-use Rattle.course_spec.specs.Courses.{may}
-use Rattle.slave_laws.specs.Whole.{slaves_asked}
-use Rattle.slave_laws.proofs.Stepping.{asked_may}
-use Rattle.slave_laws.proofs.Feeding.{some_interval}
-use Rattle.slave_reads.proofs.Rows.{slaves_are}
+use Rattle.slave_laws.specs.Talk.Desks.{got, at}
+use Rattle.slave_laws.specs.Model.Models.{plant_at}
+use Rattle.slave_laws.specs.Model.Tuned.{served_at}
+use Rattle.slave_laws.specs.Wiring.Wired.{planned_changes, changes_restarted, is_past}
+use Rattle.slave_laws.specs.Wiring.Ordinals.{IsCountedOn}
+use Rattle.slave_laws.proofs.Wiring.Counting.{inputs_go_on}
+use Rattle.slave_laws.proofs.Wiring.Courses.{is_planned}
+use Rattle.slave_laws.specs.Wiring.Links.{interval_of, data_link_of, from_of}
+use Rattle.slave_laws.proofs.Wiring.Planned.{input_intervals}
+use Rattle.slave_laws.specs.Data.Made.{machines}
+use Rattle.slave_laws.proofs.Data.Held.{of_scenario, reads}
+use Rattle.plan_laws.specs.Course.Taken.{told_since}
+use Rattle.plan_laws.specs.Course.Courses.{may}
+use Rattle.slave_laws.specs.Data.Whole.{slaves_asked}
+use Rattle.slave_laws.proofs.Data.Stepping.{asked_may}
+use Rattle.slave_laws.proofs.Data.Feeding.{some_interval}
+use Rattle.slave_laws.proofs.Wiring.Rows.{slaves_are}
 use Rattle.run_laws.specs.Laws.{parties, slave_setup_of}
-use Rattle.headline_laws.proofs.Behaving.{are_slaves}
+use Rattle.run_laws.proofs.Headline.Behaving.{are_slaves}
 use Rattle.completeness_laws.specs.Unheard.{NeverComes}
 use Rattle.completeness_laws.proofs.Causes.Goings.{open_during}
 use Rattle.completeness_laws.proofs.Delivery.Fronts.{values_grow}

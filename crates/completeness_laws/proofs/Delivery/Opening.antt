@@ -17,15 +17,15 @@ use Rattle.lockstep_laws.proofs.Local.{Counts}
 use Rattle.lockstep_laws.proofs.Conversation.{earlier, drop_later, known}
 use Rattle.lockstep_laws.proofs.Barrier.{UnderWay, Leasts, Goes, goes, together}
 use Rattle.lockstep_laws.proofs.Places.{fits, ahead}
-use Rattle.model_laws.specs.Scenarios.{slave_numbered}
+use Rattle.lockstep_laws.specs.Models.Scenarios.{slave_numbered}
 use Rattle.slave_spec.specs.declared.words.SlaveSetup.{SlaveSetup}
-use Rattle.slave_tuned.specs.Tuned.{served_at}
-use Rattle.slave_data.proofs.Held.{reads}
-use Rattle.course_spec.specs.Taken.{told_since}
-use Rattle.course_spec.specs.Courses.{tuned}
-use Rattle.slave_laws.specs.Whole.{slaves_asked}
+use Rattle.slave_laws.specs.Model.Tuned.{served_at}
+use Rattle.slave_laws.proofs.Data.Held.{reads}
+use Rattle.plan_laws.specs.Course.Taken.{told_since}
+use Rattle.plan_laws.specs.Course.Courses.{tuned}
+use Rattle.slave_laws.specs.Data.Whole.{slaves_asked}
 use Rattle.run_laws.specs.Laws.{parties, slave_setup_of}
-use Rattle.headline_laws.proofs.Behaving.{are_slaves}
+use Rattle.run_laws.proofs.Headline.Behaving.{are_slaves}
 use Rattle.completeness_laws.proofs.Causes.History.{was_taken}
 use Rattle.completeness_laws.proofs.Delivery.Holding.{ToldFrom, told_grows}
 use Rattle.completeness_laws.proofs.Delivery.Ordinals.{run_least}

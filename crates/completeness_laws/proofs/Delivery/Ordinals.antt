@@ -2,7 +2,7 @@
 use Rattle.std.proofs.Common.{◌≡◌, ℕ, zero, suc, ◌+◌, ◌-◌, ◌*◌, ◌/◌, ◌%◌, ◌<◌, ◌≤◌, ◌⊎◌, inl, inr, ap, ◌∙◌, arith}
 use Rattle.std.proofs.lemmas.Bool.{cases_lt}
 use Rattle.std.proofs.lemmas.Nat.{div-add-mod', mod_below}
-use Rattle.model_laws.specs.Ordinals.{ordinals_in_run, ordinal_at, ordinals_below}
+use Rattle.lockstep_laws.specs.Models.Ordinals.{ordinals_in_run, ordinal_at, ordinals_below}
 
 pub div_rises : (m n q : ℕ) → 0 < q → m ≤ n → m / q ≤ n / q
 div_rises m n q some le = by (cases_lt (n / q) (m / q))

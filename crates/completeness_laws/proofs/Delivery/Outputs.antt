@@ -13,10 +13,10 @@ use Rattle.log_spec.specs.Log.{Parties, IsSlaveOf, values_sent}
 use Rattle.lockstep_laws.specs.Steps.{Show, shown_after}
 use Rattle.lockstep_laws.specs.Cast.{ConversingSlaves}
 use Rattle.lockstep_laws.specs.Runs.{Behaves}
-use Rattle.model_laws.specs.Ordinals.{ordinals_in_run, ordinal_at, ordinals_below}
-use Rattle.model_laws.specs.Machines.{Machines, values_owed}
-use Rattle.model_laws.specs.Scenarios.{slave_numbered}
-use Rattle.model_laws.proofs.Values.{OwesValue, sends_values}
+use Rattle.lockstep_laws.specs.Models.Ordinals.{ordinals_in_run, ordinal_at, ordinals_below}
+use Rattle.lockstep_laws.specs.Models.Machines.{Machines, values_owed}
+use Rattle.lockstep_laws.specs.Models.Scenarios.{slave_numbered}
+use Rattle.lockstep_laws.proofs.Models.Values.{OwesValue, sends_values}
 use Rattle.master_spec.specs.declared.tasks.Task.{Task}
 use Rattle.master_spec.specs.declared.tasks.Task.TheVariants as tasks
 use Rattle.master_spec.specs.declared.reactions.Reaction.TheVariants.{Wait}
@@ -28,15 +28,15 @@ use Rattle.master_spec.specs.Jobs.{Job}
 use Rattle.master_spec.specs.Marks.{Mark, Brought, latest, or_else, kept, is_reached, is_passed, job_of, cause_of}
 use Rattle.master_spec.specs.Requests.{Asking}
 use Rattle.master_spec.specs.Conversation.{reaction, reaction_in, on_mark}
-use Rattle.phase_laws.proofs.Stage.{Question, Stage, idling, main_open, question_open, trying, mains_done, state_told}
-use Rattle.barrier_laws.specs.Laws.{row_event_in}
-use Rattle.slave_data.specs.Made.{machines}
-use Rattle.slave_data.proofs.Held.{of_scenario}
-use Rattle.row_collecting.proofs.Watches.{watch_interval, watch_sender}
-use Rattle.slave_laws.specs.Whole.{slaves_asked}
-use Rattle.slave_reads.proofs.Rows.{slaves_are}
+use Rattle.master_log_laws.proofs.Phases.Stage.{Question, Stage, idling, main_open, question_open, trying, mains_done, state_told}
+use Rattle.master_laws.specs.Barrier.Laws.{row_event_in}
+use Rattle.slave_laws.specs.Data.Made.{machines}
+use Rattle.slave_laws.proofs.Data.Held.{of_scenario}
+use Rattle.run_laws.proofs.Collecting.Watches.{watch_interval, watch_sender}
+use Rattle.slave_laws.specs.Data.Whole.{slaves_asked}
+use Rattle.slave_laws.proofs.Wiring.Rows.{slaves_are}
 use Rattle.run_laws.specs.Laws.{parties}
-use Rattle.headline_laws.proofs.Behaving.{are_slaves}
+use Rattle.run_laws.proofs.Headline.Behaving.{are_slaves}
 use Rattle.completeness_laws.proofs.Delivery.Phases.{or_right}
 
 -- ---- a job with outputs

@@ -22,30 +22,30 @@ use Rattle.master_spec.specs.Setup.{setup_from, slave_of, jobs_of}
 use Rattle.master_spec.specs.Jobs.{Job}
 use Rattle.master_spec.specs.Marks.{Mark, Begun, Asked, Again, Answered, Hinted, Brought, Turned, Ended, is_begun, count, this_phase, mark_brings, or_else, oldest, latest, newest_number, open_request, job_of, cause_of}
 use Rattle.master_spec.specs.Requests.{Asking, asks}
-use Rattle.asking_laws.specs.Legal.{Rests, AreLegal}
-use Rattle.index_laws.specs.Runs.{course_at, IsRun}
-use Rattle.index_laws.specs.Index.{Placed, marks_of, code_of, askings_told, IsHeadRequest}
-use Rattle.index_laws.specs.Dates.{phase_before, IsDated, AreDated, IsBroughtBy, IsBroughtAt}
-use Rattle.index_laws.specs.Laws.{AreHeard}
-use Rattle.phase_laws.proofs.Now.{open_latest}
-use Rattle.phase_laws.proofs.Numbered.{ordered}
-use Rattle.phase_laws.proofs.Tags.{counted, none_asked, job_some}
-use Rattle.row_laws.specs.Laws.{event_for, progress}
-use Rattle.row_laws.proofs.Views.{progress_told}
-use Rattle.barrier_laws.specs.Laws.{events_before, StandsInPhase}
-use Rattle.barrier_laws.proofs.Scripts.{events_of, none_before, before_cons, before_next}
-use Rattle.barrier_laws.proofs.Counting as counting
-use Rattle.barrier_laws.proofs.Standing.{progress_by_phase}
-use Rattle.scenario_laws.proofs.Heard.{setups_heard}
-use Rattle.master_meets.specs.Laws.{note_of}
-use Rattle.master_meets.proofs.Asking.{are_asked}
-use Rattle.master_hears.specs.Laws.{AreDecisions}
-use Rattle.master_hears.proofs.Decided.{are_told}
-use Rattle.model_laws.specs.Scenarios.{slave_numbered}
-use Rattle.slave_laws.specs.Whole.{slaves_asked}
+use Rattle.master_log_laws.specs.Asking.Legal.{Rests, AreLegal}
+use Rattle.master_log_laws.specs.Index.Runs.{course_at, IsRun}
+use Rattle.master_log_laws.specs.Index.Index.{Placed, marks_of, code_of, askings_told, IsHeadRequest}
+use Rattle.master_log_laws.specs.Index.Dates.{phase_before, IsDated, AreDated, IsBroughtBy, IsBroughtAt}
+use Rattle.master_log_laws.specs.Index.Laws.{AreHeard}
+use Rattle.master_log_laws.proofs.Phases.Now.{open_latest}
+use Rattle.master_log_laws.proofs.Phases.Numbered.{ordered}
+use Rattle.master_log_laws.proofs.Phases.Tags.{counted, none_asked, job_some}
+use Rattle.master_laws.specs.Rows.Laws.{event_for, progress}
+use Rattle.master_laws.proofs.Rows.Views.{progress_told}
+use Rattle.master_laws.specs.Barrier.Laws.{events_before, StandsInPhase}
+use Rattle.master_laws.proofs.Barrier.Scripts.{events_of, none_before, before_cons, before_next}
+use Rattle.master_laws.proofs.Barrier.Counting as counting
+use Rattle.master_laws.proofs.Barrier.Standing.{progress_by_phase}
+use Rattle.master_log_laws.proofs.Scenarios.Heard.{setups_heard}
+use Rattle.master_laws.specs.Meets.Laws.{note_of}
+use Rattle.master_laws.proofs.Meets.Asking.{are_asked}
+use Rattle.master_laws.specs.Hears.Laws.{AreDecisions}
+use Rattle.master_laws.proofs.Hears.Decided.{are_told}
+use Rattle.lockstep_laws.specs.Models.Scenarios.{slave_numbered}
+use Rattle.slave_laws.specs.Data.Whole.{slaves_asked}
 use Rattle.run_laws.specs.Laws.{parties}
 use Rattle.run_laws.proofs.Runs.{party, are_parties}
-use Rattle.headline_laws.proofs.Behaving.{are_slaves}
+use Rattle.run_laws.proofs.Headline.Behaving.{are_slaves}
 use Rattle.completeness_laws.proofs.Delivery.Ended.{TalkFacts}
 use Rattle.completeness_laws.proofs.Delivery.Unanswered.{decided_length}
 

@@ -15,17 +15,17 @@ use Rattle.master_spec.specs.declared.setups.Slave.{Slave}
 use Rattle.master_spec.specs.declared.setups.Setup.{Setup}
 use Rattle.master_spec.specs.Setup.{setup_from, slave_of}
 use Rattle.master_spec.specs.Requests.{Asking, Decision, asks}
-use Rattle.index_laws.specs.Runs.{IsRun}
-use Rattle.index_laws.specs.Laws.{AreHeard}
-use Rattle.phase_laws.specs.Laws.{AreDecided, AreOneByOne}
-use Rattle.phase_laws.proofs.Numbered.{one_by_one}
-use Rattle.master_meets.specs.Laws.{note_of}
-use Rattle.master_hears.specs.Laws.{IsAnswerAs, IsDecision, AreDecisions}
-use Rattle.model_laws.specs.Scenarios.{slave_numbered}
-use Rattle.scenario_laws.proofs.Heard.{setups_heard}
-use Rattle.slave_laws.specs.Whole.{slaves_asked}
+use Rattle.master_log_laws.specs.Index.Runs.{IsRun}
+use Rattle.master_log_laws.specs.Index.Laws.{AreHeard}
+use Rattle.master_log_laws.specs.Phases.Laws.{AreDecided, AreOneByOne}
+use Rattle.master_log_laws.proofs.Phases.Numbered.{one_by_one}
+use Rattle.master_laws.specs.Meets.Laws.{note_of}
+use Rattle.master_laws.specs.Hears.Laws.{IsAnswerAs, IsDecision, AreDecisions}
+use Rattle.lockstep_laws.specs.Models.Scenarios.{slave_numbered}
+use Rattle.master_log_laws.proofs.Scenarios.Heard.{setups_heard}
+use Rattle.slave_laws.specs.Data.Whole.{slaves_asked}
 use Rattle.run_laws.specs.Laws.{parties}
-use Rattle.headline_laws.proofs.Behaving.{are_slaves}
+use Rattle.run_laws.proofs.Headline.Behaving.{are_slaves}
 use Rattle.completeness_laws.proofs.Delivery.Answering.{told, ServesAt, serves_at}
 use Rattle.completeness_laws.proofs.Delivery.Askings.{FirstAt, AreAt, are_at, at_one}
 use Rattle.completeness_laws.proofs.Delivery.Ended.{numbered_at, run_front}

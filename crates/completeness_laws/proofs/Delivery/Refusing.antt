@@ -15,8 +15,8 @@ use Rattle.pdu_layout.specs.declared.messages.Inf.TheVariants as inf
 use Rattle.master_spec.specs.declared.requests.Answer.TheVariants.{Nack}
 use Rattle.master_spec.specs.News.{Answers, news_in}
 use Rattle.slave_states.specs.Transitions.{transition_row, is_barred, is_same, or_wrong, next_on}
-use Rattle.slave_wiring.specs.Changes.{Change as WiringChange, Entry, Side, vr_for, entries, has_id, put_ascending, ascending, ids}
-use Rattle.slave_wiring.specs.Payloads.{ready}
+use Rattle.slave_spec.specs.Changes.{Change as WiringChange, Entry, Side, vr_for, entries, has_id, put_ascending, ascending, ids}
+use Rattle.slave_spec.specs.Payloads.{ready}
 use Rattle.slave_spec.specs.declared.words.SlaveSetup.{SlaveSetup}
 use Rattle.slave_spec.specs.declared.words.SlaveRequest as req
 use Rattle.slave_spec.specs.declared.words.Asked.{Asked}
@@ -25,7 +25,7 @@ use Rattle.slave_spec.specs.Heard as spec
 use Rattle.slave_spec.specs.Transport as transport
 use Rattle.slave_spec.specs.Plants.{Plant}
 use Rattle.slave_spec.specs.Requests.{first_true, change_refusal, moved_refusal, refusal, answer, answered_plant}
-use Rattle.slave_meets.proofs.Plants.{row_of_next}
+use Rattle.slave_laws.proofs.Talk.Plants.{row_of_next}
 
 never : {A : Type 0} → false ≡ true → A
 never e = absurd cc

@@ -12,13 +12,13 @@ use Rattle.master_spec.specs.declared.setups.Slave.{Slave}
 use Rattle.master_spec.specs.Setup.{setup_from}
 use Rattle.master_spec.specs.Marks.{job_of, cause_of}
 use Rattle.master_spec.specs.Course.{course, fresh_talk}
-use Rattle.index_laws.specs.Runs.{events_of_master, course_at}
-use Rattle.index_laws.proofs.Late.{all_report}
-use Rattle.index_laws.proofs.Reported.{ended_cause}
-use Rattle.index_laws.proofs.Runs.{slaves_at, talks_of}
-use Rattle.failure_laws.proofs.First.{ends}
-use Rattle.scenario_laws.proofs.Heard.{setups_heard}
-use Rattle.scenario_laws.proofs.Scenarios.{events_reverse}
+use Rattle.master_log_laws.specs.Index.Runs.{events_of_master, course_at}
+use Rattle.master_log_laws.proofs.Index.Late.{all_report}
+use Rattle.master_log_laws.proofs.Index.Reported.{ended_cause}
+use Rattle.master_log_laws.proofs.Index.Runs.{slaves_at, talks_of}
+use Rattle.master_log_laws.proofs.Failures.First.{ends}
+use Rattle.master_log_laws.proofs.Scenarios.Heard.{setups_heard}
+use Rattle.master_log_laws.proofs.Scenarios.Scenarios.{events_reverse}
 use Rattle.run_laws.specs.Laws.{parties}
 use Rattle.run_laws.proofs.Runs.{are_parties}
 use Rattle.completeness_laws.specs.Moments.{cause_in, cause_at, EndsHere}

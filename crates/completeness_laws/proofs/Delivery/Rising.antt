@@ -11,9 +11,9 @@ use Rattle.lockstep_laws.specs.Works.{Works}
 use Rattle.lockstep_laws.specs.Cast.{ConversingSlaves}
 use Rattle.lockstep_laws.specs.Runs.{Behaves}
 use Rattle.lockstep_laws.proofs.Conversation.{earlier}
-use Rattle.slave_laws.specs.Whole.{slaves_asked}
+use Rattle.slave_laws.specs.Data.Whole.{slaves_asked}
 use Rattle.run_laws.specs.Laws.{parties}
-use Rattle.headline_laws.proofs.Behaving.{are_slaves}
+use Rattle.run_laws.proofs.Headline.Behaving.{are_slaves}
 
 taking : (t : Told) (b c : Bench) → TakesOn t b c → b.events ≤ c.events
 taking (Begins k) b c h = let z = h.events in omega (arith, z)

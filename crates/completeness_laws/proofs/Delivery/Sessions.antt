@@ -33,20 +33,20 @@ use Rattle.slave_spec.specs.declared.words.Session.{Session}
 use Rattle.slave_spec.specs.declared.words.Session.TheVariants.{Before, During, After}
 use Rattle.slave_spec.specs.declared.words.Fate.{Fate}
 use Rattle.slave_spec.specs.declared.words.Fate.TheVariants.{Dropped, Refused, Repeated, Taken}
-use Rattle.slave_meets.specs.Desks.{answer_note, served_by, served_after, Both, sent_next, at, got, ticked, Agree, ReadsAnswersBack}
-use Rattle.slave_sends.proofs.Sending.{sends_back}
-use Rattle.course_spec.specs.Taken.{is_acknowledged}
-use Rattle.model_laws.specs.Scenarios.{slave_numbered}
-use Rattle.slave_laws.specs.Whole.{slaves_asked}
-use Rattle.index_laws.specs.Runs.{IsRun}
-use Rattle.scenario_laws.proofs.Heard.{setups_heard}
+use Rattle.slave_laws.specs.Talk.Desks.{answer_note, served_by, served_after, Both, sent_next, at, got, ticked, Agree, ReadsAnswersBack}
+use Rattle.slave_laws.proofs.Talk.Sending.{sends_back}
+use Rattle.plan_laws.specs.Course.Taken.{is_acknowledged}
+use Rattle.lockstep_laws.specs.Models.Scenarios.{slave_numbered}
+use Rattle.slave_laws.specs.Data.Whole.{slaves_asked}
+use Rattle.master_log_laws.specs.Index.Runs.{IsRun}
+use Rattle.master_log_laws.proofs.Scenarios.Heard.{setups_heard}
 use Rattle.master_spec.specs.Setup.{setup_from, slave_of}
 use Rattle.master_spec.specs.Requests.{Asking, asks}
-use Rattle.master_meets.specs.Laws.{note_of}
-use Rattle.master_meets.proofs.Asking.{are_asked}
+use Rattle.master_laws.specs.Meets.Laws.{note_of}
+use Rattle.master_laws.proofs.Meets.Asking.{are_asked}
 use Rattle.run_laws.specs.Laws.{parties, slave_setup_of}
 use Rattle.run_laws.proofs.Runs.{party, are_parties}
-use Rattle.headline_laws.proofs.Behaving.{are_slaves}
+use Rattle.run_laws.proofs.Headline.Behaving.{are_slaves}
 use Rattle.completeness_laws.proofs.Delivery.Ended.{run_front}
 
 clash : true ≡ false → ⊥

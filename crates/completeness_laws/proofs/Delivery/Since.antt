@@ -13,7 +13,7 @@ use Rattle.slave_desc.specs.declared.descriptions.SlaveDesc.{SlaveDesc}
 use Rattle.scenario.specs.declared.scenarios.Scenario.{Scenario}
 use Rattle.log_spec.specs.Log.{Parties, DecidedRequest}
 use Rattle.master_spec.specs.Requests.{is_turn_of}
-use Rattle.course_spec.specs.Taken.{is_acknowledged}
+use Rattle.plan_laws.specs.Course.Taken.{is_acknowledged}
 use Rattle.slave_spec.specs.Heard as spec
 use Rattle.slave_spec.specs.Transport as transport
 use Rattle.slave_spec.specs.Plants.{Plant}
@@ -25,10 +25,10 @@ use Rattle.slave_spec.specs.declared.words.Asked as ask
 use Rattle.slave_spec.specs.declared.words.Asked.TheVariants.{Change, Setting, Question}
 use Rattle.slave_spec.specs.declared.words.Session.{Session}
 use Rattle.slave_spec.specs.declared.words.Session.TheVariants.{Before, During, After}
-use Rattle.slave_meets.specs.Desks.{answer_note, at}
-use Rattle.slave_sends.proofs.Sending.{sends_back}
-use Rattle.slave_holds.proofs.Along.{Lasts, along}
-use Rattle.slave_data.proofs.Ended.{ended_alive}
+use Rattle.slave_laws.specs.Talk.Desks.{answer_note, at}
+use Rattle.slave_laws.proofs.Talk.Sending.{sends_back}
+use Rattle.slave_laws.proofs.Model.Along.{Lasts, along}
+use Rattle.slave_laws.proofs.Data.Ended.{ended_alive}
 use Rattle.run_laws.specs.Laws.{parties, slave_setup_of}
 use Rattle.completeness_laws.proofs.Delivery.Happens.{TakesIt, Happens, Keeps, Takes, Ticks, Sleeps, happens}
 use Rattle.completeness_laws.proofs.Delivery.Still.{is_passed_through, Still, gone, turn_still, SameState, Enters, taken_goes}

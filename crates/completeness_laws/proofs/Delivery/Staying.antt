@@ -21,14 +21,14 @@ use Rattle.master_spec.specs.Jobs.{Job}
 use Rattle.master_spec.specs.Marks.{Mark, Turned, job_of, cause_of, verdict_of, verdict_by}
 use Rattle.master_spec.specs.Conversation.{reaction, done, marks_after, extended}
 use Rattle.master_spec.specs.Course.{CourseTalk, Course, course, mark_of_gram, marked, is_settled, is_quiet, failed_by, failed, with_next, decided, with_turns, decided_if, course_turned, still, after_gram, course_after_turn, step}
-use Rattle.asking_laws.specs.Legal.{GoesByRule}
-use Rattle.asking_laws.proofs.Legal.{going}
-use Rattle.index_laws.specs.Runs.{events_of_master, with_event, course_at}
-use Rattle.index_laws.proofs.Events.{acts}
-use Rattle.index_laws.proofs.Outputs.{gram_news}
-use Rattle.index_laws.proofs.Runs.{with_at, step_gram, step_tick, step_still}
-use Rattle.phase_laws.proofs.Someone.{no_cause}
-use Rattle.phase_laws.proofs.Tags.{counted}
+use Rattle.master_log_laws.specs.Asking.Legal.{GoesByRule}
+use Rattle.master_log_laws.proofs.Asking.Legal.{going}
+use Rattle.master_log_laws.specs.Index.Runs.{events_of_master, with_event, course_at}
+use Rattle.master_log_laws.proofs.Index.Events.{acts}
+use Rattle.master_log_laws.proofs.Index.Outputs.{gram_news}
+use Rattle.master_log_laws.proofs.Index.Runs.{with_at, step_gram, step_tick, step_still}
+use Rattle.master_log_laws.proofs.Phases.Someone.{no_cause}
+use Rattle.master_log_laws.proofs.Phases.Tags.{counted}
 use Rattle.completeness_laws.specs.Moments.{cause_in}
 use Rattle.completeness_laws.proofs.Delivery.Coming.{none_some, news_cause, next_same, quiet_same}
 

@@ -41,22 +41,22 @@ use Rattle.master_spec.specs.Conversation.{is_state}
 use Rattle.master_spec.specs.News.{Answers, news_in}
 use Rattle.master_spec.specs.Requests.{Asking, Decision, asks, is_turn_of, turns_before, is_state_request, is_acked_by, is_acked, acked}
 use Rattle.master_spec.specs.Marks.{Mark, Begun, Asked, Again, Answered, Hinted, Brought, Turned, Ended, acks_change, is_asked, before, turns_since, latest, job_of, cause_of}
-use Rattle.asking_laws.specs.Legal.{Rests, AreLegal}
-use Rattle.index_laws.specs.Runs.{course_at, IsRun}
-use Rattle.index_laws.specs.Index.{Placed, marks_of, askings_told}
-use Rattle.index_laws.specs.Follows.{talk_with}
-use Rattle.index_laws.specs.Dates.{bit, AreDated}
-use Rattle.index_laws.proofs.Dates.{before_later, before_now, count_more}
-use Rattle.phase_laws.proofs.Now.{now, past, open_latest, split}
-use Rattle.phase_laws.proofs.Mains.{Asks, by_list, by_one, job_asks}
-use Rattle.phase_laws.proofs.Stage.{Main, Question}
-use Rattle.phase_laws.proofs.Stages.{open_stage, stage}
-use Rattle.failure_laws.specs.Because.{BecauseOf, StuckBy}
-use Rattle.failure_laws.proofs.Because.{because}
-use Rattle.failure_laws.proofs.Turns.{newest, turns_to}
-use Rattle.failure_laws.proofs.Lasts.{is_acked_change, find_questions}
-use Rattle.failure_laws.proofs.Places.{AskedAt, FoundAck, asked_at, acked_decision, acks_in_phases, change_place, found_ack}
-use Rattle.model_laws.specs.Scenarios.{slave_numbered}
+use Rattle.master_log_laws.specs.Asking.Legal.{Rests, AreLegal}
+use Rattle.master_log_laws.specs.Index.Runs.{course_at, IsRun}
+use Rattle.master_log_laws.specs.Index.Index.{Placed, marks_of, askings_told}
+use Rattle.master_log_laws.specs.Index.Follows.{talk_with}
+use Rattle.master_log_laws.specs.Index.Dates.{bit, AreDated}
+use Rattle.master_log_laws.proofs.Index.Dates.{before_later, before_now, count_more}
+use Rattle.master_log_laws.proofs.Phases.Now.{now, past, open_latest, split}
+use Rattle.master_log_laws.proofs.Phases.Mains.{Asks, by_list, by_one, job_asks}
+use Rattle.master_log_laws.proofs.Phases.Stage.{Main, Question}
+use Rattle.master_log_laws.proofs.Phases.Stages.{open_stage, stage}
+use Rattle.master_log_laws.specs.Failures.Because.{BecauseOf, StuckBy}
+use Rattle.master_log_laws.proofs.Failures.Because.{because}
+use Rattle.master_log_laws.proofs.Failures.Turns.{newest, turns_to}
+use Rattle.master_log_laws.proofs.Failures.Lasts.{is_acked_change, find_questions}
+use Rattle.master_log_laws.proofs.Failures.Places.{AskedAt, FoundAck, asked_at, acked_decision, acks_in_phases, change_place, found_ack}
+use Rattle.lockstep_laws.specs.Models.Scenarios.{slave_numbered}
 use Rattle.slave_spec.specs.Transport as transport
 use Rattle.slave_spec.specs.Plants.{Plant}
 use Rattle.slave_spec.specs.Slaves.{machine}
@@ -65,10 +65,10 @@ use Rattle.slave_spec.specs.declared.words.SlaveSetup.{SlaveSetup}
 use Rattle.slave_spec.specs.declared.words.SlaveRequest as req
 use Rattle.slave_spec.specs.declared.words.Asked as ask
 use Rattle.slave_spec.specs.declared.words.Asked.TheVariants as asking
-use Rattle.slave_meets.specs.Desks.{answer_note}
-use Rattle.slave_laws.specs.Whole.{slaves_asked}
+use Rattle.slave_laws.specs.Talk.Desks.{answer_note}
+use Rattle.slave_laws.specs.Data.Whole.{slaves_asked}
 use Rattle.run_laws.specs.Laws.{parties, slave_setup_of, IsRunInRounds}
-use Rattle.headline_laws.proofs.Behaving.{are_slaves}
+use Rattle.run_laws.proofs.Headline.Behaving.{are_slaves}
 use Rattle.completeness_laws.specs.Undelivered.{StuckWereBusy}
 use Rattle.completeness_laws.proofs.Delivery.Coming.{Ending}
 use Rattle.completeness_laws.proofs.Delivery.Ended.{run_front, EndFacts, end_facts}

@@ -13,7 +13,7 @@ use Rattle.slave_desc.specs.declared.descriptions.SlaveDesc.{SlaveDesc}
 use Rattle.scenario.specs.declared.scenarios.Scenario.{Scenario}
 use Rattle.scenario.specs.Sound.{IsScenario}
 use Rattle.log_spec.specs.Log.{Parties, IsSlaveOf}
-use Rattle.row_collecting.proofs.Heard.{same_is}
+use Rattle.run_laws.proofs.Collecting.Heard.{same_is}
 use Rattle.rounds.specs.Rounds.{AllSent, IsGot, IsTurn, Gots, IsLook, EachEnd, places_of, has_report, IsLooks, IsTurns, IsRound, Rounds}
 use Rattle.master_spec.specs.declared.reports.Report.{Report}
 use Rattle.master_spec.specs.declared.setups.Setup.{Setup}
@@ -22,11 +22,11 @@ use Rattle.master_spec.specs.Course.{course}
 use Rattle.master_spec.specs.Requests.{is_turn_of}
 use Rattle.master_spec.specs.Rules.{master_rules}
 use Rattle.slave_spec.specs.Slaves.{slave_rules_from}
-use Rattle.index_laws.specs.Runs.{course_at}
-use Rattle.index_laws.proofs.Mine as mine
-use Rattle.model_laws.specs.Scenarios.{slave_numbered}
-use Rattle.model_laws.proofs.Scenarios.{has_parties}
-use Rattle.scenario_laws.proofs.Scenarios.{events_reverse}
+use Rattle.master_log_laws.specs.Index.Runs.{course_at}
+use Rattle.master_log_laws.proofs.Index.Mine as mine
+use Rattle.lockstep_laws.specs.Models.Scenarios.{slave_numbered}
+use Rattle.lockstep_laws.proofs.Models.Scenarios.{has_parties}
+use Rattle.master_log_laws.proofs.Scenarios.Scenarios.{events_reverse}
 use Rattle.run_laws.specs.Laws.{parties, rules_of_slaves, IsRunInRounds}
 use Rattle.completeness_laws.proofs.Delivery.Fronts.{silent_front}
 

@@ -12,7 +12,7 @@ use Rattle.pdu_layout.specs.Fields.FieldValue.{Number}
 use Rattle.log_spec.specs.Messages.{Note}
 use Rattle.log_spec.specs.Log.{Parties, IsSlaveOf, requests_sent, DecidedRequest}
 use Rattle.log_spec.specs.Moves.{decided_exchanges}
-use Rattle.course_spec.specs.Taken.{is_acknowledged}
+use Rattle.plan_laws.specs.Course.Taken.{is_acknowledged}
 use Rattle.master_spec.specs.declared.causes.Cause.TheVariants as causes
 use Rattle.master_spec.specs.declared.requests.Request.{Request}
 use Rattle.master_spec.specs.declared.requests.Answer.{Answer}
@@ -21,34 +21,34 @@ use Rattle.master_spec.specs.declared.setups.Slave.{Slave}
 use Rattle.master_spec.specs.declared.setups.Setup.{Setup}
 use Rattle.dcp_types.specs.declared.limits.Limits.{Limits}
 use Rattle.master_spec.specs.Setup.{setup_from, slave_of, jobs_of}
-use Rattle.model_laws.specs.Scenarios.{slave_numbered}
-use Rattle.asking_laws.specs.Legal.{AreLegal}
-use Rattle.index_laws.specs.Runs.{IsRun}
-use Rattle.index_laws.specs.Laws.{AreHeard}
+use Rattle.lockstep_laws.specs.Models.Scenarios.{slave_numbered}
+use Rattle.master_log_laws.specs.Asking.Legal.{AreLegal}
+use Rattle.master_log_laws.specs.Index.Runs.{IsRun}
+use Rattle.master_log_laws.specs.Index.Laws.{AreHeard}
 use Rattle.master_spec.specs.Jobs.{Job}
 use Rattle.master_spec.specs.News.{Answers, acks, nacks, state_acks, error_acks, log_acks, hints, news_brought, Nothing, news_by}
 use Rattle.master_spec.specs.Marks.{Mark, Begun, Asked, Again, Answered, Hinted, Brought, Turned, Ended, newest_number, open_request, cause_of}
 use Rattle.master_spec.specs.Requests.{Asking, Decision, asks, is_ack, is_acked}
-use Rattle.index_laws.specs.Index.{Placed, marks_of, askings_told, IsHeadRequest}
-use Rattle.index_laws.proofs.Outputs.{IsNews, gram_news}
-use Rattle.phase_laws.specs.Laws.{AreDecided, AreOneByOne}
-use Rattle.phase_laws.proofs.Numbered.{one_by_one}
-use Rattle.failure_laws.specs.Because.{BecauseOf}
-use Rattle.failure_laws.proofs.Because.{because}
-use Rattle.scenario_laws.proofs.Heard.{setups_heard}
-use Rattle.master_meets.specs.Laws.{note_of}
-use Rattle.master_meets.proofs.Asking.{are_asked}
-use Rattle.master_hears.specs.Laws.{IsAnswerAs, IsDecision, AreDecisions}
-use Rattle.master_hears.proofs.Decided.{are_told}
-use Rattle.index_laws.proofs.ByEntry.{entry_by_entry}
+use Rattle.master_log_laws.specs.Index.Index.{Placed, marks_of, askings_told, IsHeadRequest}
+use Rattle.master_log_laws.proofs.Index.Outputs.{IsNews, gram_news}
+use Rattle.master_log_laws.specs.Phases.Laws.{AreDecided, AreOneByOne}
+use Rattle.master_log_laws.proofs.Phases.Numbered.{one_by_one}
+use Rattle.master_log_laws.specs.Failures.Because.{BecauseOf}
+use Rattle.master_log_laws.proofs.Failures.Because.{because}
+use Rattle.master_log_laws.proofs.Scenarios.Heard.{setups_heard}
+use Rattle.master_laws.specs.Meets.Laws.{note_of}
+use Rattle.master_laws.proofs.Meets.Asking.{are_asked}
+use Rattle.master_laws.specs.Hears.Laws.{IsAnswerAs, IsDecision, AreDecisions}
+use Rattle.master_laws.proofs.Hears.Decided.{are_told}
+use Rattle.master_log_laws.proofs.Index.ByEntry.{entry_by_entry}
 use Rattle.lockstep_laws.proofs.Conversation.{earlier, drop_later}
 use Rattle.lockstep_laws.specs.Runs.{Behaves}
-use Rattle.slave_laws.specs.Whole.{slaves_asked}
+use Rattle.slave_laws.specs.Data.Whole.{slaves_asked}
 use Rattle.run_laws.specs.Laws.{parties, IsRunInRounds}
 use Rattle.run_laws.proofs.Rounded.{rounds_are_runs}
 use Rattle.run_laws.proofs.Runs.{party, are_parties}
-use Rattle.headline_laws.proofs.Behaving.{are_slaves}
-use Rattle.headline_laws.proofs.Moments.{so_far}
+use Rattle.run_laws.proofs.Headline.Behaving.{are_slaves}
+use Rattle.run_laws.proofs.Headline.Moments.{so_far}
 use Rattle.completeness_laws.specs.Unheard.{IsUnheard}
 use Rattle.completeness_laws.specs.Undelivered.{UnansweredWereUnheard}
 use Rattle.completeness_laws.proofs.Delivery.Coming.{EndsByTurn, Ending}

@@ -33,14 +33,14 @@ use Rattle.slave_spec.specs.declared.words.Session.{Session}
 use Rattle.slave_spec.specs.declared.words.Session.TheVariants.{Before, During, After}
 use Rattle.slave_spec.specs.declared.words.Fate.{Fate}
 use Rattle.slave_spec.specs.declared.words.Fate.TheVariants.{Dropped, Refused, Repeated, Taken}
-use Rattle.slave_meets.specs.Desks.{post, answer_note, served_by, served_after, Both, sent_next, got, ticked, at, accepts_asked, accepts_heard, Agree}
-use Rattle.index_laws.specs.Runs.{IsRun}
+use Rattle.slave_laws.specs.Talk.Desks.{post, answer_note, served_by, served_after, Both, sent_next, got, ticked, at, accepts_asked, accepts_heard, Agree}
+use Rattle.master_log_laws.specs.Index.Runs.{IsRun}
 use Rattle.master_spec.specs.Setup.{setup_from}
-use Rattle.model_laws.proofs.Scenarios.{has_parties}
+use Rattle.lockstep_laws.proofs.Models.Scenarios.{has_parties}
 use Rattle.pdu_layout.specs.Reading.{message_in}
-use Rattle.slave_laws.specs.Whole.{slaves_asked}
+use Rattle.slave_laws.specs.Data.Whole.{slaves_asked}
 use Rattle.run_laws.specs.Laws.{parties, slave_setup_of}
-use Rattle.headline_laws.proofs.Behaving.{are_slaves}
+use Rattle.run_laws.proofs.Headline.Behaving.{are_slaves}
 use Rattle.completeness_laws.specs.Unheard.{GetsRequest, NeverGets, IsAnsweredInVain}
 use Rattle.completeness_laws.proofs.Delivery.Ended.{run_front}
 use Rattle.completeness_laws.proofs.Delivery.Growing.{extends_length, extends_same, requests_grow, decided_grow}

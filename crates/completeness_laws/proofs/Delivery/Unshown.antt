@@ -12,9 +12,9 @@ use Rattle.dcp_ends.specs.Logs.{same_address}
 use Rattle.slave_desc.specs.declared.descriptions.SlaveDesc.{SlaveDesc}
 use Rattle.scenario.specs.declared.scenarios.Scenario.{Scenario}
 use Rattle.scenario.specs.Sound.{IsScenario}
-use Rattle.plan_spec.specs.declared.links.DataLink.{DataLink}
-use Rattle.plan_spec.specs.Links.{watch_link}
-use Rattle.plan_spec.specs.Setup.{address_at}
+use Rattle.master_spec.specs.declared.links.DataLink.{DataLink}
+use Rattle.master_spec.specs.Links.{watch_link}
+use Rattle.master_spec.specs.PlanSetup.{address_at}
 use Rattle.plan_laws.proofs.Planned.{slave_there}
 use Rattle.log_spec.specs.Messages.{Note}
 use Rattle.log_spec.specs.Log.{Parties, IsSlaveOf, same, values_sent, requests_sent}
@@ -26,9 +26,9 @@ use Rattle.lockstep_laws.specs.Runs.{Behaves}
 use Rattle.lockstep_laws.proofs.Barrier.{UnderWay}
 use Rattle.lockstep_laws.proofs.Conversation.{earlier, drop_later}
 use Rattle.lockstep_laws.proofs.Places.{ahead}
-use Rattle.model_laws.specs.Machines.{Machines, carried}
-use Rattle.model_laws.specs.Scenarios.{slave_numbered}
-use Rattle.model_laws.proofs.Scenarios.{has_parties}
+use Rattle.lockstep_laws.specs.Models.Machines.{Machines, carried}
+use Rattle.lockstep_laws.specs.Models.Scenarios.{slave_numbered}
+use Rattle.lockstep_laws.proofs.Models.Scenarios.{has_parties}
 use Rattle.pdu_layout.specs.Reading.{message_in}
 use Rattle.master_spec.specs.declared.causes.Cause.TheVariants as causes
 use Rattle.master_spec.specs.declared.requests.Request.TheVariants.{AskState}
@@ -42,40 +42,40 @@ use Rattle.master_spec.specs.Exchanged.{Brings}
 use Rattle.master_spec.specs.News.{news_of}
 use Rattle.master_spec.specs.Requests.{Asking, Decision, asks, are_outputs, brings_outputs, is_turn_of, turns_before}
 use Rattle.master_spec.specs.Marks.{Mark, Begun, Asked, Again, Answered, Hinted, Brought, Turned, Ended, is_begun, count, kept, latest, is_answer, turns_since, job_of, cause_of}
-use Rattle.asking_laws.specs.Legal.{Rests, AreLegal}
-use Rattle.index_laws.specs.Runs.{course_at, owed, where_it_is, IsRun}
-use Rattle.index_laws.specs.Index.{Placed, at, marks_of, askings_told, ReadBack, Owes}
-use Rattle.index_laws.specs.Follows.{mine}
-use Rattle.index_laws.specs.Dates.{clock, phase_before, IsBroughtAt}
-use Rattle.index_laws.specs.Laws.{AreHeard}
-use Rattle.index_laws.proofs.Dates.{before_now, entry_now, phase_later, phase_now}
-use Rattle.index_laws.proofs.Mine as mine'
-use Rattle.index_laws.proofs.Outputs.{IsNews, gram_news}
-use Rattle.phase_laws.proofs.Now.{now, past, split as now_and_past}
-use Rattle.phase_laws.proofs.Stage.{Question}
-use Rattle.phase_laws.proofs.Stages.{stage}
-use Rattle.phase_laws.proofs.Tags.{counted, job_phase, HasPassed}
-use Rattle.row_laws.specs.Laws.{progress_after, progress}
-use Rattle.row_laws.proofs.Views.{progress_told}
-use Rattle.barrier_laws.specs.Laws.{events_before}
-use Rattle.barrier_laws.proofs.Passing.{passed_rests}
-use Rattle.barrier_laws.proofs.Scripts.{events_of, before_next, in_place}
-use Rattle.failure_laws.specs.Because.{BecauseOf}
-use Rattle.failure_laws.proofs.Because.{because}
-use Rattle.failure_laws.proofs.Missing.{answer_place, AwaitsOutputs, outputs_latest, LacksOutputs, lacks_outputs, target_reached}
-use Rattle.failure_laws.proofs.Silences.{answers_in_phases}
-use Rattle.failure_laws.proofs.Turns.{turns_rise, turns_to}
-use Rattle.row_collecting.proofs.Heard.{same_is as one_address}
-use Rattle.scenario_laws.proofs.Heard.{setups_heard}
-use Rattle.slave_wiring.specs.Payloads.{payload}
-use Rattle.slave_course.specs.Wired.{planned_changes}
-use Rattle.slave_links.proofs.Found.{watch_found}
-use Rattle.slave_data.specs.Made.{machines}
-use Rattle.slave_data.proofs.Held.{of_scenario}
-use Rattle.slave_laws.specs.Whole.{slaves_asked}
+use Rattle.master_log_laws.specs.Asking.Legal.{Rests, AreLegal}
+use Rattle.master_log_laws.specs.Index.Runs.{course_at, owed, where_it_is, IsRun}
+use Rattle.master_log_laws.specs.Index.Index.{Placed, at, marks_of, askings_told, ReadBack, Owes}
+use Rattle.master_log_laws.specs.Index.Follows.{mine}
+use Rattle.master_log_laws.specs.Index.Dates.{clock, phase_before, IsBroughtAt}
+use Rattle.master_log_laws.specs.Index.Laws.{AreHeard}
+use Rattle.master_log_laws.proofs.Index.Dates.{before_now, entry_now, phase_later, phase_now}
+use Rattle.master_log_laws.proofs.Index.Mine as mine'
+use Rattle.master_log_laws.proofs.Index.Outputs.{IsNews, gram_news}
+use Rattle.master_log_laws.proofs.Phases.Now.{now, past, split as now_and_past}
+use Rattle.master_log_laws.proofs.Phases.Stage.{Question}
+use Rattle.master_log_laws.proofs.Phases.Stages.{stage}
+use Rattle.master_log_laws.proofs.Phases.Tags.{counted, job_phase, HasPassed}
+use Rattle.master_laws.specs.Rows.Laws.{progress_after, progress}
+use Rattle.master_laws.proofs.Rows.Views.{progress_told}
+use Rattle.master_laws.specs.Barrier.Laws.{events_before}
+use Rattle.master_laws.proofs.Barrier.Passing.{passed_rests}
+use Rattle.master_laws.proofs.Barrier.Scripts.{events_of, before_next, in_place}
+use Rattle.master_log_laws.specs.Failures.Because.{BecauseOf}
+use Rattle.master_log_laws.proofs.Failures.Because.{because}
+use Rattle.master_log_laws.proofs.Failures.Missing.{answer_place, AwaitsOutputs, outputs_latest, LacksOutputs, lacks_outputs, target_reached}
+use Rattle.master_log_laws.proofs.Failures.Silences.{answers_in_phases}
+use Rattle.master_log_laws.proofs.Failures.Turns.{turns_rise, turns_to}
+use Rattle.run_laws.proofs.Collecting.Heard.{same_is as one_address}
+use Rattle.master_log_laws.proofs.Scenarios.Heard.{setups_heard}
+use Rattle.slave_spec.specs.Payloads.{payload}
+use Rattle.slave_laws.specs.Wiring.Wired.{planned_changes}
+use Rattle.slave_laws.proofs.Wiring.Found.{watch_found}
+use Rattle.slave_laws.specs.Data.Made.{machines}
+use Rattle.slave_laws.proofs.Data.Held.{of_scenario}
+use Rattle.slave_laws.specs.Data.Whole.{slaves_asked}
 use Rattle.run_laws.specs.Laws.{parties, IsRunInRounds}
 use Rattle.run_laws.proofs.Runs.{party, are_parties}
-use Rattle.headline_laws.proofs.Behaving.{are_slaves}
+use Rattle.run_laws.proofs.Headline.Behaving.{are_slaves}
 use Rattle.completeness_laws.specs.Moments.{cause_in, EndsHere}
 use Rattle.completeness_laws.specs.Unheard.{NeverComes}
 use Rattle.completeness_laws.specs.Unshown.{IsUnshown, AreOutputsUnshown}

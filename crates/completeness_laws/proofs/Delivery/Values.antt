@@ -14,7 +14,7 @@ use Rattle.slave_desc.specs.declared.descriptions.SlaveDesc.{SlaveDesc}
 use Rattle.scenario.specs.declared.scenarios.Scenario.{Scenario}
 use Rattle.scenario.specs.Sound.{IsScenario}
 use Rattle.lockstep.proofs.Existence.{reference_exists}
-use Rattle.plan_spec.specs.declared.links.DataLink.{DataLink}
+use Rattle.master_spec.specs.declared.links.DataLink.{DataLink}
 use Rattle.log_spec.specs.Messages.{Note, Role, Request, Answer, Value, Else, Class, Asking, Answering, Carrying, Noting, class_of, role_by, role_read}
 use Rattle.log_spec.specs.Channel.{repeats_number, by_ordinal}
 use Rattle.log_spec.specs.Log.{Parties, IsSlaveOf, same, role_heard, Values, in_channel, sent_in, sends_in, values_sent}
@@ -25,22 +25,22 @@ use Rattle.lockstep_laws.specs.Cast.{ConversingSlaves}
 use Rattle.lockstep_laws.specs.Runs.{Behaves}
 use Rattle.lockstep_laws.proofs.Conversation.{earlier}
 use Rattle.lockstep_laws.proofs.Asking.{asked_in_order}
-use Rattle.model_laws.specs.Machines.{Machines, carried}
-use Rattle.model_laws.proofs.Moments.{data_carry}
-use Rattle.model_laws.specs.Scenarios.{slave_numbered}
+use Rattle.lockstep_laws.specs.Models.Machines.{Machines, carried}
+use Rattle.lockstep_laws.proofs.Models.Moments.{data_carry}
+use Rattle.lockstep_laws.specs.Models.Scenarios.{slave_numbered}
 use Rattle.master_spec.specs.News.{Brings, news_of, news_in}
-use Rattle.slave_wiring.specs.Payloads.{data_message}
+use Rattle.slave_spec.specs.Payloads.{data_message}
 use Rattle.slave_spec.specs.Heard as spec
-use Rattle.slave_meets.specs.Desks.{Agree}
-use Rattle.slave_data.specs.Made.{machines, setup_at}
-use Rattle.slave_data.proofs.Keeping.{data_heard}
-use Rattle.slave_data.proofs.Held.{reads}
-use Rattle.slave_sends.proofs.Sending.{sends_back}
-use Rattle.slave_laws.specs.Whole.{slaves_asked}
-use Rattle.slave_laws.proofs.Stepping.{asked_may}
-use Rattle.slave_reads.proofs.Rows.{slaves_are}
+use Rattle.slave_laws.specs.Talk.Desks.{Agree}
+use Rattle.slave_laws.specs.Data.Made.{machines, setup_at}
+use Rattle.slave_laws.proofs.Data.Keeping.{data_heard}
+use Rattle.slave_laws.proofs.Data.Held.{reads}
+use Rattle.slave_laws.proofs.Talk.Sending.{sends_back}
+use Rattle.slave_laws.specs.Data.Whole.{slaves_asked}
+use Rattle.slave_laws.proofs.Data.Stepping.{asked_may}
+use Rattle.slave_laws.proofs.Wiring.Rows.{slaves_are}
 use Rattle.run_laws.specs.Laws.{parties}
-use Rattle.headline_laws.proofs.Behaving.{are_slaves}
+use Rattle.run_laws.proofs.Headline.Behaving.{are_slaves}
 use Rattle.completeness_laws.proofs.Delivery.Addresses.{IsLinkAt}
 use Rattle.completeness_laws.proofs.Delivery.Destined.{first_goes}
 

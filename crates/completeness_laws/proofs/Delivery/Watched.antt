@@ -12,22 +12,22 @@ use Rattle.pdu_layout.specs.declared.messages.Cfg.TheVariants as cfg
 use Rattle.slave_desc.specs.declared.ports.Port.{Port}
 use Rattle.slave_desc.specs.declared.descriptions.SlaveDesc.{SlaveDesc}
 use Rattle.scenario.specs.declared.scenarios.Scenario.{Scenario}
-use Rattle.plan_spec.specs.declared.links.DataLink.{DataLink}
-use Rattle.plan_spec.specs.declared.pairs.Pair.{Pair}
-use Rattle.plan_spec.specs.Links.{positions, wire_links}
-use Rattle.plan_spec.specs.Setup.{numbered, net_info, input_at, output_at, told_interval, incoming, outgoing}
+use Rattle.master_spec.specs.declared.links.DataLink.{DataLink}
+use Rattle.master_spec.specs.declared.pairs.Pair.{Pair}
+use Rattle.master_spec.specs.Links.{positions, wire_links}
+use Rattle.master_spec.specs.PlanSetup.{numbered, net_info, input_at, output_at, told_interval, incoming, outgoing}
 use Rattle.plan_laws.specs.Taking.{IsScenarioSlave}
 use Rattle.plan_laws.proofs.Lists.{Pairwise, each_weaker, each_append, each_filter, pairwise_from_all}
 use Rattle.plan_laws.proofs.Links.{IsWireLink, links_wired, links_to, links_of}
 use Rattle.plan_laws.proofs.Planned.{slave_there}
 use Rattle.master_spec.specs.Course.{payload_size}
-use Rattle.slave_sends.proofs.Bytes.{digits_length}
-use Rattle.slave_wiring.specs.Changes.{Change, Set, output, entries}
-use Rattle.slave_wiring.specs.Refusals.{port_with}
-use Rattle.slave_wiring.specs.Payloads.{port_type, bytes_for, payload}
-use Rattle.slave_course.specs.Wired.{changes_with, changes_after, planned_changes}
-use Rattle.slave_links.proofs.Parts.{after_append, each_numbered}
-use Rattle.slave_links.proofs.Planned.{first, planned_is, IsOf, IsSilent, told_silent, silent_of, outgoing_of}
+use Rattle.slave_laws.proofs.Talk.Bytes.{digits_length}
+use Rattle.slave_spec.specs.Changes.{Change, Set, output, entries}
+use Rattle.slave_spec.specs.Refusals.{port_with}
+use Rattle.slave_spec.specs.Payloads.{port_type, bytes_for, payload}
+use Rattle.slave_laws.specs.Wiring.Wired.{changes_with, changes_after, planned_changes}
+use Rattle.slave_laws.proofs.Wiring.Parts.{after_append, each_numbered}
+use Rattle.slave_laws.proofs.Wiring.Planned.{first, planned_is, IsOf, IsSilent, told_silent, silent_of, outgoing_of}
 
 -- ---- the entries of the data id under which a slave shows its outputs
 -- parts of another id make none

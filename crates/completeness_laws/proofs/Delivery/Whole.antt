@@ -19,9 +19,9 @@ use Rattle.rounds.proofs.Logs.{events_at-append, own_at-append}
 use Rattle.master_spec.specs.Rules.{master_rules}
 use Rattle.slave_spec.specs.Slaves.{machine, slave_rules_from}
 use Rattle.lockstep_laws.specs.Slaves.{SlaveMay, SlaveRun}
-use Rattle.slave_meets.specs.Desks.{desk_at}
-use Rattle.model_laws.specs.Scenarios.{slave_numbered}
-use Rattle.model_laws.proofs.Scenarios.{has_parties}
+use Rattle.slave_laws.specs.Talk.Desks.{desk_at}
+use Rattle.lockstep_laws.specs.Models.Scenarios.{slave_numbered}
+use Rattle.lockstep_laws.proofs.Models.Scenarios.{has_parties}
 use Rattle.run_laws.specs.Laws.{parties, slave_setup_of, BeginsWithEvent, RestsWhenDone, rules_of_slaves, IsRunInRounds}
 use Rattle.run_laws.proofs.Followed.{slave_runs}
 use Rattle.run_laws.proofs.Rounded.{whole}

@@ -14,31 +14,31 @@ use Rattle.scenario.specs.declared.scenarios.Scenario.{Scenario}
 use Rattle.scenario.specs.declared.scenarios.Wire.{Wire}
 use Rattle.scenario.specs.Lookups.{slave_at}
 use Rattle.scenario.specs.Sound.{IsScenario, IsWire}
-use Rattle.plan_spec.specs.declared.links.DataLink.{DataLink}
-use Rattle.plan_spec.specs.declared.pairs.Pair.{Pair}
-use Rattle.plan_spec.specs.Links.{pairs_from, is_wire, positions, wire_links}
-use Rattle.plan_spec.specs.Setup.{address_at, setup_list}
+use Rattle.master_spec.specs.declared.links.DataLink.{DataLink}
+use Rattle.master_spec.specs.declared.pairs.Pair.{Pair}
+use Rattle.master_spec.specs.Links.{pairs_from, is_wire, positions, wire_links}
+use Rattle.master_spec.specs.PlanSetup.{address_at, setup_list}
 use Rattle.plan_laws.specs.Taking.{IsScenarioSlave, plant_after_all}
 use Rattle.plan_laws.proofs.Lists.{each_weaker, each_both, each_filter, each_passes, each_from_all}
 use Rattle.plan_laws.proofs.Links.{IsWireLink, links_wired, links_to, to_here}
 use Rattle.plan_laws.proofs.Planned.{slave_there}
 use Rattle.plan_laws.proofs.Taken.{setup_completes}
 use Rattle.master_spec.specs.Course.{payload_size}
-use Rattle.slave_wiring.specs.Changes.{Change, input, output, entries, has_id, ids, source, target, time_given, complete}
-use Rattle.slave_wiring.specs.Refusals.{port_with}
-use Rattle.slave_wiring.specs.Payloads.{port_type, input_types, is_address, payload}
+use Rattle.slave_spec.specs.Changes.{Change, input, output, entries, has_id, ids, source, target, time_given, complete}
+use Rattle.slave_spec.specs.Refusals.{port_with}
+use Rattle.slave_spec.specs.Payloads.{port_type, input_types, is_address, payload}
 use Rattle.slave_spec.specs.declared.words.SlaveSetup.{SlaveSetup}
 use Rattle.slave_spec.specs.declared.words.Asked.TheVariants.{Setting}
 use Rattle.slave_spec.specs.Plants.{Plant, start_plant}
 use Rattle.slave_spec.specs.Requests.{accepted}
-use Rattle.slave_holds.proofs.Inputs.{among}
-use Rattle.slave_course.specs.Wired.{changes_with, changes_after, planned_changes, changes_restarted}
-use Rattle.slave_links.specs.Links.{data_link_of}
-use Rattle.slave_links.proofs.Found.{wires_found}
-use Rattle.slave_laws.proofs.Feeding.{planned_known}
-use Rattle.wired_inputs.proofs.Lists.{each_swap, unfiltered}
-use Rattle.wired_inputs.proofs.Ports.{ports_into, ports_out, references, IsJoined, joined, same_types}
-use Rattle.wired_inputs.proofs.Told.{input_entries, output_entries}
+use Rattle.slave_laws.proofs.Model.Inputs.{among}
+use Rattle.slave_laws.specs.Wiring.Wired.{changes_with, changes_after, planned_changes, changes_restarted}
+use Rattle.slave_laws.specs.Wiring.Links.{data_link_of}
+use Rattle.slave_laws.proofs.Wiring.Found.{wires_found}
+use Rattle.slave_laws.proofs.Data.Feeding.{planned_known}
+use Rattle.slave_laws.proofs.Wiring.InputLists.{each_swap, unfiltered}
+use Rattle.slave_laws.proofs.Wiring.Ports.{ports_into, ports_out, references, IsJoined, joined, same_types}
+use Rattle.slave_laws.proofs.Wiring.Told.{input_entries, output_entries}
 use Rattle.completeness_laws.proofs.Delivery.Addresses.{right_source, planned_right}
 use Rattle.completeness_laws.proofs.Delivery.Watched.{bytes_length}
 

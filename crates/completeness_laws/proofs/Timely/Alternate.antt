@@ -19,8 +19,8 @@ use Rattle.rounds.specs.Rounds.{AllSent, IsGot, IsTurn, Gots, IsLook, EachEnd, p
 use Rattle.master_spec.specs.Rules.{master_rules}
 use Rattle.master_spec.specs.Requests.{is_turn_of}
 use Rattle.slave_spec.specs.Slaves.{slave_rules_from}
-use Rattle.model_laws.specs.Scenarios.{slave_numbered}
-use Rattle.model_laws.proofs.Scenarios.{has_parties}
+use Rattle.lockstep_laws.specs.Models.Scenarios.{slave_numbered}
+use Rattle.lockstep_laws.proofs.Models.Scenarios.{has_parties}
 use Rattle.run_laws.specs.Laws.{parties, rules_of_slaves, IsRunInRounds}
 
 pub one_address : (a b : Address) → same_address a b ≡ true → a ≡ b

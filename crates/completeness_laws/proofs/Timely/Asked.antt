@@ -15,21 +15,21 @@ use Rattle.master_spec.specs.Setup.{jobs_of}
 use Rattle.master_spec.specs.Jobs.{Job}
 use Rattle.master_spec.specs.Marks.{Mark, Begun, Asked, Again, Answered, Hinted, Brought, Turned, Ended, asked, is_answer, latest, open_request, turns_since}
 use Rattle.master_spec.specs.Requests.{Asking, Decision, asks, decided_by, turns_before}
-use Rattle.asking_laws.specs.Legal.{AreLegal, Does, GoesByRule, IsLegal}
-use Rattle.asking_laws.proofs.Legal.{going}
-use Rattle.index_laws.specs.Runs.{course_at, events_of_master, IsRun}
-use Rattle.index_laws.specs.Index.{Placed, marks_of, first_at, again_at, decided_at, askings_told, askings_told_by, ReadBack}
-use Rattle.index_laws.specs.Follows.{talk_with}
-use Rattle.index_laws.specs.Late.{AreLate}
-use Rattle.index_laws.specs.Dates.{clock, AreDated, IsDated}
-use Rattle.index_laws.specs.Laws.{AreHeard}
-use Rattle.index_laws.proofs.Events.{repeats_open}
-use Rattle.index_laws.proofs.Laws.{listens}
-use Rattle.index_laws.proofs.Reported.{reported}
-use Rattle.index_laws.proofs.Runs.{all_at, with_at}
-use Rattle.phase_laws.proofs.Now.{now, past, Linked, linked, open_latest, split}
-use Rattle.failure_laws.proofs.Turns.{newest, newest_if, turns_to}
-use Rattle.failure_laws.proofs.Silences.{answers_in_phases}
+use Rattle.master_log_laws.specs.Asking.Legal.{AreLegal, Does, GoesByRule, IsLegal}
+use Rattle.master_log_laws.proofs.Asking.Legal.{going}
+use Rattle.master_log_laws.specs.Index.Runs.{course_at, events_of_master, IsRun}
+use Rattle.master_log_laws.specs.Index.Index.{Placed, marks_of, first_at, again_at, decided_at, askings_told, askings_told_by, ReadBack}
+use Rattle.master_log_laws.specs.Index.Follows.{talk_with}
+use Rattle.master_log_laws.specs.Index.Late.{AreLate}
+use Rattle.master_log_laws.specs.Index.Dates.{clock, AreDated, IsDated}
+use Rattle.master_log_laws.specs.Index.Laws.{AreHeard}
+use Rattle.master_log_laws.proofs.Index.Events.{repeats_open}
+use Rattle.master_log_laws.proofs.Index.Laws.{listens}
+use Rattle.master_log_laws.proofs.Index.Reported.{reported}
+use Rattle.master_log_laws.proofs.Index.Runs.{all_at, with_at}
+use Rattle.master_log_laws.proofs.Phases.Now.{now, past, Linked, linked, open_latest, split}
+use Rattle.master_log_laws.proofs.Failures.Turns.{newest, newest_if, turns_to}
+use Rattle.master_log_laws.proofs.Failures.Silences.{answers_in_phases}
 use Rattle.completeness_laws.specs.Timely.{Timely}
 use Rattle.completeness_laws.proofs.Timely.Settled.{Gaps, wait}
 use Rattle.completeness_laws.proofs.Timely.Waiting.{fit}

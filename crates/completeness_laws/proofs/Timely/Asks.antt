@@ -26,15 +26,15 @@ use Rattle.master_spec.specs.declared.causes.Cause.TheVariants as causes
 use Rattle.master_spec.specs.Conversation.{awaited, awaited_by, awaited_after, is_error, is_late, is_state, on_answer, on_state, unexpected}
 use Rattle.master_spec.specs.Requests.{Asking, Decision, acked, is_ack, is_acked, is_acked_by, is_configuration, is_state_question}
 use Rattle.master_spec.specs.Shown.{names_target}
-use Rattle.asking_laws.specs.Legal.{AreLegal, Rests}
-use Rattle.index_laws.specs.Index.{Placed, at, marks_of}
-use Rattle.phase_laws.proofs.Now.{now}
-use Rattle.phase_laws.proofs.Mains.{is_main_request, asked_main, change_slot, list_slot, slot_below, length_map, mains_by_list}
-use Rattle.phase_laws.proofs.Counts.{conf_code, counts, is_as, names_it, configured_now, reached_now}
-use Rattle.phase_laws.proofs.Inverse.{list_asks, nack_asks}
-use Rattle.phase_laws.proofs.Stage.{Main, Question, Stage, idling, main_open, question_open, trying, mains_done, state_told}
-use Rattle.phase_laws.proofs.Stages.{stage}
-use Rattle.phase_laws.proofs.Tags.{mains_name, passed_reached, tried_not_passed}
+use Rattle.master_log_laws.specs.Asking.Legal.{AreLegal, Rests}
+use Rattle.master_log_laws.specs.Index.Index.{Placed, at, marks_of}
+use Rattle.master_log_laws.proofs.Phases.Now.{now}
+use Rattle.master_log_laws.proofs.Phases.Mains.{is_main_request, asked_main, change_slot, list_slot, slot_below, length_map, mains_by_list}
+use Rattle.master_log_laws.proofs.Phases.Counts.{conf_code, counts, is_as, names_it, configured_now, reached_now}
+use Rattle.master_log_laws.proofs.Phases.Inverse.{list_asks, nack_asks}
+use Rattle.master_log_laws.proofs.Phases.Stage.{Main, Question, Stage, idling, main_open, question_open, trying, mains_done, state_told}
+use Rattle.master_log_laws.proofs.Phases.Stages.{stage}
+use Rattle.master_log_laws.proofs.Phases.Tags.{mains_name, passed_reached, tried_not_passed}
 use Rattle.completeness_laws.proofs.Timely.Talks.{reached_is, named_in}
 
 clash : true ≡ false → ⊥

@@ -20,19 +20,19 @@ use Rattle.master_spec.specs.Setup.{setup_from}
 use Rattle.master_spec.specs.Exchanged.{IsIn}
 use Rattle.master_spec.specs.Course.{Course}
 use Rattle.master_spec.specs.Shown.{Shown, First}
-use Rattle.index_laws.specs.Runs.{course_at, events_of_master, IsRun}
-use Rattle.index_laws.proofs.ByEntry.{entry_by_entry}
-use Rattle.index_laws.proofs.Late.{all_report}
-use Rattle.exchange_laws.proofs.Finished.{finished_is_acknowledged}
-use Rattle.failure_laws.proofs.First.{ends, failed_is_first}
-use Rattle.scenario_laws.proofs.Heard.{setups_heard}
-use Rattle.model_laws.specs.Scenarios.{slave_numbered}
-use Rattle.model_laws.proofs.Scenarios.{has_parties}
+use Rattle.master_log_laws.specs.Index.Runs.{course_at, events_of_master, IsRun}
+use Rattle.master_log_laws.proofs.Index.ByEntry.{entry_by_entry}
+use Rattle.master_log_laws.proofs.Index.Late.{all_report}
+use Rattle.master_log_laws.proofs.Exchanges.Finished.{finished_is_acknowledged}
+use Rattle.master_log_laws.proofs.Failures.First.{ends, failed_is_first}
+use Rattle.master_log_laws.proofs.Scenarios.Heard.{setups_heard}
+use Rattle.lockstep_laws.specs.Models.Scenarios.{slave_numbered}
+use Rattle.lockstep_laws.proofs.Models.Scenarios.{has_parties}
 use Rattle.run_laws.specs.Laws.{parties, IsRunOf, IsRunInRounds}
 use Rattle.run_laws.proofs.Rounded.{rounds_are_runs}
 use Rattle.run_laws.proofs.Runs.{are_parties}
-use Rattle.row_collecting.specs.Collecting.{is_finished}
-use Rattle.headline_laws.proofs.Rows.{front_always, whole_always}
+use Rattle.run_laws.specs.Collecting.Collecting.{is_finished}
+use Rattle.run_laws.proofs.Headline.Rows.{front_always, whole_always}
 use Rattle.completeness_laws.specs.Timely.{longest_wait, LeavesTime, Roomy, Timely}
 use Rattle.completeness_laws.specs.Reasons.{HeartbeatWasMissed, IsFaultOf}
 use Rattle.completeness_laws.specs.StepPhases.{phase_of_step}

@@ -11,10 +11,10 @@ use Rattle.master_spec.specs.Tasks.{task_row}
 use Rattle.master_spec.specs.Course.{row_in_job}
 use Rattle.master_spec.specs.Jobs.{Job, run_jobs, between_jobs, jobs_from, jobs}
 use Rattle.master_spec.specs.Setup.{jobs_of}
-use Rattle.index_laws.specs.Runs.{course_at, events_of_master}
-use Rattle.finish_laws.proofs.Scripts.{alone, some_steps, steps_long, steps_split}
-use Rattle.row_counts.proofs.Places.{row_here, places, job_places, joined, due_at, job_due, onward, AreCounted}
-use Rattle.row_counts.proofs.All.{Stands, fit}
+use Rattle.master_log_laws.specs.Index.Runs.{course_at, events_of_master}
+use Rattle.master_log_laws.proofs.Finish.Scripts.{alone, some_steps, steps_long, steps_split}
+use Rattle.master_laws.proofs.RowCounts.Places.{row_here, places, job_places, joined, due_at, job_due, onward, AreCounted}
+use Rattle.master_laws.proofs.RowCounts.All.{Stands, fit}
 use Rattle.completeness_laws.specs.StepPhases.{phase_of_step}
 use Rattle.completeness_laws.specs.Completes.{RowsBeforeFault}
 

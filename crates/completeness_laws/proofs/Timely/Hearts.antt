@@ -14,24 +14,24 @@ use Rattle.master_spec.specs.declared.setups.Slave.{Slave}
 use Rattle.master_spec.specs.declared.setups.Setup.{Setup}
 use Rattle.master_spec.specs.Setup.{setup_from, slave_of}
 use Rattle.master_spec.specs.Requests.{Asking, Decision, asks, is_turn_of, turns_before}
-use Rattle.index_laws.specs.Runs.{IsRun}
-use Rattle.index_laws.specs.Laws.{AreHeard}
-use Rattle.index_laws.proofs.ByEntry.{entry_by_entry}
-use Rattle.index_laws.proofs.Dates.{before_now}
-use Rattle.failure_laws.proofs.Turns.{turns_rise}
-use Rattle.phase_laws.specs.Laws.{AreDecided, AreOneByOne}
-use Rattle.phase_laws.proofs.Numbered.{one_by_one}
-use Rattle.scenario_laws.proofs.Heard.{setups_heard}
-use Rattle.master_meets.specs.Laws.{note_of}
-use Rattle.master_meets.proofs.Asking.{are_asked}
-use Rattle.master_hears.specs.Laws.{AreDecisions, IsDecision}
-use Rattle.master_hears.proofs.Decided.{are_told}
-use Rattle.model_laws.specs.Scenarios.{slave_numbered}
-use Rattle.slave_laws.specs.Whole.{slaves_asked}
+use Rattle.master_log_laws.specs.Index.Runs.{IsRun}
+use Rattle.master_log_laws.specs.Index.Laws.{AreHeard}
+use Rattle.master_log_laws.proofs.Index.ByEntry.{entry_by_entry}
+use Rattle.master_log_laws.proofs.Index.Dates.{before_now}
+use Rattle.master_log_laws.proofs.Failures.Turns.{turns_rise}
+use Rattle.master_log_laws.specs.Phases.Laws.{AreDecided, AreOneByOne}
+use Rattle.master_log_laws.proofs.Phases.Numbered.{one_by_one}
+use Rattle.master_log_laws.proofs.Scenarios.Heard.{setups_heard}
+use Rattle.master_laws.specs.Meets.Laws.{note_of}
+use Rattle.master_laws.proofs.Meets.Asking.{are_asked}
+use Rattle.master_laws.specs.Hears.Laws.{AreDecisions, IsDecision}
+use Rattle.master_laws.proofs.Hears.Decided.{are_told}
+use Rattle.lockstep_laws.specs.Models.Scenarios.{slave_numbered}
+use Rattle.slave_laws.specs.Data.Whole.{slaves_asked}
 use Rattle.run_laws.specs.Laws.{parties, IsRunInRounds, IsRunOf}
 use Rattle.run_laws.proofs.Rounded.{rounds_are_runs}
 use Rattle.run_laws.proofs.Runs.{party, are_parties}
-use Rattle.headline_laws.proofs.Moments.{taken_always, served_always}
+use Rattle.run_laws.proofs.Headline.Moments.{taken_always, served_always}
 use Rattle.completeness_laws.specs.Timely.{longest_wait, Timely}
 use Rattle.completeness_laws.specs.Completes.{HeartsAreKept}
 use Rattle.completeness_laws.proofs.Timely.Prompt.{stays, turns_later}

@@ -13,7 +13,7 @@ use Rattle.master_spec.specs.Setup.{setup_from}
 use Rattle.master_spec.specs.News.{news_of, Brings}
 use Rattle.master_spec.specs.Requests.{is_turn_of, turns_before, turns_between}
 use Rattle.master_spec.specs.Exchanged.{entry_at}
-use Rattle.index_laws.proofs.Dates.{before_now, entry_later, entry_now}
+use Rattle.master_log_laws.proofs.Index.Dates.{before_now, entry_later, entry_now}
 use Rattle.run_laws.specs.Laws.{parties}
 use Rattle.completeness_laws.specs.Unheard.{NeverComes}
 use Rattle.completeness_laws.specs.Unshown.{AreOutputsUnshown}

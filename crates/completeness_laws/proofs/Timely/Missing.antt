@@ -9,8 +9,8 @@ use Rattle.master_spec.specs.declared.setups.Setup.{Setup}
 use Rattle.master_spec.specs.Setup.{jobs_of}
 use Rattle.master_spec.specs.Requests.{Asking, asks, is_step, of_phase, turns_before}
 use Rattle.master_spec.specs.Shown.{Shown, IsMissing}
-use Rattle.index_laws.specs.Runs.{course_at}
-use Rattle.failure_laws.proofs.Turns.{turns_rise}
+use Rattle.master_log_laws.specs.Index.Runs.{course_at}
+use Rattle.master_log_laws.proofs.Failures.Turns.{turns_rise}
 use Rattle.completeness_laws.specs.Timely.{Timely, ComesInTime}
 use Rattle.completeness_laws.specs.Reasons.{InputsWereSent, RetriesWait}
 use Rattle.completeness_laws.proofs.Timely.Reasons.{DataWasLate}

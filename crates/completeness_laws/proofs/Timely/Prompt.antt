@@ -18,18 +18,18 @@ use Rattle.master_spec.specs.News.{News, Answers, Hints, Brings, Nothing, news_o
 use Rattle.master_spec.specs.Marks.{Mark, Begun, Asked, Again, Answered, Hinted, Brought, Turned, Ended, is_asked, newest_number, open_request, turns_since}
 use Rattle.master_spec.specs.Requests.{Asking, Decision, asking_in, asks, asks_after, decided_by, is_turn_of, turns_before, with_asking, with_news}
 use Rattle.master_spec.specs.Course.{CourseTalk, course}
-use Rattle.asking_laws.specs.Closed.{AllTalks}
-use Rattle.asking_laws.specs.Legal.{AreLegal, GoesByRule}
-use Rattle.asking_laws.proofs.Legal.{going}
-use Rattle.index_laws.specs.Runs.{course_at, events_of_master, owed, with_event, IsRun}
-use Rattle.index_laws.specs.Index.{Placed, marks_of, again_at, decided_at, askings_told, askings_told_by, IsAgain, IsAsked, IsHeadOf, IsHeadRequest, Owes, ReadBack}
-use Rattle.index_laws.specs.Follows.{mine, talk_with, FollowsCourse}
-use Rattle.index_laws.specs.Dates.{clock, AreDated}
-use Rattle.index_laws.specs.Laws.{AreHeard}
-use Rattle.index_laws.proofs.Laws.{listens}
-use Rattle.index_laws.proofs.Runs.{followed, slaves_at, talks_of, with_at}
-use Rattle.phase_laws.proofs.Numbered.{legal_below}
-use Rattle.failure_laws.proofs.Turns.{InPhases, exchange_begun, newest, newest_if, turns_rise, turns_to}
+use Rattle.master_log_laws.specs.Asking.Closed.{AllTalks}
+use Rattle.master_log_laws.specs.Asking.Legal.{AreLegal, GoesByRule}
+use Rattle.master_log_laws.proofs.Asking.Legal.{going}
+use Rattle.master_log_laws.specs.Index.Runs.{course_at, events_of_master, owed, with_event, IsRun}
+use Rattle.master_log_laws.specs.Index.Index.{Placed, marks_of, again_at, decided_at, askings_told, askings_told_by, IsAgain, IsAsked, IsHeadOf, IsHeadRequest, Owes, ReadBack}
+use Rattle.master_log_laws.specs.Index.Follows.{mine, talk_with, FollowsCourse}
+use Rattle.master_log_laws.specs.Index.Dates.{clock, AreDated}
+use Rattle.master_log_laws.specs.Index.Laws.{AreHeard}
+use Rattle.master_log_laws.proofs.Index.Laws.{listens}
+use Rattle.master_log_laws.proofs.Index.Runs.{followed, slaves_at, talks_of, with_at}
+use Rattle.master_log_laws.proofs.Phases.Numbered.{legal_below}
+use Rattle.master_log_laws.proofs.Failures.Turns.{InPhases, exchange_begun, newest, newest_if, turns_rise, turns_to}
 use Rattle.completeness_laws.specs.Timely.{Timely}
 use Rattle.completeness_laws.proofs.Timely.Waiting.{AllPrompt, IsPrompt, PromptAt}
 

@@ -16,8 +16,8 @@ use Rattle.master_spec.specs.declared.setups.Slave.{Slave}
 use Rattle.master_spec.specs.Setup.{setup_from}
 use Rattle.master_spec.specs.Course.{course}
 use Rattle.master_spec.specs.Exchanged.{IsIn}
-use Rattle.index_laws.specs.Runs.{course_at}
-use Rattle.scenario_laws.proofs.Scenarios.{events_reverse}
+use Rattle.master_log_laws.specs.Index.Runs.{course_at}
+use Rattle.master_log_laws.proofs.Scenarios.Scenarios.{events_reverse}
 use Rattle.run_laws.specs.Laws.{IsRunOf, IsRunInRounds}
 use Rattle.run_laws.proofs.Rounded.{rounds_are_runs}
 use Rattle.completeness_laws.specs.Reasons.{HeartbeatWasMissed, IsFaultOf}

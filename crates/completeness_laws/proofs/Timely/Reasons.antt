@@ -16,8 +16,8 @@ use Rattle.master_spec.specs.News.{news_of, Brings}
 use Rattle.master_spec.specs.Requests.{turns_between}
 use Rattle.master_spec.specs.Exchanged.{IsIn, entry_at}
 use Rattle.master_spec.specs.Shown.{Shown}
-use Rattle.index_laws.specs.Runs.{course_at}
-use Rattle.model_laws.specs.Scenarios.{slave_numbered}
+use Rattle.master_log_laws.specs.Index.Runs.{course_at}
+use Rattle.lockstep_laws.specs.Models.Scenarios.{slave_numbered}
 use Rattle.completeness_laws.specs.Reasons.{HeartbeatWasMissed, IsFaultOf, InputsWereSent}
 
 -- data that was sent had not come when the master had had as many turns as it waits for data

@@ -23,26 +23,26 @@ use Rattle.master_spec.specs.Tasks.{asks_step, target_of}
 use Rattle.master_spec.specs.Marks.{Mark, Begun, Asked, Again, Answered, Hinted, Brought, Turned, Ended, asked, count, is_answer, is_begun, job_of, cause_of, latest, settings_answered, turns_since, is_passed}
 use Rattle.master_spec.specs.Conversation.{is_error, is_state, awaited, awaited_by, awaited_after, awaited_after_state, on_answer, on_mark, on_turn, reaction, reaction_in}
 use Rattle.master_spec.specs.Requests.{Asking, acked, asks, is_main, is_step, of_phase, phase_at, turns_before}
-use Rattle.asking_laws.specs.Legal.{AreLegal, GoesByRule}
-use Rattle.asking_laws.proofs.Legal.{going}
-use Rattle.index_laws.specs.Runs.{course_at, events_of_master}
-use Rattle.index_laws.specs.Index.{Placed, marks_of, first_at, again_at, decided_at, askings_told, ReadBack}
-use Rattle.index_laws.specs.Follows.{talk_with}
-use Rattle.index_laws.specs.Late.{AreLate, IsLate, StandsByLog}
-use Rattle.index_laws.specs.Dates.{clock, AreDated, IsDated}
-use Rattle.index_laws.proofs.Laws.{listens}
-use Rattle.index_laws.proofs.Reported.{reported}
-use Rattle.index_laws.proofs.Runs.{with_at}
-use Rattle.phase_laws.proofs.Now.{now, now_by, past, Linked, linked, split}
-use Rattle.phase_laws.proofs.Mains.{AreQuestions, of_step}
-use Rattle.phase_laws.proofs.Inverse.{reacts, list_asks, ack_asks, nack_asks, state_asks, hint_asks, turn_asks}
-use Rattle.phase_laws.proofs.Tags.{no_reaction, AtMost, Exactly, exactly_now, of_phase_before, past_at_most}
+use Rattle.master_log_laws.specs.Asking.Legal.{AreLegal, GoesByRule}
+use Rattle.master_log_laws.proofs.Asking.Legal.{going}
+use Rattle.master_log_laws.specs.Index.Runs.{course_at, events_of_master}
+use Rattle.master_log_laws.specs.Index.Index.{Placed, marks_of, first_at, again_at, decided_at, askings_told, ReadBack}
+use Rattle.master_log_laws.specs.Index.Follows.{talk_with}
+use Rattle.master_log_laws.specs.Index.Late.{AreLate, IsLate, StandsByLog}
+use Rattle.master_log_laws.specs.Index.Dates.{clock, AreDated, IsDated}
+use Rattle.master_log_laws.proofs.Index.Laws.{listens}
+use Rattle.master_log_laws.proofs.Index.Reported.{reported}
+use Rattle.master_log_laws.proofs.Index.Runs.{with_at}
+use Rattle.master_log_laws.proofs.Phases.Now.{now, now_by, past, Linked, linked, split}
+use Rattle.master_log_laws.proofs.Phases.Mains.{AreQuestions, of_step}
+use Rattle.master_log_laws.proofs.Phases.Inverse.{reacts, list_asks, ack_asks, nack_asks, state_asks, hint_asks, turn_asks}
+use Rattle.master_log_laws.proofs.Phases.Tags.{no_reaction, AtMost, Exactly, exactly_now, of_phase_before, past_at_most}
 use Rattle.completeness_laws.specs.Reasons.{Waits}
 use Rattle.completeness_laws.specs.Completes.{StepsWait}
-use Rattle.failure_laws.proofs.Turns.{turns_to}
-use Rattle.failure_laws.proofs.Silences.{answers_in_phases}
-use Rattle.failure_laws.proofs.Lasts.{Lasts, lasts}
-use Rattle.failure_laws.proofs.Missing.{answer_place}
+use Rattle.master_log_laws.proofs.Failures.Turns.{turns_to}
+use Rattle.master_log_laws.proofs.Failures.Silences.{answers_in_phases}
+use Rattle.master_log_laws.proofs.Failures.Lasts.{Lasts, lasts}
+use Rattle.master_log_laws.proofs.Failures.Missing.{answer_place}
 
 clash : true ≡ false → ⊥
 clash z = cc

@@ -25,10 +25,10 @@ use Rattle.master_spec.specs.Marks.{Mark, Begun, Asked, Again, Answered, Hinted,
 use Rattle.master_spec.specs.Conversation.{awaited, awaited_by, is_state, done, on_turn}
 use Rattle.master_spec.specs.Course.{is_settled_as}
 use Rattle.master_spec.specs.Requests.{acked}
-use Rattle.asking_laws.specs.Legal.{AreLegal}
-use Rattle.phase_laws.proofs.Now.{now}
-use Rattle.phase_laws.proofs.Stage.{Stage, idling, main_open, question_open, trying, mains_done, state_told}
-use Rattle.failure_laws.proofs.Lasts.{step_job}
+use Rattle.master_log_laws.specs.Asking.Legal.{AreLegal}
+use Rattle.master_log_laws.proofs.Phases.Now.{now}
+use Rattle.master_log_laws.proofs.Phases.Stage.{Stage, idling, main_open, question_open, trying, mains_done, state_told}
+use Rattle.master_log_laws.proofs.Failures.Lasts.{step_job}
 use Rattle.completeness_laws.specs.Timely.{longest_wait}
 use Rattle.completeness_laws.proofs.Timely.Talks.{IsLater, IsSilent, passed_more, passed_silent, reached_silent, passed_verdict, settled_passed, settled_ended}
 use Rattle.completeness_laws.proofs.Timely.Asks.{placed, end_task}

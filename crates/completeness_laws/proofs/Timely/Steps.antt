@@ -22,15 +22,15 @@ use Rattle.master_spec.specs.Tasks.{task_row, task_step, is_by_list, is_by_end, 
 use Rattle.master_spec.specs.Marks.{Mark, Begun, Asked, Again, Answered, Hinted, Brought, Turned, Ended, acks_change, settings_answered, has_row_outputs, cause_of, is_answer, is_asked, is_begun, is_passed, is_reached, job_of, latest, names, open_in, open_request, this_phase, turns_since, verdict_of}
 use Rattle.master_spec.specs.Conversation.{awaited, awaited_by, awaited_after, is_state, on_other_state, marks_after, on_answer, on_turn, reaction}
 use Rattle.master_spec.specs.Course.{is_settled_as}
-use Rattle.asking_laws.specs.Legal.{AreLegal, Rests}
-use Rattle.asking_laws.proofs.Closed.{asks_open}
-use Rattle.index_laws.proofs.Events.{repeats_open}
-use Rattle.phase_laws.proofs.Now.{now}
-use Rattle.phase_laws.proofs.Mains.{Asks, by_list, by_one, job_asks, length_map}
-use Rattle.phase_laws.proofs.Inverse.{reacts, first_asks, first_waits, hint_asks, turn_asks}
-use Rattle.phase_laws.proofs.Stage.{Stage}
-use Rattle.phase_laws.proofs.Tags.{no_reaction, passed_reached}
-use Rattle.failure_laws.proofs.Turns.{exchange_begun}
+use Rattle.master_log_laws.specs.Asking.Legal.{AreLegal, Rests}
+use Rattle.master_log_laws.proofs.Asking.Closed.{asks_open}
+use Rattle.master_log_laws.proofs.Index.Events.{repeats_open}
+use Rattle.master_log_laws.proofs.Phases.Now.{now}
+use Rattle.master_log_laws.proofs.Phases.Mains.{Asks, by_list, by_one, job_asks, length_map}
+use Rattle.master_log_laws.proofs.Phases.Inverse.{reacts, first_asks, first_waits, hint_asks, turn_asks}
+use Rattle.master_log_laws.proofs.Phases.Stage.{Stage}
+use Rattle.master_log_laws.proofs.Phases.Tags.{no_reaction, passed_reached}
+use Rattle.master_log_laws.proofs.Failures.Turns.{exchange_begun}
 use Rattle.completeness_laws.proofs.Timely.Talks.{rows_in, passed_more, passed_silent, passed_is, passed_in, reached_is, reached_silent, reached_brought, named_in, passed_verdict}
 use Rattle.completeness_laws.proofs.Timely.Asks.{placed, staged, target_no_error, closed_others, AwaitsState, awaits_state, answer_asks}
 use Rattle.completeness_laws.proofs.Timely.Retries.{ended_waits}

@@ -29,17 +29,17 @@ use Rattle.master_spec.specs.Marks.{Mark, Begun, Asked, Again, Answered, Hinted,
 use Rattle.master_spec.specs.Conversation.{done, extended, marks_after, on_answer, on_missing, reaction}
 use Rattle.master_spec.specs.Course.{Course, CourseTalk, after_gram, begun_with, course, course_after_turn, course_turned, decided, decided_if, failed, fresh_talk, is_passed_as, is_quiet, is_settled, is_settled_as, mark_of_gram, marked, phases, still, task_begun, with_next, with_report, with_turns}
 use Rattle.master_spec.proofs.Phases.{phases_counted}
-use Rattle.asking_laws.specs.Closed.{AllTalks, MayCome}
-use Rattle.asking_laws.specs.Legal.{AllWith, GoesByRule}
-use Rattle.asking_laws.proofs.Closed.{asks_open}
-use Rattle.asking_laws.proofs.Courses.{fine, gram_may}
-use Rattle.asking_laws.proofs.Legal.{IsFreeToGo, all_before, all_passed, going, job_at, turn_goes}
-use Rattle.index_laws.proofs.Events.{repeats_open}
-use Rattle.index_laws.proofs.Outputs.{IsNews, gram_news}
-use Rattle.index_laws.proofs.Runs.{step_gram, step_still, step_tick}
-use Rattle.phase_laws.proofs.Inverse.{reacts, nack_asks}
-use Rattle.phase_laws.proofs.Tags.{HasPassed, counted, job_phase, job_some, verdict_passed}
-use Rattle.failure_laws.proofs.Steady.{steady}
+use Rattle.master_log_laws.specs.Asking.Closed.{AllTalks, MayCome}
+use Rattle.master_log_laws.specs.Asking.Legal.{AllWith, GoesByRule}
+use Rattle.master_log_laws.proofs.Asking.Closed.{asks_open}
+use Rattle.master_log_laws.proofs.Asking.Courses.{fine, gram_may}
+use Rattle.master_log_laws.proofs.Asking.Legal.{IsFreeToGo, all_before, all_passed, going, job_at, turn_goes}
+use Rattle.master_log_laws.proofs.Index.Events.{repeats_open}
+use Rattle.master_log_laws.proofs.Index.Outputs.{IsNews, gram_news}
+use Rattle.master_log_laws.proofs.Index.Runs.{step_gram, step_still, step_tick}
+use Rattle.master_log_laws.proofs.Phases.Inverse.{reacts, nack_asks}
+use Rattle.master_log_laws.proofs.Phases.Tags.{HasPassed, counted, job_phase, job_some, verdict_passed}
+use Rattle.master_log_laws.proofs.Failures.Steady.{steady}
 use Rattle.completeness_laws.proofs.Timely.Talks.{passed_verdict}
 use Rattle.completeness_laws.proofs.Timely.Settled.{Gaps, Stands}
 use Rattle.completeness_laws.proofs.Timely.Steps.{turn_true, turn_false, hinted, brought, answered, begun_before}

@@ -16,7 +16,7 @@ use Rattle.master_spec.specs.Conversation.{reaction}
 use Rattle.master_spec.specs.Course.{step}
 use Rattle.master_spec.specs.Requests.{Asking, Decision, asks, turns_between, turns_after}
 use Rattle.master_spec.specs.Exchanged.{IsIn}
-use Rattle.index_laws.specs.Runs.{course_at}
+use Rattle.master_log_laws.specs.Index.Runs.{course_at}
 use Rattle.completeness_laws.specs.Small.{small_setup as setup, small_limits as limits, lone_slave as slave, small_master as master, small_place as place, small_register as register, small_refusal as refusal, small_value as value, in_time, unreported, late_answer, late_data}
 use Rattle.completeness_laws.specs.Lacking.{QuickSlavesLeaveTime, ShortHeartbeatsDoNot, SlowSlavesDoNot}
 use Rattle.completeness_laws.specs.Timely.{longest_wait, Timely, IsGotAfter, ComesInTime, IsAnsweredInTime}

@@ -1,7 +1,7 @@
 use Rattle.std.proofs.Common.{ap, subst, ◌∙◌}
 use Rattle.std.specs.Prelude.{reverse}
 use Rattle.dcp_ends.specs.Logs.{events_at}
-use Rattle.byte_spool.specs.Outputs.{Delivers}
+use Rattle.dcp_io.specs.Outputs.{Delivers}
 use Rattle.master_spec.specs.declared.setups.Setup.{Setup}
 use Rattle.run_text.specs.Runs.{text_after}
 use Rattle.commands.specs.declared.statuses.Judgement.{Judgement}

@@ -1,7 +1,7 @@
 use Rattle.std.proofs.Common.{List, ℕ, [], ◌++◌, length, subst}
-use Rattle.byte_spool.specs.declared.outputs.Delivery.{Delivery}
-use Rattle.byte_spool.specs.Outputs.{Delivers}
-use Rattle.byte_spool.proofs.Spooling.{begun}
+use Rattle.dcp_io.specs.declared.outputs.Delivery.{Delivery}
+use Rattle.dcp_io.specs.Outputs.{Delivers}
+use Rattle.dcp_io.proofs.Spooling.{begun}
 use Rattle.dcp_record.specs.Traces.{all_entry_bytes, header_bytes, trace_bytes}
 use Rattle.dcp_record.proofs.Joined.{Puts-then}
 use Rattle.dcp_record.proofs.writers.write_record.Goals as goal

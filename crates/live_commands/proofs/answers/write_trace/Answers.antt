@@ -1,5 +1,5 @@
 use Rattle.std.proofs.Common.{List, ℕ, ap, subst}
-use Rattle.byte_spool.specs.Outputs.{WroteAll}
+use Rattle.dcp_io.specs.Outputs.{WroteAll}
 use Rattle.dcp_record.specs.Traces.{trace_bytes}
 use Rattle.live_commands.proofs.answers.write_trace.Goals as goal
 

@@ -6,9 +6,9 @@ use Rattle.std.proofs.lemmas.Option.{slice_get_read}
 use Rattle.slave_desc.specs.declared.descriptions.SlaveDesc.{SlaveDesc}
 use Rattle.slave_desc.specs.declared.ports.Port.{Port}
 use Rattle.master_core.specs.Standing.{core_setup}
-use Rattle.report_text.specs.Puts.{Puts}
-use Rattle.report_text.specs.Rows.{spaced_value}
-use Rattle.report_text.proofs.Growth.{Puts-then}
+use Rattle.run_text.specs.Puts.{Puts}
+use Rattle.run_text.specs.Rows.{spaced_value}
+use Rattle.run_text.proofs.Growth.{Puts-then}
 use Rattle.run_text.specs.Tables.{outputs_of, ports_of, value_after}
 use Rattle.run_text.proofs.Tables.{slave_more}
 use Rattle.run_text.proofs.rows.put_row.Goals as goal

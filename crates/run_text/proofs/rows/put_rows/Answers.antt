@@ -1,9 +1,9 @@
 use Rattle.std.proofs.Common.{ℕ, List, subst}
 use Rattle.std.specs.Prelude.{reverse}
 use Rattle.master_core.specs.Standing.{core_setup}
-use Rattle.report_text.specs.Puts.{Puts}
-use Rattle.report_text.specs.Rows.{row_text, rows_text}
-use Rattle.report_text.proofs.Growth.{Puts-then}
+use Rattle.run_text.specs.Puts.{Puts}
+use Rattle.run_text.specs.Rows.{row_text, rows_text}
+use Rattle.run_text.proofs.Growth.{Puts-then}
 use Rattle.run_text.specs.Tables.{first_rows, row_after}
 use Rattle.run_text.proofs.Tables.{row_more}
 use Rattle.run_text.proofs.rows.put_rows.Goals as goal

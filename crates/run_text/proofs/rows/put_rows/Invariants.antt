@@ -3,8 +3,8 @@ use Rattle.std.proofs.Common.{List}
 use Rattle.std.specs.Prelude.{reverse}
 use Rattle.dcp_ends.specs.Events.{Event}
 use Rattle.master_core.specs.Standing.{StandsAfter, core_setup}
-use Rattle.report_text.specs.Puts.{Puts}
-use Rattle.report_text.specs.Rows.{rows_text}
+use Rattle.run_text.specs.Puts.{Puts}
+use Rattle.run_text.specs.Rows.{rows_text}
 use Rattle.run_text.specs.Tables.{first_rows, row_after}
 use Rattle.run_text.proofs.rows.put_rows.Given as goal
 

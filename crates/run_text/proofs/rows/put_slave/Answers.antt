@@ -2,9 +2,9 @@ use Rattle.std.proofs.Common.{List, ℕ, subst}
 use Rattle.std.specs.Prelude.{reverse}
 use Rattle.std.specs.List.{flat_map}
 use Rattle.master_core.specs.Standing.{core_setup}
-use Rattle.report_text.specs.Puts.{Puts}
-use Rattle.report_text.specs.Rows.{spaced_value}
-use Rattle.report_text.proofs.Growth.{Puts-then}
+use Rattle.run_text.specs.Puts.{Puts}
+use Rattle.run_text.specs.Rows.{spaced_value}
+use Rattle.run_text.proofs.Growth.{Puts-then}
 use Rattle.run_text.specs.Tables.{ports_of, spaced_if, value_after}
 use Rattle.run_text.proofs.Tables.{port_more}
 use Rattle.run_text.proofs.rows.put_slave.Goals as goal

@@ -4,8 +4,8 @@ use Rattle.std.specs.Prelude.{reverse}
 use Rattle.std.specs.List.{flat_map}
 use Rattle.dcp_ends.specs.Events.{Event}
 use Rattle.master_core.specs.Standing.{StandsAfter, core_setup}
-use Rattle.report_text.specs.Puts.{Puts}
-use Rattle.report_text.specs.Rows.{spaced_value}
+use Rattle.run_text.specs.Puts.{Puts}
+use Rattle.run_text.specs.Rows.{spaced_value}
 use Rattle.run_text.specs.Tables.{ports_of, value_after}
 use Rattle.run_text.proofs.rows.put_slave.Given as goal
 

@@ -1,5 +1,5 @@
 use Rattle.std.proofs.Common.{[]}
-use Rattle.byte_spool.proofs.Spooling.{begun}
+use Rattle.dcp_io.proofs.Spooling.{begun}
 use Rattle.run_text.proofs.runs.write_report.Goals as goal
 
 pub returns : goal.returns

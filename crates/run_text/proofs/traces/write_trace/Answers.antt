@@ -1,5 +1,5 @@
 use Rattle.std.proofs.Common.{List, ℕ, ap, length, subst, ◌∙◌}
-use Rattle.byte_spool.specs.Outputs.{WroteAll}
+use Rattle.dcp_io.specs.Outputs.{WroteAll}
 use Rattle.dcp_record.specs.Traces.{trace_bytes}
 use Rattle.slave_desc.specs.declared.descriptions.SlaveDesc.{SlaveDesc}
 use Rattle.run_text.specs.Runs.{all_bits}

@@ -2,8 +2,8 @@ use Rattle.std.proofs.Common.{[], ◌++◌, ◌∙◌, rules, subst}
 use Rattle.std.specs.Int.{w128}
 use Rattle.std.specs.Prelude.{ℤ}
 use Rattle.std.proofs.lemmas.Int.{to_z-of_z}
-use Rattle.byte_spool.specs.Outputs.{Delivers}
-use Rattle.byte_spool.proofs.Spooling.{begun}
+use Rattle.dcp_io.specs.Outputs.{Delivers}
+use Rattle.dcp_io.proofs.Spooling.{begun}
 use Rattle.soaks.specs.Summaries.{first_line, sum_text}
 use Rattle.soaks.proofs.summaries.write_summary.Goals as goal
 

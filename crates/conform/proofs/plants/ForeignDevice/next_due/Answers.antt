@@ -1,5 +1,5 @@
 use Rattle.std.proofs.Common.{◌≡◌, ℕ, suc, ◌+◌, ◌<◌, true, false, ◌∷◌, length, sym, ap, ◌∙◌, arith, rules}
-use Rattle.slave_wiring.specs.Changes.{output, ids}
+use Rattle.slave_spec.specs.Changes.{output, ids}
 use Rattle.conform.specs.Sending.{goes_out, ids_from}
 use Rattle.conform.proofs.Sampling.{passed_by, stopped_at, id_at}
 use Rattle.conform.proofs.plants.ForeignDevice.next_due.Goals as goal

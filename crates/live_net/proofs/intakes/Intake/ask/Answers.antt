@@ -1,5 +1,5 @@
 use Rattle.std.proofs.Common.{◌≡◌, refl}
-use Rattle.stream_links.specs.Inlets.{with_received}
+use Rattle.stream_frame.specs.Inlets.{with_received}
 use Rattle.live_net.specs.Intakes.{with_handed}
 use Rattle.live_net.proofs.Gathering.{asked_more}
 use Rattle.live_net.proofs.intakes.Intake.ask.Goals as goal

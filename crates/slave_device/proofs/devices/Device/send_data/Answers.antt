@@ -3,7 +3,7 @@ use Rattle.dcp_types.specs.declared.data_types.DataType.{DataType}
 use Rattle.dcp_types.specs.declared.fault_codes.FaultCode.TheVariants as faults
 use Rattle.fixed_models.specs.Steps.{all_fit}
 use Rattle.slave_spec.specs.Turns.{values}
-use Rattle.slave_wiring.specs.Payloads as payloads
+use Rattle.slave_spec.specs.Payloads as payloads
 use Rattle.slave_device.proofs.Shown.{value_count}
 use Rattle.slave_device.proofs.Sent.{ports_fit}
 use Rattle.slave_device.proofs.devices.Device.send_data.Goals as goal

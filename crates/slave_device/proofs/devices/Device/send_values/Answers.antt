@@ -1,7 +1,7 @@
 use Rattle.std.proofs.Common.{ℕ, suc, ◌≡◌, ◌+◌, ◌∷◌, ◌++◌, [], List, length, take, ap, sym, ◌∙◌, arith}
 use Rattle.std.proofs.lemmas.List.{take_all}
 use Rattle.dcp_ends.specs.Events.{Send}
-use Rattle.slave_wiring.specs.Changes.{output, ids}
+use Rattle.slave_spec.specs.Changes.{output, ids}
 use Rattle.slave_device.specs.Sending.{data_sends}
 use Rattle.slave_device.proofs.Sent.{next_of, data_sends-append}
 use Rattle.slave_device.proofs.devices.Device.send_values.Goals as goal

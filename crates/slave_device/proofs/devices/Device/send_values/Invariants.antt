@@ -1,5 +1,5 @@
 use Rattle.std.proofs.Common.{ℕ, ◌≡◌, ◌≤◌, length, take}
-use Rattle.slave_wiring.specs.Changes.{output, ids}
+use Rattle.slave_spec.specs.Changes.{output, ids}
 use Rattle.slave_spec.specs.Plants.{Plant}
 use Rattle.slave_device.specs.Devices.{DeviceFor}
 use Rattle.slave_device.specs.Sending.{data_sends}

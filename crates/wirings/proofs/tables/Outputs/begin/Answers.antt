@@ -1,7 +1,7 @@
 use Rattle.std.proofs.Common.{refl, ap, ◌∙◌, arith, List, [], ◌∷◌, ◌++◌, None}
 use Rattle.std.proofs.lemmas.Grind.{common_steps}
 use Rattle.dcp_types.specs.declared.error_codes.ErrorCode.TheVariants.{Position}
-use Rattle.slave_wiring.specs.Refusals.{refused_unless}
+use Rattle.slave_spec.specs.Refusals.{refused_unless}
 use Rattle.wirings.specs.declared.places.PortPlace.{PortPlace}
 use Rattle.wirings.proofs.Finding.{port_of, no_port_of}
 use Rattle.wirings.proofs.Sending.{full_at, room_at, no_port, judged_at, none_at, begun}

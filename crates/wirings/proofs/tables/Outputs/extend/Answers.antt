@@ -1,6 +1,6 @@
 use Rattle.std.proofs.Common.{refl, ap, ◌∙◌}
 use Rattle.dcp_types.specs.declared.error_codes.ErrorCode.TheVariants.{Position}
-use Rattle.slave_wiring.specs.Refusals.{refused_unless}
+use Rattle.slave_spec.specs.Refusals.{refused_unless}
 use Rattle.wirings.proofs.Finding.{port_of, no_port_of}
 use Rattle.wirings.proofs.Sending.{known_at, no_port, judged_at, count_at, extended}
 use Rattle.wirings.proofs.tables.Outputs.extend.Goals as goal

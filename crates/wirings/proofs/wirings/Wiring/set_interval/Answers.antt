@@ -1,6 +1,6 @@
 use Rattle.std.proofs.Common.{ap, ◌∙◌}
 use Rattle.dcp_types.specs.declared.error_codes.ErrorCode.TheVariants.{NotSupported}
-use Rattle.slave_wiring.specs.Refusals.{refused_unless}
+use Rattle.slave_spec.specs.Refusals.{refused_unless}
 use Rattle.wirings.proofs.Whole.{interval_judged}
 use Rattle.wirings.proofs.wirings.Wiring.set_interval.Goals as goal
 

@@ -1,6 +1,6 @@
 use Rattle.std.proofs.Common.{refl, ap, ◌∙◌}
 use Rattle.dcp_types.specs.declared.error_codes.ErrorCode.TheVariants.{NotSupported}
-use Rattle.slave_wiring.specs.Refusals.{refused_unless}
+use Rattle.slave_spec.specs.Refusals.{refused_unless}
 use Rattle.wirings.proofs.Whole.{time_judged, time_told}
 use Rattle.wirings.proofs.wirings.Wiring.set_time.Goals as goal
 

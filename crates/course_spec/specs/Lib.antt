@@ -1,4 +1,0 @@
--- What exchanges tell of a slave.
-pub mod Taken
--- What may be asked after them.
-pub mod Courses

@@ -1,8 +1,0 @@
-use Rattle.headline_laws.proofs.Moments.{deciding_always, served_always}
-use Rattle.headline_laws.proofs.decided_as_given.Goals as goal
-
-pub returns-clause-deciding : goal.returns-clause-deciding
-returns-clause-deciding c = deciding_always
-
-pub returns-clause-served : goal.returns-clause-served
-returns-clause-served c = served_always

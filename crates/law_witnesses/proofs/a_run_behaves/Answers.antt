@@ -1,8 +1,0 @@
-use Rattle.law_witnesses.proofs.Running.{are_slaves, behaves}
-use Rattle.law_witnesses.proofs.a_run_behaves.Goals as goal
-
-pub returns-clause-slaves : goal.returns-clause-slaves
-returns-clause-slaves c = are_slaves
-
-pub returns-clause-run : goal.returns-clause-run
-returns-clause-run c = behaves

@@ -1,0 +1,15 @@
+pub mod Budgets
+pub mod Places
+pub mod Reactions
+pub mod Opens
+pub mod Turns
+pub mod Answers
+pub mod Heard
+pub mod Begins
+pub mod Stays
+pub mod Sizes
+pub mod Talks
+pub mod Courses
+pub mod Chains
+pub mod Entries
+pub mod Lengths

@@ -1,4 +1,0 @@
--- What is promised: the printed rows of a run and the line after them, and what it means that a piece is put behind a text.
-pub mod Puts
-pub mod Rows
-pub mod Closings

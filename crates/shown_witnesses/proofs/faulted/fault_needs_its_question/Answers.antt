@@ -1,8 +1,0 @@
-use Rattle.shown_witnesses.proofs.FirstPhases.{none_not_told, none_no_error}
-use Rattle.shown_witnesses.proofs.faulted.fault_needs_its_question.Goals as goal
-
-pub returns-clause-untold : goal.returns-clause-untold
-returns-clause-untold c = none_not_told
-
-pub returns-clause-no_error : goal.returns-clause-no_error
-returns-clause-no_error c = none_no_error

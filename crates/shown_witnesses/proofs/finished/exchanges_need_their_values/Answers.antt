@@ -1,8 +1,0 @@
-use Rattle.shown_witnesses.proofs.Unexchanged.{early_values_not, late_values_not}
-use Rattle.shown_witnesses.proofs.finished.exchanges_need_their_values.Goals as goal
-
-pub returns-clause-early : goal.returns-clause-early
-returns-clause-early c = early_values_not
-
-pub returns-clause-late : goal.returns-clause-late
-returns-clause-late c = late_values_not

@@ -1,8 +1,0 @@
-use Rattle.shown_witnesses.proofs.Exchanges.{run_whole, all_exchanged}
-use Rattle.shown_witnesses.proofs.finished.finished_runs_are_exchanged.Goals as goal
-
-pub returns-clause-run : goal.returns-clause-run
-returns-clause-run c = run_whole
-
-pub returns-clause-exchanged : goal.returns-clause-exchanged
-returns-clause-exchanged c = all_exchanged

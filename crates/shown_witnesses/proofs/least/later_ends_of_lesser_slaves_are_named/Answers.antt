@@ -1,8 +1,0 @@
-use Rattle.shown_witnesses.proofs.Pairs.{tells_faulted, shown_other}
-use Rattle.shown_witnesses.proofs.least.later_ends_of_lesser_slaves_are_named.Goals as goal
-
-pub returns-clause-first : goal.returns-clause-first
-returns-clause-first c = tells_faulted
-
-pub returns-clause-second : goal.returns-clause-second
-returns-clause-second c = shown_other

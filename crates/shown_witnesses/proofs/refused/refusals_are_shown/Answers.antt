@@ -1,8 +1,0 @@
-use Rattle.shown_witnesses.proofs.FirstPhases.{tells_refusing, only_refusing}
-use Rattle.shown_witnesses.proofs.refused.refusals_are_shown.Goals as goal
-
-pub returns-clause-first : goal.returns-clause-first
-returns-clause-first c = tells_refusing
-
-pub returns-clause-only : goal.returns-clause-only
-returns-clause-only c = only_refusing

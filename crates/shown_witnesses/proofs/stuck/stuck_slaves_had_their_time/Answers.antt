@@ -1,8 +1,0 @@
-use Rattle.shown_witnesses.proofs.LaterPhases.{none_at_once, none_prepared}
-use Rattle.shown_witnesses.proofs.stuck.stuck_slaves_had_their_time.Goals as goal
-
-pub returns-clause-soon : goal.returns-clause-soon
-returns-clause-soon c = none_at_once
-
-pub returns-clause-done : goal.returns-clause-done
-returns-clause-done c = none_prepared

@@ -1,4 +1,0 @@
-pub mod Ended
-pub mod Held
-pub mod Owing
-pub mod Keeping

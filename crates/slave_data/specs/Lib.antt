@@ -1,4 +1,0 @@
--- The slaves of a scenario, as the laws speak of them.
-pub mod Made
--- What is shown of them.
-pub mod Holding

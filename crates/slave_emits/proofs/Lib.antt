@@ -1,4 +1,0 @@
-pub mod Taken
-pub mod Due
-pub mod Shown
-pub mod Goes

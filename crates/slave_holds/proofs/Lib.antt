@@ -1,4 +1,0 @@
-pub mod Fresh
-pub mod Inputs
-pub mod Still
-pub mod Along

@@ -1,2 +1,0 @@
--- Where the model of a slave stands after a log.
-pub mod Models

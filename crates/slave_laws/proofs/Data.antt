@@ -1,0 +1,12 @@
+pub mod Ended
+pub mod Held
+pub mod Owing
+pub mod Keeping
+pub mod Taken
+pub mod Due
+pub mod Shown
+pub mod Goes
+pub mod Stepping
+pub mod Feeding
+pub mod Whole
+pub mod Asking

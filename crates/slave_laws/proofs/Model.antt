@@ -1,0 +1,9 @@
+pub mod Fresh
+pub mod Inputs
+pub mod Still
+pub mod Along
+pub mod Alike
+pub mod Parameters
+pub mod Opened
+pub mod Tables
+pub mod Standing

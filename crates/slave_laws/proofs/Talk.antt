@@ -1,0 +1,11 @@
+pub mod Meets
+pub mod Plants
+pub mod Benches
+pub mod Agreeing
+pub mod Bytes
+pub mod Shelves
+pub mod Spelt
+pub mod Hearing
+pub mod Wiring
+pub mod Standing
+pub mod Sending

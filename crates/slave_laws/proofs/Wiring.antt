@@ -1,0 +1,17 @@
+pub mod Lists
+pub mod Staged
+pub mod Stages
+pub mod Courses
+pub mod Counting
+pub mod Found
+pub mod Parts
+pub mod Planned
+pub mod Sends
+pub mod Back
+pub mod RowParts
+pub mod InputLists
+pub mod Ports
+pub mod Told
+pub mod Spots
+pub mod Inputs
+pub mod Rows

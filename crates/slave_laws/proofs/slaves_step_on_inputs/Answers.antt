@@ -1,5 +1,0 @@
-use Rattle.slave_laws.proofs.Stepping.{step_on_inputs}
-use Rattle.slave_laws.proofs.slaves_step_on_inputs.Goals as goal
-
-pub returns : goal.returns
-returns c = step_on_inputs

@@ -1,4 +1,0 @@
-pub mod Found
-pub mod Parts
-pub mod Planned
-pub mod Sends

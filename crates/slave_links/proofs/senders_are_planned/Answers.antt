@@ -1,9 +1,0 @@
-use Rattle.slave_links.proofs.Planned.{senders}
-use Rattle.slave_links.proofs.Sends.{each_sends}
-use Rattle.slave_links.proofs.senders_are_planned.Goals as goal
-
-pub returns-clause-only : goal.returns-clause-only
-returns-clause-only c = senders
-
-pub returns-clause-each : goal.returns-clause-each
-returns-clause-each c = each_sends

@@ -1,3 +1,0 @@
--- What fits a field of a message.
-pub mod Ranges
-pub mod Laws

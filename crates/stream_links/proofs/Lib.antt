@@ -1,3 +1,0 @@
-pub mod Hellos
-pub mod Flushing
-pub mod Receiving

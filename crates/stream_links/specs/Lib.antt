@@ -1,3 +1,0 @@
-pub mod Greetings
-pub mod Links
-pub mod Inlets
