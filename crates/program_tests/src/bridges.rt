@@ -46,11 +46,7 @@ fn call_bridge<W: Wait, U: Net, T: Net, P: Ready>(
     for word in words.split_whitespace() {
         given.push(alloc, word)?;
     }
-    let mut source = MemorySource::new(
-        bytes_of(alloc, input)?,
-        Vec::new(alloc),
-        Vec::new(alloc),
-    );
+    let mut source = MemorySource::new(bytes_of(alloc, input)?, Vec::new(alloc), Vec::new(alloc));
     let mut out = MemorySink::new([0; 64].to_vec(alloc)?, Vec::new(alloc));
     let status = bridge_words(rt, alloc, &given, &mut source, &mut out, udp, tcp, ready);
     Ok((status, out.written().to_vec(alloc)?))
@@ -76,7 +72,15 @@ fn what_is_refused_is_said(rt: HostRuntime) -> Result<(), Fail> {
         let input = cells.next().unwrap_or(COUNTER);
         let mut udp = MemoryNet::new(rt.alloc());
         let mut tcp = MemoryNet::new(rt.alloc());
-        let (status, out) = call_bridge(&rt, rt.alloc(), words, input, &mut udp, &mut tcp, &mut NoWait)?;
+        let (status, out) = call_bridge(
+            &rt,
+            rt.alloc(),
+            words,
+            input,
+            &mut udp,
+            &mut tcp,
+            &mut NoWait,
+        )?;
         assert_eq!(rt; status.code(), code, "{line}");
         assert!(rt; out == text, "{line}");
     }
@@ -88,7 +92,15 @@ fn a_network_that_fails_stops_the_bridge(rt: HostRuntime) -> Result<(), Fail> {
     for (failing, nth) in [(NetCall::Begin, 1), (NetCall::Take, 1), (NetCall::Take, 12)] {
         let mut udp = MemoryNet::failing(rt.alloc(), failing, nth);
         let mut tcp = MemoryNet::new(rt.alloc());
-        let (status, out) = call_bridge(&rt, rt.alloc(), "bridge 0", COUNTER, &mut udp, &mut tcp, &mut NoWait)?;
+        let (status, out) = call_bridge(
+            &rt,
+            rt.alloc(),
+            "bridge 0",
+            COUNTER,
+            &mut udp,
+            &mut tcp,
+            &mut NoWait,
+        )?;
         assert_eq!(rt; status, Status::NetFault, "{nth}");
         assert!(rt; out.is_empty(), "{nth}");
     }
@@ -113,7 +125,15 @@ fn a_bridge_carries_until_a_wait_fails(rt: HostRuntime) -> Result<(), Fail> {
     let mut udp = ScriptNet::new(rt.alloc(), message(rt.alloc())?);
     let mut tcp = MemoryNet::new(rt.alloc());
     let mut ready = FailingWait::new(3);
-    let (status, out) = call_bridge(&rt, rt.alloc(), "bridge 0", COUNTER, &mut udp, &mut tcp, &mut ready)?;
+    let (status, out) = call_bridge(
+        &rt,
+        rt.alloc(),
+        "bridge 0",
+        COUNTER,
+        &mut udp,
+        &mut tcp,
+        &mut ready,
+    )?;
     assert_eq!(rt; status, Status::NetFault);
     assert!(rt; out.is_empty());
     assert_eq!(rt; tcp.sent(), 1);
@@ -121,7 +141,8 @@ fn a_bridge_carries_until_a_wait_fails(rt: HostRuntime) -> Result<(), Fail> {
 }
 
 /// Five slaves that count, at the ports 9001 to 9005.
-const FIVE: &str = "steps 3/master 127.0.0.1 9000/slave a/uuid 00000000-0000-0000-0000-000000000001/address 127.0.0.1 9001/model counter 1000/output 1 uint32/slave b/uuid 00000000-0000-0000-0000-000000000002/address 127.0.0.1 9002/model counter 1000/output 1 uint32/slave c/uuid 00000000-0000-0000-0000-000000000003/address 127.0.0.1 9003/model counter 1000/output 1 uint32/slave d/uuid 00000000-0000-0000-0000-000000000004/address 127.0.0.1 9004/model counter 1000/output 1 uint32/slave e/uuid 00000000-0000-0000-0000-000000000005/address 127.0.0.1 9005/model counter 1000/output 1 uint32/";
+const FIVE: &str =
+    "steps 3/master 127.0.0.1 9000/slave a/uuid 00000000-0000-0000-0000-000000000001/address 127.0.0.1 9001/model counter 1000/output 1 uint32/slave b/uuid 00000000-0000-0000-0000-000000000002/address 127.0.0.1 9002/model counter 1000/output 1 uint32/slave c/uuid 00000000-0000-0000-0000-000000000003/address 127.0.0.1 9003/model counter 1000/output 1 uint32/slave d/uuid 00000000-0000-0000-0000-000000000004/address 127.0.0.1 9004/model counter 1000/output 1 uint32/slave e/uuid 00000000-0000-0000-0000-000000000005/address 127.0.0.1 9005/model counter 1000/output 1 uint32/";
 
 /// Sends the message so many times from this port to each of the ports from 9001 on, as far as the network takes it.
 fn send_each(net: &mut MemoryNet, from: u16, ports: u16, times: u16)
@@ -179,7 +200,14 @@ fn a_round_carries_drops_and_gives_up(rt: HostRuntime) -> Result<(), Fail> {
             assert!(rt; false, "{ports}");
             return Ok(());
         };
-        assert_eq!(rt; passed, Passed { carried, dropped, strange });
+        assert_eq!(rt;
+            passed,
+            Passed {
+                carried,
+                dropped,
+                strange
+            }
+        );
         assert!(rt; first.as_slice() == bytes, "{ports}");
     }
     Ok(())

@@ -118,7 +118,11 @@ fn damaged_traces_are_refused_or_stop_where_they_differ(rt: HostRuntime) -> Resu
 #[test]
 fn a_slave_without_its_answer_does_not_conform(rt: HostRuntime) -> Result<(), Fail> {
     let (_, _, trace) = run_over(rt.alloc(), &mut MemoryNet::new(rt.alloc()))?;
-    let mut without = trace.as_slice().get(..268).unwrap_or(&[]).to_vec(rt.alloc())?;
+    let mut without = trace
+        .as_slice()
+        .get(..268)
+        .unwrap_or(&[])
+        .to_vec(rt.alloc())?;
     without.extend_from_slice(trace.as_slice().get(287..).unwrap_or(&[]))?;
     let mut net = MemoryNet::new(rt.alloc());
     let (status, out, _) = call_over(rt.alloc(), "conform count", without, &mut net)?;
