@@ -1,7 +1,6 @@
 -- Over a quiet network each round brings all that was sent before it, where no request is sent again. Logs have their oldest entry first.
-use Rattle.std.proofs.Common.{◌≡◌, ℕ, zero, suc, ◌+◌, ◌≤◌, ◌⊎◌, inl, inr, Some, List, [], ◌∷◌, ◌++◌, length, reverse, refl, sym, ap, ◌∙◌, subst, arith, append_assoc}
+use Rattle.std.proofs.Common.{◌≡◌, ℕ, zero, suc, ◌+◌, ◌≤◌, ◌⊎◌, inl, inr, Some, List, [], ◌∷◌, ◌++◌, length, reverse, sym, ap, ◌∙◌, subst, arith, append_assoc}
 use Rattle.std.specs.Prelude.{filter}
-use Rattle.std.proofs.lemmas.List.{reverse-append}
 use Rattle.dcp_types.specs.declared.addresses.Address.{Address}
 use Rattle.dcp_ends.specs.declared.entries.LogEntry.{LogEntry}
 use Rattle.dcp_ends.specs.declared.entries.LogEntry.TheVariants.{Sent}
@@ -36,20 +35,17 @@ use Rattle.completeness_laws.proofs.Delivery.Ended.{run_front}
 use Rattle.quiet_laws.specs.Quiet.{IsQuietPlan, ComesIn, StillWaits, is_for_slave, NoneAgain}
 use Rattle.quiet_laws.specs.Rounded.{IsPatient, BringAll, NoneAskedAgain, RoundsBringAll}
 use Rattle.quiet_laws.proofs.Lists.{Each}
-use Rattle.quiet_laws.proofs.Nets.{told, sent_count, sent_told, pending, given_before}
-use Rattle.quiet_laws.proofs.Fronts.{onto, onto_reverse, G, given_onto}
+use Rattle.quiet_laws.proofs.Nets.{told, sent_count, sent_told, given_before}
+use Rattle.quiet_laws.proofs.Fronts.{onto, G, given_onto}
 use Rattle.quiet_laws.proofs.Looks.{sent_rises, Fresh}
-use Rattle.quiet_laws.proofs.Emptied.{tally_length, told_is, lose_nothing}
+use Rattle.quiet_laws.proofs.Emptied.{tally_length, told_is, onto_is, lose_nothing}
 use Rattle.quiet_laws.proofs.Once.{few_at}
 use Rattle.quiet_laws.proofs.Before.{round_begins, follows_front}
 use Rattle.quiet_laws.proofs.Counts.{between}
 use Rattle.quiet_laws.proofs.Along.{IsMoment, Along, along_end, along_front, along_whole}
 use Rattle.quiet_laws.proofs.Passing.{IsReady, IsPassed, passes}
 
--- ---- the same log in both orders
-onto_is : (part log : List LogEntry) → onto part (reverse log) ≡ reverse (log ++ part)
-onto_is part log = onto_reverse part (reverse log) ∙ sym (reverse-append log part)
-
+-- ---- parts of a log
 honest_front : (w : Parties) (p q : List LogEntry) → Honest w (p ++ q) → Honest w p
 honest_front w p q h before after e z = h before (after ++ q) e (ap (λ (l : List LogEntry). l ++ q) z ∙ append_assoc before (e ∷ after) q)
 

@@ -1,5 +1,5 @@
 -- How many messages of a part go to an address, and how many wait for it after the part. Logs have their newest entry first, parts their oldest.
-use Rattle.std.proofs.Common.{◌≡◌, ℕ, zero, suc, ◌+◌, ◌<◌, ◌≤◌, ◌⊎◌, inl, inr, Bool, true, false, if◌then◌else◌, List, [], ◌∷◌, ◌++◌, refl, sym, ap, ◌∙◌, subst, arith}
+use Rattle.std.proofs.Common.{◌≡◌, ℕ, zero, suc, ◌+◌, ◌<◌, ◌≤◌, ◌⊎◌, inl, inr, Bool, true, false, if◌then◌else◌, List, [], ◌∷◌, ◌++◌, refl, sym, ap, ◌∙◌, arith}
 use Rattle.std.specs.Prelude.{◌&&◌}
 use Rattle.std.proofs.lemmas.Bool.{and_parts}
 use Rattle.dcp_types.specs.declared.addresses.Address.{Address}
@@ -13,8 +13,8 @@ use Rattle.net_world.specs.Messages.{messages}
 use Rattle.rounds.specs.Rounds.{AllSent, IsTurn, Gots, IsLook}
 use Rattle.quiet_laws.specs.Quiet.{IsQuietPlan, NoneToSelf}
 use Rattle.quiet_laws.proofs.Lists.{bit, tally, first_passes, tally_without}
-use Rattle.quiet_laws.proofs.Nets.{told, tally_place, pending, IsTaken, got_given, pending_got, pending_idle, pending_turn, letter, pending_sent}
-use Rattle.quiet_laws.proofs.Fronts.{onto, onto_append, got_count, goes_to, sends_to, address_self, address_is, is_for, waits_for, G, given_onto, for_sent, for_got}
+use Rattle.quiet_laws.proofs.Nets.{told, tally_place, pending, got_given, pending_got, pending_idle, pending_turn, letter, pending_sent}
+use Rattle.quiet_laws.proofs.Fronts.{onto, got_count, goes_to, sends_to, address_self, address_is, is_for, waits_for, G, given_onto, for_sent, for_got}
 
 -- ---- the messages of a part
 pub sends_join : (a : Address) (p q : List LogEntry) → sends_to a (p ++ q) ≡ sends_to a p + sends_to a q

@@ -13,7 +13,7 @@ use Rattle.scenario.specs.Sound.{IsScenario}
 use Rattle.dcp_net.specs.declared.openings.Opening.{Opening}
 use Rattle.net_world.specs.declared.deliveries.Arrival.{Arrival}
 use Rattle.rounds.specs.Rounds.{AllSent}
-use Rattle.log_spec.specs.Messages.{Note, Role, Request, Answer, Value, Else}
+use Rattle.log_spec.specs.Messages.{Role, Request, Answer, Value, Else}
 use Rattle.log_spec.specs.Log.{Parties, IsSlaveOf, IsEnd, same, role_heard}
 use Rattle.log_spec.specs.Honest.{IsRepeatedNewest}
 use Rattle.log_spec.specs.Moves.{Move, Asks, Comes, Tells, Hears, Brings, Turns, Rests, Other, sent_move, move}
@@ -22,7 +22,6 @@ use Rattle.lockstep_laws.specs.Slaves.{Post, IsFirstPost, SlaveMay, tail}
 use Rattle.lockstep_laws.specs.Cast.{ConversingSlaves}
 use Rattle.lockstep_laws.specs.Runs.{Behaves}
 use Rattle.lockstep_laws.proofs.Conversation.{earlier}
-use Rattle.lockstep_laws.specs.Models.Scenarios.{slave_numbered}
 use Rattle.slave_spec.specs.Heard as spec
 use Rattle.slave_spec.specs.Transport as transport
 use Rattle.slave_spec.specs.Plants.{Plant}
@@ -30,9 +29,7 @@ use Rattle.slave_spec.specs.declared.words.SlaveSetup.{SlaveSetup}
 use Rattle.slave_spec.specs.Slaves.{machine}
 use Rattle.slave_laws.specs.Talk.Desks.{post, Both, got, ticked, sent_next, at, Agree}
 use Rattle.slave_laws.specs.Data.Whole.{slaves_asked}
-use Rattle.master_spec.specs.declared.setups.Slave.{Slave}
 use Rattle.master_spec.specs.declared.setups.Setup.{Setup}
-use Rattle.master_spec.specs.Exchanged.{IsIn}
 use Rattle.master_spec.specs.Setup.{setup_from}
 use Rattle.master_log_laws.specs.Index.Runs.{owed, IsFirstSend, where_it_is, IsRun}
 use Rattle.master_log_laws.proofs.Index.Mine.{same_self as self_same}
@@ -43,18 +40,12 @@ use Rattle.run_laws.proofs.Headline.Behaving.{are_slaves}
 use Rattle.completeness_laws.proofs.Delivery.Sessions.{comes_of_master, reads_back}
 use Rattle.quiet_laws.specs.Quiet.{IsQuietPlan, AllToEnds, posts_to}
 use Rattle.quiet_laws.proofs.Lists.{bit, Each}
-use Rattle.quiet_laws.proofs.Nets.{pending, letter}
+use Rattle.quiet_laws.proofs.Nets.{pending}
 use Rattle.quiet_laws.proofs.Fronts.{onto, sends_to, each_entry}
+use Rattle.quiet_laws.proofs.Sends.{posts_more}
 use Rattle.quiet_laws.proofs.Little.{little}
 
 -- ---- posts
-posts_more : (a : Address) (p : Post) (ps : List Post) → posts_to a (p ∷ ps) ≡ bit (same_address p.to a) + posts_to a ps
-posts_more a p ps = by (same_address p.to a)
-  where
-    by : (b : Bool) → (if b then posts_to a ps + 1 else posts_to a ps) ≡ bit b + posts_to a ps
-    by true = omega arith
-    by false = omega arith
-
 -- the first of them goes where it is sent
 first_counts : (a to : Address) (bytes : List ℕ) (ps : List Post) → IsFirstPost ps to bytes → posts_to a ps ≡ bit (same_address to a) + posts_to a (tail ps)
 first_counts a to bytes [] f = absurd f

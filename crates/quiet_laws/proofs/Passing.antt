@@ -1,11 +1,9 @@
 -- A round over a quiet network: its looks leave nothing that waited before it, and little waits after it. Logs have their newest entry first, parts their oldest.
-use Rattle.std.proofs.Common.{◌≡◌, ℕ, zero, suc, ◌+◌, ◌-◌, ◌*◌, ◌<◌, ◌≤◌, ◌⊎◌, inl, inr, Bool, true, false, Some, List, [], ◌∷◌, ◌++◌, map, length, refl, sym, ap, ◌∙◌, subst, arith}
+use Rattle.std.proofs.Common.{◌≡◌, ℕ, zero, suc, ◌+◌, ◌-◌, ◌*◌, ◌≤◌, ◌⊎◌, inl, inr, Bool, true, false, Some, List, [], ◌∷◌, ◌++◌, map, length, refl, sym, ap, ◌∙◌, subst, arith}
 use Rattle.std.specs.Prelude.{slice_get, MatchBool}
-use Rattle.std.proofs.lemmas.List.{length-map}
 use Rattle.std.proofs.lemmas.Option.{slice_get_within}
 use Rattle.dcp_types.specs.declared.addresses.Address.{Address}
 use Rattle.dcp_ends.specs.Logs.{same_address}
-use Rattle.dcp_ends.specs.Events.{Rules}
 use Rattle.dcp_ends.specs.declared.entries.LogEntry.{LogEntry}
 use Rattle.pdu_layout.specs.Reading.{message_in}
 use Rattle.slave_desc.specs.declared.descriptions.SlaveDesc.{SlaveDesc}
@@ -24,12 +22,12 @@ use Rattle.quiet_laws.specs.Quiet.{IsQuietPlan, NoneToSelf}
 use Rattle.quiet_laws.proofs.Lists.{Among, Each, each_weaker}
 use Rattle.quiet_laws.proofs.Sums.{total, total_few, PassesOne, covered}
 use Rattle.quiet_laws.proofs.Nets.{sent_count, pending}
-use Rattle.quiet_laws.proofs.Fronts.{onto, onto_append, got_count, sends_to, address_self, is_for, waits_for, G, given_onto, all_counted}
-use Rattle.quiet_laws.proofs.Looks.{sent_rises, Fresh, FreshAt, fresh_onto, fresh_at_onto, none_fresh, look_takes}
+use Rattle.quiet_laws.proofs.Fronts.{onto, onto_append, got_count, sends_to, address_self, is_for, waits_for, G, all_counted}
+use Rattle.quiet_laws.proofs.Looks.{sent_rises, Fresh, fresh_onto, fresh_at_onto, none_fresh, look_takes}
 use Rattle.quiet_laws.proofs.Counts.{sends_join, others_to, others_join, others_few, got_onto, got_join, got_look, got_turn, not_self_join, waits_more, between, beside_more}
 use Rattle.quiet_laws.proofs.Owing.{all_to_ends}
 use Rattle.quiet_laws.proofs.Along.{IsMoment, Along, along_here, along_end, along_front, along_back}
-use Rattle.quiet_laws.proofs.Mild.{slave_apart, master_apart, asked, mild_look, few_in_turn, IsMasters, masters_look, masters_turn}
+use Rattle.quiet_laws.proofs.Mild.{master_apart, mild_look, few_in_turn, IsMasters, masters_look, masters_turn}
 
 module _ (sc : Scenario) (other : SlaveDesc) (ok : IsScenario sc) where
   abbrev W : Parties
@@ -300,6 +298,7 @@ module _ (sc : Scenario) (other : SlaveDesc) (ok : IsScenario sc) where
       whole : onto part log ≡ B
       whole = ap (λ (p : List LogEntry). onto p log) l.form ∙ onto_append l.first l.rest log
 
+      -- no more than 1,424 are sent: the looks take 17 times 64 at most, and 336 wait after them at most
       sent_b : sent_count B ≤ sent_count log + 1424
       sent_b =
           let s = sent_few part log h in
