@@ -30,24 +30,29 @@ module _ (sc : Scenario) (other : SlaveDesc) (o : Opening) (quiet : IsQuietPlan 
   Along [] log = IsMoment log
   Along (e ∷ part) log = IsMoment log × Along part (e ∷ log)
 
+  -- it is known at the begin
   pub along_here : (part log : List LogEntry) → Along part log → IsMoment log
   along_here [] log h = h
   along_here (e ∷ part) log h = h.0
 
+  -- it is known at the end
   pub along_end : (part log : List LogEntry) → Along part log → IsMoment (onto part log)
   along_end [] log h = h
   along_end (e ∷ part) log h = along_end part (e ∷ log) h.1
 
+  -- it is known in a front of the part
   pub along_front : (p q log : List LogEntry) → Along (p ++ q) log → Along p log
   along_front [] q log h = along_here q log h
   along_front (e ∷ p) q log h = (h.0, along_front p q (e ∷ log) h.1)
 
+  -- it is known in the rest of the part
   pub along_back : (p q log : List LogEntry) → Along (p ++ q) log → Along q (onto p log)
   along_back [] q log h = h
   along_back (e ∷ p) q log h = along_back p q (e ∷ log) h.1
 
   -- a part of a log of which this is known at every moment
   module _ (whole : List LogEntry) (moment : (later sofar : List LogEntry) → whole ≡ later ++ sofar → IsMoment sofar) where
+    -- it is known in each part of it
     pub along_whole : (part log : List LogEntry) → whole ≡ onto part log → Along part log
     along_whole [] log e = moment [] log e
     along_whole (x ∷ part) log e =

@@ -49,22 +49,27 @@ use Rattle.quiet_laws.proofs.Passing.{IsReady, IsPassed, passes}
 honest_front : (w : Parties) (p q : List LogEntry) → Honest w (p ++ q) → Honest w p
 honest_front w p q h before after e z = h before (after ++ q) e (ap (λ (l : List LogEntry). l ++ q) z ∙ append_assoc before (e ∷ after) q)
 
+-- what holds of each holds of one of them
 each_there : {A : Type 0} → (P : A → Type 0) (before after : List A) (x : A) → Each P (before ++ x ∷ after) → P x
 each_there P [] after x h = h.0
 each_there P (y ∷ before) after x h = each_there P before after x h.1
 
 module _ (o : Opening) (quiet : IsQuietPlan o.plan) where
+  -- the network gave what was due, by the log with its newest entry first
   given_turned : (log : List LogEntry) → GivesDue o [] (without_turns log) → G o quiet (reverse log)
   given_turned log g = let P : List LogEntry → Type 0 = GivesDue o [] in subst P (sym (told_is log)) g
 
+  -- and by the log with its oldest entry first
   given_straight : (log : List LogEntry) → G o quiet (reverse log) → GivesDue o [] (without_turns log)
   given_straight log g = let P : List LogEntry → Type 0 = GivesDue o [] in subst P (told_is log) g
 
+  -- the network that gave what was due gave it in a front
   given_front : (before part : List LogEntry) → GivesDue o [] (without_turns (before ++ part)) → GivesDue o [] (without_turns before)
   given_front before part g =
       let P : List LogEntry → Type 0 = G o quiet in
       given_straight before (given_onto o quiet part (reverse before) (subst P (sym (onto_is part before)) (given_turned (before ++ part) g)))
 
+  -- and before what came later
   given_later : (later sofar : List LogEntry) → G o quiet (later ++ sofar) → G o quiet sofar
   given_later [] sofar g = g
   given_later (e ∷ later) sofar g = given_later later sofar (given_before o e (later ++ sofar) g)
@@ -126,6 +131,7 @@ module _ (sc : Scenario) (other : SlaveDesc) (ok : IsScenario sc) (o : Opening) 
   S = setup_from sc
 
   module _ (log : List LogEntry) (r : IsRunInRounds sc other log) (given : GivesDue o [] (without_turns log)) (none : (s : ℕ) → IsSlaveOf (parties sc other) s → NoneAgain (asks sc.master (slave_of sc s (slave_numbered sc other s)) (reverse log))) where
+    -- so it is at every moment
     moment : (later sofar : List LogEntry) → reverse log ≡ later ++ sofar → IsMoment sc other o quiet sofar
     moment later sofar split =
         let P : List LogEntry → Type 0 = λ z. IsRun S z in
@@ -141,16 +147,19 @@ module _ (sc : Scenario) (other : SlaveDesc) (ok : IsScenario sc) (o : Opening) 
               );
         }
 
+  -- before the first round nothing waits
   ready_none : IsReady sc other ok o quiet 0 []
   ready_none = record { fresh = tt; low = omega arith; high = omega arith; master = omega arith; slaves = λ s it. omega arith }
 
   -- ---- the rounds
   module _ (patient : IsPatient sc.limits) (none_again : NoneAskedAgain) where
+    -- each of these rounds brought what was sent before it, and the next may begin
     record IsBrought (n : ℕ) (log : List LogEntry) (rounds : Rounds (Some (master_rules sc)) (rules_of_slaves sc) n log) : Type 0 where
       pub brings : BringAll sc n log rounds
       pub base : ℕ
       pub ready : IsReady sc other ok o quiet base (reverse log)
 
+    -- so it is after one round more
     next : (n : ℕ) (before part : List LogEntry) (rounds : Rounds (Some (master_rules sc)) (rules_of_slaves sc) n before) (round : IsRound (Some (master_rules sc)) (rules_of_slaves sc) before part) → IsRunInRounds sc other (before ++ part)
         → GivesDue o [] (without_turns (before ++ part)) → IsBrought n before rounds → (log : List LogEntry) (split : log ≡ before ++ part) → IsBrought (suc n) log (before, part, split, rounds, round)
     next n before part rounds round run given ih log split = record {
@@ -180,6 +189,7 @@ module _ (sc : Scenario) (other : SlaveDesc) (ok : IsScenario sc) (o : Opening) 
         passed : IsPassed sc other ok o quiet (reverse before) round.looks part
         passed = passes sc other ok o quiet ih.base (reverse before) ih.ready before part round along
 
+    -- so it is after all of them
     brought : (n : ℕ) (log : List LogEntry) (rounds : Rounds (Some (master_rules sc)) (rules_of_slaves sc) n log) → IsRunInRounds sc other log → GivesDue o [] (without_turns log) → IsBrought n log rounds
     brought zero log rounds run given =
         let P : List LogEntry → Type 0 = λ z. IsReady sc other ok o quiet 0 (reverse z) in

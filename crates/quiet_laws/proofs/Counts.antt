@@ -28,10 +28,12 @@ other_to m a (Got at from bytes) = 0
 other_to m a (Idle at) = 0
 other_to m a (Turn at) = 0
 
+-- the same of a part
 abbrev pub others_to : Address → Address → List LogEntry → ℕ
 others_to m a [] = 0
 others_to m a (e ∷ part) = other_to m a e + others_to m a part
 
+-- those of two parts are together those of the whole
 pub others_join : (m a : Address) (p q : List LogEntry) → others_to m a (p ++ q) ≡ others_to m a p + others_to m a q
 others_join m a [] q = omega arith
 others_join m a (e ∷ p) q = let h = others_join m a p q in omega (arith, h)
@@ -71,6 +73,7 @@ got_onto (Got at from bytes ∷ part) log = let h = got_onto part (Got at from b
 got_onto (Idle at ∷ part) log = got_onto part (Idle at ∷ log)
 got_onto (Turn at ∷ part) log = got_onto part (Turn at ∷ log)
 
+-- those of two parts are together those of the whole
 pub got_join : (p q : List LogEntry) → got_count (p ++ q) ≡ got_count p + got_count q
 got_join [] q = omega arith
 got_join (Sent from to bytes ∷ p) q = got_join p q
@@ -78,6 +81,7 @@ got_join (Got at from bytes ∷ p) q = let h = got_join p q in omega (arith, h)
 got_join (Idle at ∷ p) q = got_join p q
 got_join (Turn at ∷ p) q = got_join p q
 
+-- sends take none
 pub got_sents : (a : Address) (part : List LogEntry) → AllSent a part → got_count part ≡ 0
 got_sents a [] h = refl
 got_sents a (Sent from to bytes ∷ part) h = got_sents a part h.1
@@ -85,6 +89,7 @@ got_sents a (Got at from bytes ∷ part) h = absurd h
 got_sents a (Idle at ∷ part) h = absurd h
 got_sents a (Turn at ∷ part) h = absurd h
 
+-- so many takes take so many
 pub got_gots : (a : Address) (n : ℕ) (part : List LogEntry) → Gots a n part → got_count part ≡ n
 got_gots a zero part g = ap got_count g
 got_gots a (suc n) part g =
@@ -123,6 +128,7 @@ bit_false : (b : Bool) → bit b ≡ 0 → b ≡ false
 bit_false true h = absurd (omega (arith, h))
 bit_false false h = refl
 
+-- what the end sends goes to others
 pub none_to_self : (a : Address) (part : List LogEntry) → AllSent a part → sends_to a part ≡ 0 → NoneToSelf part
 none_to_self a [] h z = tt
 none_to_self a (Sent from to bytes ∷ part) h z =
@@ -132,6 +138,7 @@ none_to_self a (Got at from bytes ∷ part) h z = absurd h
 none_to_self a (Idle at ∷ part) h z = absurd h
 none_to_self a (Turn at ∷ part) h z = absurd h
 
+-- so it is of two parts together
 pub not_self_join : (p q : List LogEntry) → NoneToSelf p → NoneToSelf q → NoneToSelf (p ++ q)
 not_self_join [] q a b = b
 not_self_join (Sent from to bytes ∷ p) q a b = (a.0, not_self_join p q a.1 b)
@@ -166,12 +173,15 @@ module _ (o : Opening) (quiet : IsQuietPlan o.plan) where
     abbrev pub is_between : Arrival → Bool
     is_between d = same_address d.from m && same_address d.to a
 
+    -- how many of them wait
     abbrev pub between : List LogEntry → ℕ
     between log = tally is_between (pending o log)
 
+    -- one more waits where m sends to a
     pub between_sent : (from to : Address) (bytes : List ℕ) (log : List LogEntry) → between (Sent from to bytes ∷ log) ≡ between log + bit (same_address from m && same_address to a)
     between_sent from to bytes log = ap (tally is_between) (pending_sent o quiet from to bytes log) ∙ tally_place is_between (letter o log from to bytes) (pending o log)
 
+    -- one less waits where a gets what m sent
     pub between_got : (at from : Address) (bytes : List ℕ) (log : List LogEntry) → G o quiet (Got at from bytes ∷ log) → between log ≡ between (Got at from bytes ∷ log) + bit (same_address from m && same_address at a)
     between_got at from bytes log g =
         let t = got_given o at from bytes log g in
@@ -198,11 +208,13 @@ module _ (o : Opening) (quiet : IsQuietPlan o.plan) where
     between_sents b (Idle at ∷ part) log n h = absurd h
     between_sents b (Turn at ∷ part) log n h = absurd h
 
+    -- both are no more often than the second
     bit_and : (b c : Bool) → bit (b && c) ≤ bit c
     bit_and true c = omega arith
     bit_and false true = omega arith
     bit_and false false = omega arith
 
+    -- a message to a is one of m or of another end
     bit_sent : (b c : Bool) → bit c ≤ bit (b && c) + (if b then 0 else bit c)
     bit_sent true c = omega arith
     bit_sent false true = omega arith

@@ -25,6 +25,7 @@ use Rattle.quiet_laws.proofs.Little.{little}
 use Rattle.quiet_laws.proofs.Owing.{owes, sends_front, got_owes, OwesMaster, master_sends}
 use Rattle.quiet_laws.proofs.Along.{IsMoment, Along, along_here, along_end, along_front, along_back}
 
+-- two addresses that differ are told apart
 not_same : (a b : Address) → (a ≡ b → ⊥) → same_address a b ≡ false
 not_same a b h = by (same_address a b) refl
   where
@@ -32,6 +33,7 @@ not_same a b h = by (same_address a b) refl
     by true e = absurd (h (address_is a b e))
     by false e = e
 
+-- a look has 64 takes, or fewer
 at_most : (n : ℕ) → n ≤ 64 → (n ≡ 64) ⊎ (n < 64)
 at_most n h = grind arith
 
@@ -42,9 +44,11 @@ module _ (sc : Scenario) (other : SlaveDesc) (ok : IsScenario sc) (o : Opening) 
   abbrev M : List LogEntry → List LogEntry → Type 0
   M part log = Along sc other o quiet part log
 
+  -- a slave is not at the master's address
   pub slave_apart : (s : ℕ) → IsSlaveOf W s → same_address (W.slave s) W.master ≡ false
   slave_apart s it = not_same (W.slave s) W.master ((are_slaves sc other ok).apart.master s it)
 
+  -- the master is not at a slave's address
   pub master_apart : (s : ℕ) → IsSlaveOf W s → same_address W.master (W.slave s) ≡ false
   master_apart s it = not_same W.master (W.slave s) (λ e. (are_slaves sc other ok).apart.master s it (sym e))
 
@@ -60,9 +64,11 @@ module _ (sc : Scenario) (other : SlaveDesc) (ok : IsScenario sc) (o : Opening) 
       pub to_others : (b : Address) → same_address W.master b ≡ false → sends_to b part ≡ 0
       pub not_self : NoneToSelf part
 
+    -- an empty part is so
     mild_none : (log : List LogEntry) → IsMild [] log
     mild_none log = record { to_master = omega arith; to_others = λ b h. refl; not_self = tt }
 
+    -- two parts that are so are so together
     mild_join : (p q log : List LogEntry) → IsMild p log → IsMild q (onto p log) → IsMild (p ++ q) log
     mild_join p q log x y = record {
       to_master = (
@@ -76,12 +82,15 @@ module _ (sc : Scenario) (other : SlaveDesc) (ok : IsScenario sc) (o : Opening) 
       not_self = not_self_join p q x.not_self y.not_self;
     }
 
+    -- a take that gives nothing is so
     mild_idle : (log : List LogEntry) → IsMild (Idle (W.slave s) ∷ []) log
     mild_idle log = record { to_master = (let k = ap (tally (is_between o quiet W.master (W.slave s))) (pending_idle o (W.slave s) log) in omega (arith, k)); to_others = λ b h. refl; not_self = tt }
 
+    -- nothing owed goes nowhere
     posts_none : (a : Address) (ps : List Post) → ps ≡ [] → posts_to a ps ≡ 0
     posts_none a ps e = ap (posts_to a) e
 
+    -- one message to the master goes to it alone
     posts_one : (a : Address) (bytes : List ℕ) (ps : List Post) → ps ≡ record { to = W.master; bytes = bytes } ∷ [] → posts_to a ps ≡ bit (same_address W.master a)
     posts_one a bytes ps e = ap (posts_to a) e ∙ by (same_address W.master a)
       where
@@ -89,6 +98,7 @@ module _ (sc : Scenario) (other : SlaveDesc) (ok : IsScenario sc) (o : Opening) 
         by true = omega arith
         by false = omega arith
 
+    -- a take with its sends is so
     got_mild : (from : Address) (bytes : List ℕ) (sents log : List LogEntry) → AllSent (W.slave s) sents → M (Got (W.slave s) from bytes ∷ sents) log → IsMild (Got (W.slave s) from bytes ∷ sents) log
     got_mild from bytes sents log own h = record {
       to_master = (let k = by owed in omega (arith, k));
@@ -132,12 +142,14 @@ module _ (sc : Scenario) (other : SlaveDesc) (ok : IsScenario sc) (o : Opening) 
             ∙ ap (λ (c : Bool). bit (c && same_address (W.slave s) (W.slave s))) (address_self W.master) ∙ ap bit (address_self (W.slave s)) in
             omega (arith, f, k, own_one, one, taken, later)
 
+    -- so is each take
     mild_got : (part log : List LogEntry) → IsGot (W.slave s) part → M part log → IsMild part log
     mild_got part log g h =
         let P : List LogEntry → Type 0 = λ z. IsMild z log in
         let Q : List LogEntry → Type 0 = λ z. M z log in
         subst P (sym g.form) (got_mild g.from g.bytes g.sents log g.own (subst Q g.form h))
 
+    -- so are takes
     mild_gots : (n : ℕ) (part log : List LogEntry) → Gots (W.slave s) n part → M part log → IsMild part log
     mild_gots zero part log g h = let P : List LogEntry → Type 0 = λ z. IsMild z log in subst P (sym g) (mild_none log)
     mild_gots (suc n) part log g h =
@@ -147,6 +159,7 @@ module _ (sc : Scenario) (other : SlaveDesc) (ok : IsScenario sc) (o : Opening) 
         subst P (sym g.2)
         (mild_join g.0 g.1 log (mild_gots n g.0 log g.3 (along_front sc other o quiet g.0 g.1 log k)) (mild_got g.1 (onto g.0 log) g.4 (along_back sc other o quiet g.0 g.1 log k)))
 
+    -- so is a look
     pub mild_look : (part log : List LogEntry) → IsLook (W.slave s) part → M part log → IsMild part log
     mild_look part log l h = by (at_most l.count l.most)
       where
@@ -168,6 +181,7 @@ module _ (sc : Scenario) (other : SlaveDesc) (ok : IsScenario sc) (o : Opening) 
       pub to_master : sends_to W.master part ≤ 2
       pub to_others : (b : Address) → same_address W.master b ≡ false → sends_to b part ≤ 1
 
+    -- a turn with its sends is so
     turn_sends : (sents log : List LogEntry) → AllSent (W.slave s) sents → M (Turn (W.slave s) ∷ sents) log → IsFewInTurn (Turn (W.slave s) ∷ sents)
     turn_sends sents log own h =
         let L = Turn (W.slave s) ∷ log in
@@ -179,6 +193,7 @@ module _ (sc : Scenario) (other : SlaveDesc) (ok : IsScenario sc) (o : Opening) 
           to_others = λ b z. (let f = sends_front sc other ok s it b sents L own last.behaves in let k = (owed.1).1 b z in omega (arith, f, k));
         }
 
+    -- so is each turn
     pub few_in_turn : (part log : List LogEntry) → IsTurn (W.slave s) part → M part log → IsFewInTurn part
     few_in_turn part log t h =
         let Q : List LogEntry → Type 0 = λ z. M z log in
@@ -190,9 +205,11 @@ module _ (sc : Scenario) (other : SlaveDesc) (ok : IsScenario sc) (o : Opening) 
     pub others : (b : Address) → others_to W.master b part ≡ 0
     pub not_self : NoneToSelf part
 
+  -- an empty part is so
   masters_none : IsMasters []
   masters_none = record { to_master = refl; others = λ b. refl; not_self = tt }
 
+  -- two parts that are so are so together
   masters_join : (p q : List LogEntry) → IsMasters p → IsMasters q → IsMasters (p ++ q)
   masters_join p q x y = record {
     to_master = (let k = sends_join W.master p q in let u = x.to_master in let v = y.to_master in omega (arith, k, u, v));
@@ -200,9 +217,11 @@ module _ (sc : Scenario) (other : SlaveDesc) (ok : IsScenario sc) (o : Opening) 
     not_self = not_self_join p q x.not_self y.not_self;
   }
 
+  -- a take that gives nothing is so
   masters_idle : IsMasters (Idle W.master ∷ [])
   masters_idle = record { to_master = refl; others = λ b. refl; not_self = tt }
 
+  -- what the master sends goes to slaves
   none_to_master : (sents log : List LogEntry) → AllSent W.master sents → M sents log → sends_to W.master sents ≡ 0
   none_to_master [] log own h = refl
   none_to_master (Sent from to bytes ∷ sents) log own h =
@@ -216,11 +235,13 @@ module _ (sc : Scenario) (other : SlaveDesc) (ok : IsScenario sc) (o : Opening) 
   none_to_master (Idle at ∷ sents) log own h = absurd own
   none_to_master (Turn at ∷ sents) log own h = absurd own
 
+  -- so its sends are so
   masters_sents : (sents log : List LogEntry) → AllSent W.master sents → M sents log → IsMasters sents
   masters_sents sents log own h =
       let z = none_to_master sents log own h in
       record { to_master = z; others = λ b. others_own W.master b sents own; not_self = none_to_self W.master sents own z }
 
+  -- so is each take
   masters_got : (part log : List LogEntry) → IsGot W.master part → M part log → IsMasters part
   masters_got part log g h =
       let Q : List LogEntry → Type 0 = λ z. M z log in
@@ -228,6 +249,7 @@ module _ (sc : Scenario) (other : SlaveDesc) (ok : IsScenario sc) (o : Opening) 
       let r = masters_sents g.sents (Got W.master g.from g.bytes ∷ log) g.own k.1 in
       subst IsMasters (sym g.form) (record { to_master = (let z = r.to_master in omega (arith, z)); others = λ b. (let z = r.others b in omega (arith, z)); not_self = r.not_self })
 
+  -- so are takes
   masters_gots : (n : ℕ) (part log : List LogEntry) → Gots W.master n part → M part log → IsMasters part
   masters_gots zero part log g h = subst IsMasters (sym g) masters_none
   masters_gots (suc n) part log g h =
@@ -236,6 +258,7 @@ module _ (sc : Scenario) (other : SlaveDesc) (ok : IsScenario sc) (o : Opening) 
       subst IsMasters (sym g.2)
       (masters_join g.0 g.1 (masters_gots n g.0 log g.3 (along_front sc other o quiet g.0 g.1 log k)) (masters_got g.1 (onto g.0 log) g.4 (along_back sc other o quiet g.0 g.1 log k)))
 
+  -- so is a look
   pub masters_look : (part log : List LogEntry) → IsLook W.master part → M part log → IsMasters part
   masters_look part log l h = by (at_most l.count l.most)
     where
@@ -248,6 +271,7 @@ module _ (sc : Scenario) (other : SlaveDesc) (ok : IsScenario sc) (o : Opening) 
           let k = subst Q (l.idle e) h in
           subst IsMasters (sym (l.idle e)) (masters_join l.gots (Idle W.master ∷ []) (masters_gots l.count l.gots log l.form (along_front sc other o quiet l.gots (Idle W.master ∷ []) log k)) masters_idle)
 
+  -- so is a turn
   pub masters_turn : (part log : List LogEntry) → IsTurn W.master part → M part log → IsMasters part
   masters_turn part log t h =
       let Q : List LogEntry → Type 0 = λ z. M z log in

@@ -51,10 +51,12 @@ first_counts : (a to : Address) (bytes : List ℕ) (ps : List Post) → IsFirstP
 first_counts a to bytes [] f = absurd f
 first_counts a to bytes (p ∷ ps) f = posts_more a p ps ∙ ap (λ (x : Address). bit (same_address x a) + posts_to a ps) f.0
 
+-- the first of them goes to an end, where all do
 first_end : (w : Parties) (to : Address) (bytes : List ℕ) (ps : List Post) → IsFirstPost ps to bytes → AllToEnds w ps → IsEnd w to
 first_end w to bytes [] f a = absurd f
 first_end w to bytes (p ∷ ps) f a = let P : Address → Type 0 = IsEnd w in subst P f.0 a.0
 
+-- so do the others
 tail_ends : (w : Parties) (ps : List Post) → AllToEnds w ps → AllToEnds w (tail ps)
 tail_ends w [] a = tt
 tail_ends w (p ∷ ps) a = a.1
@@ -69,13 +71,10 @@ module _ (sc : Scenario) (other : SlaveDesc) (ok : IsScenario sc) where
   abbrev S : Setup
   S = setup_from sc
 
+  -- what behaves in a log with a part behaves in the log
   pub behaves_onto : (part log : List LogEntry) → Behaves W X (onto part log) → Behaves W X log
   behaves_onto [] log b = b
   behaves_onto (e ∷ part) log b = earlier W X (are_slaves sc other ok) e log (behaves_onto part (e ∷ log) b)
-
-  pub runs_onto : (part log : List LogEntry) → IsRun S (onto part log) → IsRun S log
-  runs_onto [] log r = r
-  runs_onto (e ∷ part) log r = (runs_onto part (e ∷ log) r).1
 
   -- ---- a slave
   module _ (s : ℕ) (it : IsSlaveOf (parties sc other) s) where
@@ -89,6 +88,7 @@ module _ (sc : Scenario) (other : SlaveDesc) (ok : IsScenario sc) where
     abbrev pub owes : List LogEntry → List Post
     owes log = (at M W s log).desk.owed
 
+    -- what the slave sends is its move, whatever it says
     tells : (from to : Address) (bytes : List ℕ) (k : Role) → same from (W.slave s) ≡ true → sent_move W s from to bytes k ≡ Tells to bytes
     tells from to bytes (Request receiver n) e = by (same from W.master) refl (same to (W.slave s))
       where
@@ -99,9 +99,11 @@ module _ (sc : Scenario) (other : SlaveDesc) (ok : IsScenario sc) where
     tells from to bytes (Value id n) e = cond-true (same from (W.slave s)) (Tells to bytes) Other e
     tells from to bytes Else e = cond-true (same from (W.slave s)) (Tells to bytes) Other e
 
+    -- so it is for an entry
     own_move : (from to : Address) (bytes : List ℕ) → from ≡ W.slave s → move W s (Sent from to bytes) ≡ Tells to bytes
     own_move from to bytes e = tells from to bytes (role_heard W bytes) (ap (λ (x : Address). same x (W.slave s)) e ∙ same_self (W.slave s))
 
+    -- after a send it owes the rest
     owes_next : (from to : Address) (bytes : List ℕ) (log : List LogEntry) → from ≡ W.slave s → owes (Sent from to bytes ∷ log) ≡ tail (owes log)
     owes_next from to bytes log e = ap (λ (m : Move). (sent_next M W s m (at M W s log)).desk.owed) (own_move from to bytes e)
 
@@ -128,13 +130,16 @@ module _ (sc : Scenario) (other : SlaveDesc) (ok : IsScenario sc) where
     abbrev pub OwesMaster : Address → List Post → Type 0
     OwesMaster from ps = (ps ≡ []) ⊎ ((from ≡ W.master) × ((b : List ℕ) × (ps ≡ record { to = W.master; bytes = b } ∷ [])))
 
+    -- what it owes after what it heard
     abbrev heard_owes : Address → List LogEntry → spec.Heard → List Post
     heard_owes from log h = map post (transport.heard_sends M (at M W s log).slave from h)
 
+    -- what it owes after a datagram is what it owes after what it heard in it
     owes_heard : (at' from : Address) (bytes : List ℕ) (log : List LogEntry) → at' ≡ W.slave s → owes (Got at' from bytes ∷ log) ≡ heard_owes from log (spec.heard bytes)
     owes_heard at' from bytes log e =
         ap (λ (c : Bool). (if c then got M W s from bytes (at M W s log) else at M W s log).desk.owed) (ap (λ (x : Address). same x (W.slave s)) e ∙ same_self (W.slave s))
 
+    -- what is no request of the master is not answered
     by_role : (from : Address) (bytes : List ℕ) (log : List LogEntry) → Behaves W X log → IsRun S log → IsRepeatedNewest W log (W.slave s) from bytes
         → (k : Role) (h : spec.Heard) → role_heard W bytes ≡ k → Agree k h → (heard_owes from log h ≡ []) ⊎ (from ≡ W.master)
     by_role from bytes log b run r (Request receiver n) (spec.Asks q) e a = inr (comes_of_master sc other ok s it log b run from bytes receiver n r e).from_is
@@ -150,6 +155,7 @@ module _ (sc : Scenario) (other : SlaveDesc) (ok : IsScenario sc) where
     by_role from bytes log b run r Else (spec.Brings number i payload) e a = absurd a
     by_role from bytes log b run r Else spec.Nothing e a = inl refl
 
+    -- so it is after each datagram
     pub got_owes : (at' from : Address) (bytes : List ℕ) (log : List LogEntry) → at' ≡ W.slave s → Behaves W X (Got at' from bytes ∷ log) → IsRun S (Got at' from bytes ∷ log) → OwesMaster from (owes (Got at' from bytes ∷ log))
     got_owes at' from bytes log here b run =
         let P : Address → Type 0 = λ a. IsRepeatedNewest W log a from bytes in
@@ -177,10 +183,12 @@ module _ (sc : Scenario) (other : SlaveDesc) (ok : IsScenario sc) where
     next_ends Rests x a = a
     next_ends Other x a = a
 
+    -- a message to the master goes to an end
     master_ends : (from : Address) (ps : List Post) → OwesMaster from ps → AllToEnds W ps
     master_ends from ps (inl e) = let P : List Post → Type 0 = AllToEnds W in subst P (sym e) tt
     master_ends from ps (inr e) = let P : List Post → Type 0 = AllToEnds W in subst P (sym (e.1).1) (inl refl, tt)
 
+    -- so it is at every moment
     pub owes_ends : (log : List LogEntry) → Behaves W X log → IsRun S log → AllToEnds W (owes log)
     owes_ends [] b run = tt
     owes_ends (Sent from to bytes ∷ log) b run = next_ends (move W s (Sent from to bytes)) (at M W s log) (owes_ends log (earlier W X (are_slaves sc other ok) (Sent from to bytes) log b) run.1)

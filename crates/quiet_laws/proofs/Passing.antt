@@ -38,19 +38,24 @@ module _ (sc : Scenario) (other : SlaveDesc) (ok : IsScenario sc) where
   AllSlaves [] = Unit {0}
   AllSlaves (a ∷ places) = ((s : ℕ) × IsSlaveOf W s × (a ≡ W.slave s)) × AllSlaves places
 
+  -- the places of these slaves
   abbrev places_from : List SlaveDesc → List Address
   places_from ds = places_of (map (λ (d : SlaveDesc). slave_rules_from (record { desc = d; micro = sc.micro })) ds)
 
+  -- the places of the slaves of the scenario
   abbrev pub places : List Address
   places = places_of (rules_of_slaves sc)
 
+  -- each of these places is that of a slave
   slaves_from : (ds : List SlaveDesc) → ((i : ℕ) (d : SlaveDesc) → slice_get ds i ≡ Some d → (s : ℕ) × IsSlaveOf W s × (d.address ≡ W.slave s)) → AllSlaves (places_from ds)
   slaves_from [] f = tt
   slaves_from (d ∷ ds) f = (f 0 d refl, slaves_from ds (λ i x e. f (suc i) x e))
 
+  -- each of the places is that of a slave
   pub all_slaves : AllSlaves places
   all_slaves = slaves_from sc.slaves found
     where
+      -- what goes to an end goes to the master or to one of the slaves
       found : (i : ℕ) (d : SlaveDesc) → slice_get sc.slaves i ≡ Some d → (s : ℕ) × IsSlaveOf W s × (d.address ≡ W.slave s)
       found i d e =
           let lt = slice_get_within sc.slaves i d e in
@@ -60,18 +65,22 @@ module _ (sc : Scenario) (other : SlaveDesc) (ok : IsScenario sc) where
           let z : d ≡ slave_numbered sc other (i + 1) = cc in
           (i + 1, is, ap (λ (x : SlaveDesc). x.address) z)
 
+  -- the place of each of these slaves is one of them
   place_among : (ds : List SlaveDesc) (i : ℕ) (d : SlaveDesc) → slice_get ds i ≡ Some d → Among d.address (places_from ds)
   place_among [] i d e = absurd cc
   place_among (x ∷ ds) zero d e = let z : x ≡ d = cc in inl (ap (λ (y : SlaveDesc). y.address) (sym z))
   place_among (x ∷ ds) (suc i) d e = inr (place_among ds i d e)
 
+  -- the place of each slave is one of them
   pub slave_among : (s : ℕ) → IsSlaveOf W s → Among (W.slave s) places
   slave_among s it = place_among sc.slaves (s - 1) (slave_numbered sc other s) ((has_parties sc other ok message_in).desc s it)
 
+  -- they are as many as these slaves
   places_long : (ds : List SlaveDesc) → length (places_from ds) ≡ length ds
   places_long [] = refl
   places_long (d ∷ ds) = let h = places_long ds in omega (arith, h)
 
+  -- they are as many as the slaves
   pub few_places : length places ≡ W.count
   few_places = places_long sc.slaves
 
@@ -89,6 +98,7 @@ module _ (sc : Scenario) (other : SlaveDesc) (ok : IsScenario sc) where
       pub not_self : NoneToSelf part
       pub gots : got_count part ≤ 64 * n
 
+    -- a look of one slave
     one_mild : (a : Address) → (s : ℕ) × IsSlaveOf W s × (a ≡ W.slave s) → (part log : List LogEntry) → IsLook a part → M part log → AreMild 1 part
     one_mild a m part log l h =
         let P : Address → Type 0 = λ x. IsLook x part in
@@ -97,6 +107,7 @@ module _ (sc : Scenario) (other : SlaveDesc) (ok : IsScenario sc) where
         let few = (along_here sc other o quiet part log h).few m.0 m.1 in
         record { to_master = (let u = k.to_master in omega (arith, u, few)); to_others = k.to_others; not_self = k.not_self; gots = omega (arith, g) }
 
+    -- the looks of all of them
     slaves_mild : (ends : List Address) → AllSlaves ends → (part log : List LogEntry) → EachEnd IsLook ends part → M part log → AreMild (length ends) part
     slaves_mild [] all part log l h =
         let P : List LogEntry → Type 0 = AreMild 0 in
@@ -179,6 +190,7 @@ module _ (sc : Scenario) (other : SlaveDesc) (ok : IsScenario sc) where
       pub to_others : (b : Address) → same_address W.master b ≡ false → sends_to b part ≤ n
       pub gots : got_count part ≡ 0
 
+    -- their turns
     slaves_few : (ends : List Address) → AllSlaves ends → (part log : List LogEntry) → EachEnd IsTurn ends part → M part log → AreFew (length ends) part
     slaves_few [] all part log l h =
         let P : List LogEntry → Type 0 = AreFew 0 in
@@ -203,6 +215,7 @@ module _ (sc : Scenario) (other : SlaveDesc) (ok : IsScenario sc) where
     found d (inl e) = inl (ap (λ (x : Address). same_address x W.master) e ∙ address_self W.master)
     found d (inr m) = inr (m.0, (m.1).0, (m.1).1, ap (λ (x : Address). same_address x (W.slave m.0)) m.2 ∙ address_self (W.slave m.0))
 
+    -- so few wait in all
     all_waiting : (log : List LogEntry) → IsMoment sc other o quiet log → ((s : ℕ) → IsSlaveOf W s → waits (W.slave s) log ≤ 17) → length (pending o log) ≤ waits W.master log + 17 * W.count
     all_waiting log here few =
         let ends = each_weaker (λ (d : Arrival). IsEnd W d.to) (PassesOne (is_for o quiet W.master) (λ s. is_for o quiet (W.slave s)) W.count) found (pending o log) (all_to_ends sc other ok o quiet log here.behaves here.runs) in
@@ -210,6 +223,7 @@ module _ (sc : Scenario) (other : SlaveDesc) (ok : IsScenario sc) where
         let t : total (λ s. waits (W.slave s) log) W.count ≤ 17 * W.count = total_few (λ s. waits (W.slave s) log) W.count (λ s low high. few s (low, high)) in
         omega (arith, c, t)
 
+    -- what was sent in a part waits, or was taken in it
     sent_few : (part log : List LogEntry) → M part log → sent_count (onto part log) ≤ sent_count log + (length (pending o (onto part log)) + got_count part)
     sent_few part log h =
         let a = all_counted o quiet log (along_here sc other o quiet part log h).gives in
@@ -225,9 +239,11 @@ module _ (sc : Scenario) (other : SlaveDesc) (ok : IsScenario sc) where
       pub master : waits W.master log ≤ 48
       pub slaves : (s : ℕ) → IsSlaveOf W s → waits (W.slave s) log ≤ between o quiet W.master (W.slave s) log + 16
 
+    -- there are 16 slaves at most
     few_slaves : W.count ≤ 16
     few_slaves = ok.few_slaves.1
 
+    -- what waits for each end was sent from this number on, so all that waits was
     fresh_all : (new : ℕ) (w : List Arrival) → Each (λ (d : Arrival). IsEnd W d.to) w → Each (λ (d : Arrival). is_for o quiet W.master d ≡ true → new ≤ d.number) w
         → ((s : ℕ) → IsSlaveOf W s → Each (λ (d : Arrival). is_for o quiet (W.slave s) d ≡ true → new ≤ d.number) w) → Each (λ (d : Arrival). new ≤ d.number) w
     fresh_all new [] ends m f = tt
@@ -239,9 +255,11 @@ module _ (sc : Scenario) (other : SlaveDesc) (ok : IsScenario sc) where
 
     -- ---- the looks of a round
     module _ (base : ℕ) (log : List LogEntry) (ready : IsReady base log) (part : List LogEntry) (l : IsLooks (Some (master_rules sc)) (rules_of_slaves sc) part) (h : M part log) where
+      -- after the master's look
       abbrev A : List LogEntry
       A = onto l.first log
 
+      -- after the looks of all
       abbrev B : List LogEntry
       B = onto l.rest A
 
@@ -260,18 +278,22 @@ module _ (sc : Scenario) (other : SlaveDesc) (ok : IsScenario sc) where
       at_b : IsMoment sc other o quiet B
       at_b = along_end sc other o quiet l.rest A along_rest
 
+      -- what the master sends
       of_master : IsMasters sc other ok o quiet l.first
       of_master = masters_look sc other ok o quiet l.first log l.own along_first
 
+      -- what the slaves send
       of_slaves : AreMild (length places) l.rest
       of_slaves = slaves_mild places all_slaves l.rest A l.others along_rest
 
+      -- little waits for a slave after the master's look
       slaves_a : (s : ℕ) → IsSlaveOf W s → waits (W.slave s) A ≤ between o quiet W.master (W.slave s) A + 16
       slaves_a s it =
           let x = beside_more o quiet W.master (W.slave s) 16 l.first log at_a.gives (ready.slaves s it) in
           let z = of_master.others (W.slave s) in
           omega (arith, x, z)
 
+      -- and little after the looks of all
       slaves_b : (s : ℕ) → IsSlaveOf W s → waits (W.slave s) B ≤ 17
       slaves_b s it =
           let x = beside_more o quiet W.master (W.slave s) 16 l.rest A at_b.gives (slaves_a s it) in
@@ -280,12 +302,15 @@ module _ (sc : Scenario) (other : SlaveDesc) (ok : IsScenario sc) where
           let v = at_b.few s it in
           omega (arith, x, f, u, v)
 
+      -- no more waits for the master after its look
       master_a : waits W.master A ≤ 48
       master_a = let x = waits_more o quiet W.master l.first log at_a.gives in let z = of_master.to_master in let r = ready.master in omega (arith, x, z, r)
 
+      -- and one more for each slave after the looks of all
       master_b : waits W.master B ≤ waits W.master A + W.count
       master_b = let x = waits_more o quiet W.master l.rest A at_b.gives in let z = of_slaves.to_master in let e = few_places in omega (arith, x, z, e)
 
+      -- each look takes 64 at most
       gots_few : got_count part ≤ 64 + 64 * W.count
       gots_few =
           let e = ap got_count l.form in
@@ -311,6 +336,7 @@ module _ (sc : Scenario) (other : SlaveDesc) (ok : IsScenario sc) where
           let n = few_slaves in
           omega (arith, s, e, p, w, a, b, g, n)
 
+      -- so all that waits is recent
       high_b : sent_count B ≤ base + 32767
       high_b = let s = sent_b in let r = ready.high in omega (arith, s, r)
 
@@ -320,23 +346,28 @@ module _ (sc : Scenario) (other : SlaveDesc) (ok : IsScenario sc) where
       low_a : base ≤ sent_count A + 1
       low_a = let s = ready.low in let r = sent_rises l.first log in omega (arith, s, r)
 
+      -- the master's look takes all that waits for it
       master_taken : waits W.master A ≡ 0
       master_taken =
           let few : waits W.master log ≤ 64 = (let r = ready.master in omega (arith, r)) in
           look_takes o quiet W.master l.first log base l.own at_a.gives of_master.not_self few ready.fresh ready.low high_a
 
+      -- little waits for a slave before its look
       few_a : (s : ℕ) → IsSlaveOf W s → waits (W.slave s) A ≤ 64
       few_a s it = let x = slaves_a s it in let v = at_a.few s it in omega (arith, x, v)
 
+      -- the looks of the slaves take all that waits for them
       slaves_taken : (s : ℕ) → IsSlaveOf W s → waits (W.slave s) B ≡ 0
       slaves_taken s it = slaves_take places all_slaves l.rest A base l.others along_rest (fresh_onto o quiet base l.first log ready.low ready.fresh) low_a high_b few_a s it (slave_among s it)
 
+      -- the number of the first message of the round
       abbrev new : ℕ
       new = sent_count log + 1
 
       new_a : new ≤ sent_count A + 1
       new_a = let r = sent_rises l.first log in omega (arith, r)
 
+      -- so all that waits after the looks was sent in them
       fresh_b : Fresh o quiet new B
       fresh_b =
           fresh_all new (pending o B) (all_to_ends sc other ok o quiet B at_b.behaves at_b.runs)
@@ -371,9 +402,11 @@ module _ (sc : Scenario) (other : SlaveDesc) (ok : IsScenario sc) where
       turn_rest : M t.rest (onto t.first log)
       turn_rest = along_back sc other o quiet t.first t.rest log both_turns
 
+      -- what the master sends
       turn_of_master : IsMasters sc other ok o quiet t.first
       turn_of_master = masters_turn sc other ok o quiet t.first log t.own turn_first
 
+      -- what the slaves send
       turns_of_slaves : AreFew (length places) t.rest
       turns_of_slaves = by (has_report (Some (master_rules sc)) (before ++ t.first)) t.others
         where
@@ -407,6 +440,7 @@ module _ (sc : Scenario) (other : SlaveDesc) (ok : IsScenario sc) where
       pub looked : Fresh o quiet (sent_count log + 1) (onto looks log)
       pub ready : IsReady (sent_count log + 1) (onto part log)
 
+    -- a round that begins so ends so
     pub passes : (base : ℕ) (log : List LogEntry) → IsReady base log → (before part : List LogEntry) (r : IsRound (Some (master_rules sc)) (rules_of_slaves sc) before part) → M part log → IsPassed log r.looks part
     passes base log ready before part r h = record {
       looked = l.fresh;

@@ -35,6 +35,7 @@ module _ {A : Type 0} (p : A → Bool) (q : ℕ → A → Bool) (n : ℕ) where
   abbrev pub PassesOne : A → Type 0
   PassesOne x = (p x ≡ true) ⊎ ((s : ℕ) × (0 < s) × (s ≤ n) × (q s x ≡ true))
 
+  -- so one of the tests counts it
   one_bit : (x : A) → PassesOne x → 1 ≤ bit (p x) + total (λ s. bit (q s x)) n
   one_bit x (inl e) = let k : bit (p x) ≡ 1 = ap bit e in omega (arith, k)
   one_bit x (inr m) =
