@@ -15,3 +15,11 @@ pub mod Again
 pub mod Requests
 pub mod Late
 pub mod Once
+pub mod Sums
+pub mod Counts
+pub mod Before
+pub mod Owing
+pub mod Along
+pub mod Mild
+pub mod Passing
+pub mod Brings
