@@ -1,5 +1,5 @@
 use Rattle.lockstep_laws.proofs.Places.{step_together, in_step}
-use Rattle.lockstep_laws.proofs.lockstep.slaves_keep_together.Goals as goal
+use Rattle.lockstep_laws.proofs.exchanges.slaves_keep_together.Goals as goal
 
 pub returns-clause-places : goal.returns-clause-places
 returns-clause-places c = step_together

@@ -1,5 +1,5 @@
 use Rattle.lockstep_laws.proofs.Deciding.{deciding, served}
-use Rattle.lockstep_laws.proofs.lockstep.decided_as_given.Goals as goal
+use Rattle.lockstep_laws.proofs.exchanges.decided_as_given.Goals as goal
 
 pub returns-clause-deciding : goal.returns-clause-deciding
 returns-clause-deciding c = deciding
