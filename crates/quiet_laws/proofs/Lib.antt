@@ -15,3 +15,10 @@ pub mod Again
 pub mod Requests
 pub mod Late
 pub mod Once
+pub mod Soon
+pub mod Going
+pub mod Open
+pub mod Young
+pub mod Looked
+pub mod Data
+pub mod Timely

@@ -26,7 +26,7 @@ use Rattle.quiet_laws.specs.Quiet.{IsQuietPlan, ComesIn, NoneAgain}
 pub record IsPatient (limits : Limits) : Type 0 where
   pub answers : 4 ≤ limits.turn_limit
   pub retries : 4 ≤ limits.retry_turns
-  pub data : 4 ≤ limits.data_turns
+  pub values : 4 ≤ limits.data_turns
 
 -- what was sent in the rounds before a round came at the latest in its looks
 abbrev pub BringAll : (sc : Scenario) (count : ℕ) (log : List LogEntry) → Rounds (Some (master_rules sc)) (rules_of_slaves sc) count log → Type 0
