@@ -23,3 +23,10 @@ pub mod Along
 pub mod Mild
 pub mod Passing
 pub mod Brings
+pub mod Soon
+pub mod Going
+pub mod Open
+pub mod Young
+pub mod Looked
+pub mod Data
+pub mod Timely
