@@ -22,3 +22,11 @@ pub mod Young
 pub mod Looked
 pub mod Data
 pub mod Timely
+pub mod Sums
+pub mod Counts
+pub mod Before
+pub mod Owing
+pub mod Along
+pub mod Mild
+pub mod Passing
+pub mod Brings
