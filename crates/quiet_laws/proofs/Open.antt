@@ -62,6 +62,35 @@ use Rattle.quiet_laws.proofs.Fronts.{address_is, address_self}
 use Rattle.quiet_laws.proofs.Going.{goes_on}
 use Rattle.quiet_laws.proofs.Soon.{CameSoon}
 
+-- ---- lists put together in another order
+-- a front of what follows is behind what stood before
+pub after_front : (all later log u v : List LogEntry) → all ≡ later ++ log → log ≡ u ++ v → all ≡ (later ++ u) ++ v
+after_front all later log u v e f = e ∙ ap (λ (z : List LogEntry). later ++ z) f ∙ sym (append_assoc later u v)
+
+-- the last part goes with the second of two
+pub joined : (log part x y base : List LogEntry) (t : LogEntry) → log ≡ part ++ base → part ≡ x ++ t ∷ y → log ≡ x ++ t ∷ (y ++ base)
+joined log part x y base t e f = e ∙ ap (λ (z : List LogEntry). z ++ base) f ∙ append_assoc x (t ∷ y) base
+
+-- split once more, at a later entry
+pub outer : (log q y x z base : List LogEntry) (t u : LogEntry) → log ≡ q ++ t ∷ (y ++ base) → y ≡ x ++ u ∷ z → log ≡ (q ++ t ∷ x) ++ u ∷ (z ++ base)
+outer log q y x z base t u e f = after_front log q (t ∷ (y ++ base)) (t ∷ x) (u ∷ (z ++ base)) e (ap (λ (w : List LogEntry). t ∷ w) (joined (y ++ base) y x z base u refl f))
+
+-- split at an entry of the last of three
+inner : (log q y x z after before base : List LogEntry) (t u : LogEntry) → log ≡ q ++ t ∷ (y ++ base) → y ≡ x ++ t ∷ z → z ≡ after ++ u ∷ before → log ≡ q ++ t ∷ ((x ++ t ∷ after) ++ u ∷ (before ++ base))
+inner log q y x z after before base t u e f g =
+    e ∙ ap (λ (w : List LogEntry). q ++ t ∷ w) (joined (y ++ base) y (x ++ t ∷ after) before base u refl (f ∙ ap (λ (w : List LogEntry). x ++ t ∷ w) g ∙ sym (append_assoc x (t ∷ after) (u ∷ before))))
+
+-- two entries alone, each behind its part
+moved : (log x y b a base : List LogEntry) (t : LogEntry) → log ≡ x ++ t ∷ (y ++ base) → y ≡ b ++ t ∷ a → log ≡ (x ++ t ∷ []) ++ (((b ++ t ∷ []) ++ a) ++ base)
+moved log x y b a base t e f =
+    after_front log x (t ∷ (y ++ base)) (t ∷ []) (((b ++ t ∷ []) ++ a) ++ base) e (ap (λ (z : List LogEntry). t ∷ (z ++ base)) (f ∙ sym (append_assoc b (t ∷ []) a)))
+
+-- an entry of the first two parts, and all behind it
+regrouped : (log later b a u rest x y base : List LogEntry) (t g : LogEntry) → log ≡ later ++ ((b ++ a) ++ base) → a ≡ u ++ t ∷ rest → b ++ u ≡ x ++ g ∷ y → log ≡ (later ++ x) ++ (g ∷ (y ++ t ∷ rest) ++ base)
+regrouped log later b a u rest x y base t g e f h =
+    after_front log later ((b ++ a) ++ base) x (g ∷ (y ++ t ∷ rest) ++ base) e
+    (joined ((b ++ a) ++ base) (b ++ a) x (y ++ t ∷ rest) base g refl (joined (b ++ a) (b ++ u) x y (t ∷ rest) g (ap (λ (z : List LogEntry). b ++ z) f ∙ sym (append_assoc b u (t ∷ rest))) h))
+
 -- ---- a request that came, and whose answers came
 module _ (sc : Scenario) (other : SlaveDesc) (ok : IsScenario sc) (s : ℕ) (it : IsSlaveOf (parties sc other) s) (n : Note) (ns : List Note) (log : List LogEntry) (all : Behaves (parties sc other) (slaves_asked sc other) log) (run : IsRun (setup_from sc) log)
     (asked_now : requests_sent (parties sc other) s log ≡ n ∷ ns) (decided_now : length (decided_exchanges (parties sc other) s log) ≡ length ns) (not_over : list_any is_over_exchange (decided_exchanges (parties sc other) s log) ≡ true → ⊥) (sent : FirstSent sc other ok s it log n ns) where
@@ -146,10 +175,7 @@ module _ (sc : Scenario) (other : SlaveDesc) (ok : IsScenario sc) (s : ℕ) (it 
           let parts : a ≡ u.after ++ Sent (W.slave s) W.master v.bytes ∷ rest = v.is ∙ ap (λ (z : List LogEntry). z ++ v.entry ∷ v.before) u.is ∙ append_assoc u.after (Sent (W.slave s) W.master v.bytes ∷ u.before) (v.entry ∷ v.before) in
           let c = answers u.after rest v.bytes parts in
           let tail = Sent (W.slave s) W.master v.bytes ∷ rest in
-          let g : LogEntry = Got W.master (W.slave s) v.bytes in
-          let whole : b ++ a ≡ c.before ++ (g ∷ (c.after ++ tail)) = ap (λ (z : List LogEntry). b ++ z) parts ∙ sym (append_assoc b u.after tail) ∙ ap (λ (z : List LogEntry). z ++ tail) c.is ∙ append_assoc c.before (g ∷ c.after) tail in
-          let last : log ≡ (later ++ c.before) ++ (g ∷ (c.after ++ tail) ++ First) = split ∙ ap (λ (z : List LogEntry). later ++ (z ++ First)) whole ∙ ap (λ (z : List LogEntry). later ++ z) (append_assoc c.before (g ∷ (c.after ++ tail)) First) ∙ sym (append_assoc later c.before (g ∷ (c.after ++ tail) ++ First)) in
-          never_came (later ++ c.before) (c.after ++ tail) v.bytes v.answer v.read v.number last
+          never_came (later ++ c.before) (c.after ++ tail) v.bytes v.answer v.read v.number (regrouped log later b a u.after rest c.before c.after First (Sent (W.slave s) W.master v.bytes) (Got W.master (W.slave s) v.bytes) split parts c.is)
 
 -- ---- turns in a part
 -- a part with more turns than so many, split at the one after them
@@ -182,6 +208,13 @@ turn_after m k (e ∷ part) h = by e h (λ z. turn_after m k part z)
     by (Got at' from bytes) l f = on (Got at' from bytes) (f (omega (arith, l)))
     by (Idle at') l f = on (Idle at') (f (omega (arith, l)))
     by (Turn at') l f = here at' (same_address at' m) refl l f
+
+-- what stands before an entry of a part has no more turns than the part
+pub turns_within : (m : Address) (part x y : List LogEntry) (g : LogEntry) → part ≡ x ++ g ∷ y → turns_of m y ≤ turns_of m part
+turns_within m part x y g e =
+    let a = ap (turns_of m) e ∙ turns_append m x (g ∷ y) in
+    let b = turns_append m (g ∷ []) y in
+    omega (arith, a, b)
 
 turns_counted : (m : Address) (p : List LogEntry) → count_by (is_turn_of m) p ≡ turns_of m p
 turns_counted m [] = refl
@@ -296,35 +329,28 @@ module _ (sc : Scenario) (other : SlaveDesc) (ok : IsScenario sc) (whole : List 
 
     -- three turns of the master since would have brought an answer
     module _ (x y : List LogEntry) (one_is : sent.since ≡ x ++ Turn m ∷ y) (b' a : List LogEntry) (two_is : y ≡ b' ++ Turn m ∷ a) (a_turn : turns_of m a ≡ 1) (q : List LogEntry) (old_is : old ≡ q ++ Turn m ∷ (y ++ Asked)) where
-      y_is : y ++ Asked ≡ b' ++ Turn m ∷ (a ++ Asked)
-      y_is = ap (λ (z : List LogEntry). z ++ Asked) two_is ∙ append_assoc b' (Turn m ∷ a) Asked
-
       came : ComesIn (V.slave s) m sent.bytes a
-      came = soon (q ++ Turn m ∷ b') a sent.earlier m (V.slave s) sent.bytes (old_is ∙ ap (λ (z : List LogEntry). q ++ Turn m ∷ z) y_is ∙ sym (append_assoc q (Turn m ∷ b') (Turn m ∷ (a ++ Asked)))) (omega (arith, a_turn))
+      came = soon (q ++ Turn m ∷ b') a sent.earlier m (V.slave s) sent.bytes (outer old q y b' a Asked (Turn m) (Turn m) old_is two_is) (omega (arith, a_turn))
 
       answers : (after before : List LogEntry) (bytes : List ℕ) → a ≡ after ++ Sent (V.slave s) m bytes ∷ before → ComesIn m (V.slave s) bytes ((b' ++ Turn m ∷ []) ++ after)
       answers after before bytes e =
-          let Sent' = Sent (V.slave s) m bytes in
-          let f : y ++ Asked ≡ (b' ++ Turn m ∷ after) ++ Sent' ∷ (before ++ Asked) = y_is ∙ ap (λ (z : List LogEntry). b' ++ Turn m ∷ (z ++ Asked)) e ∙ ap (λ (z : List LogEntry). b' ++ Turn m ∷ z) (append_assoc after (Sent' ∷ before) Asked) ∙ sym (append_assoc b' (Turn m ∷ after) (Sent' ∷ (before ++ Asked))) in
           let many = turns_append m b' (Turn m ∷ after) in
           let own = ap (λ (t : Bool). (if t then 1 else 0) + turns_of m after) (address_self m) in
           let P : List LogEntry → Type 0 = λ z. ComesIn m (V.slave s) bytes z in
-          subst P (sym (append_assoc b' (Turn m ∷ []) after)) (soon q (b' ++ Turn m ∷ after) (before ++ Asked) (V.slave s) m bytes (old_is ∙ ap (λ (z : List LogEntry). q ++ Turn m ∷ z) f) (omega (arith, many, own)))
+          subst P (sym (append_assoc b' (Turn m ∷ []) after)) (soon q (b' ++ Turn m ∷ after) (before ++ Asked) (V.slave s) m bytes (inner old q y b' a after before Asked (Turn m) (Sent (V.slave s) m bytes) old_is two_is e) (omega (arith, many, own)))
 
-      log_is : log ≡ x ++ Turn m ∷ (b' ++ Turn m ∷ (a ++ Asked))
-      log_is = sent.split ∙ ap (λ (z : List LogEntry). z ++ Asked) one_is ∙ append_assoc x (Turn m ∷ y) Asked ∙ ap (λ (z : List LogEntry). x ++ Turn m ∷ z) y_is
+      log_is : log ≡ x ++ Turn m ∷ (y ++ Asked)
+      log_is = joined log sent.since x y Asked (Turn m) sent.split one_is
+
+      -- the slave had sent all at the earlier of the two turns
+      sent_all : (at (machine (slave_setup_of sc other s)) V s (a ++ Asked)).desk.owed ≡ []
+      sent_all = nothing_owed sc other ok whole r s it (later ++ (x ++ Turn m ∷ b')) (a ++ Asked) (Turn m) (after_front (reverse whole) later log (x ++ Turn m ∷ b') (Turn m ∷ (a ++ Asked)) split (outer log x y b' a Asked (Turn m) (Turn m) log_is two_is)) tt
 
       off : ⊥
-      off =
-          let part : log ≡ (x ++ Turn m ∷ []) ++ (((b' ++ Turn m ∷ []) ++ a) ++ Asked) =
-          log_is ∙ sym (append_assoc x (Turn m ∷ []) (b' ++ Turn m ∷ (a ++ Asked))) ∙ ap (λ (z : List LogEntry). (x ++ Turn m ∷ []) ++ z) (sym (append_assoc b' (Turn m ∷ []) (a ++ Asked)) ∙ sym (append_assoc (b' ++ Turn m ∷ []) a Asked)) in
-          let front : reverse whole ≡ (later ++ (x ++ Turn m ∷ b')) ++ Turn m ∷ (a ++ Asked) =
-          split ∙ ap (λ (z : List LogEntry). later ++ z) (log_is ∙ sym (append_assoc x (Turn m ∷ b') (Turn m ∷ (a ++ Asked)))) ∙ sym (append_assoc later (x ++ Turn m ∷ b') (Turn m ∷ (a ++ Asked))) in
-          let free' = nothing_owed sc other ok whole r s it (later ++ (x ++ Turn m ∷ b')) (a ++ Asked) (Turn m) front tt in
-          not_both sc other ok s it n ns log all run asked_now decided_now not_over sent (x ++ Turn m ∷ []) (b' ++ Turn m ∷ []) a part free' came answers
+      off = not_both sc other ok s it n ns log all run asked_now decided_now not_over sent (x ++ Turn m ∷ []) (b' ++ Turn m ∷ []) a (moved log x y b' a Asked (Turn m) log_is two_is) sent_all came answers
 
     too_many : 4 ≤ turns_of m sent.since → ⊥
-    too_many h = by (splits new old t.after (Turn m ∷ (t.before ++ Asked)) (sym parts ∙ sent.split ∙ ap (λ (z : List LogEntry). z ++ Asked) t.is ∙ append_assoc t.after (Turn m ∷ t.before) Asked))
+    too_many h = by (splits new old t.after (Turn m ∷ (t.before ++ Asked)) (sym parts ∙ joined log sent.since t.after t.before Asked (Turn m) sent.split t.is))
       where
         t : IsTurnAfter m 2 sent.since
         t = turn_after m 2 sent.since (omega (arith, h))

@@ -40,7 +40,7 @@ use Rattle.run_laws.proofs.Runs.{are_parties}
 use Rattle.completeness_laws.specs.Timely.{IsGotAfter, IsAnsweredInTime, ComesInTime, Timely}
 use Rattle.completeness_laws.proofs.Delivery.Ended.{numbered_at}
 use Rattle.completeness_laws.proofs.Delivery.InputsSent.{entry_there}
-use Rattle.completeness_laws.proofs.Delivery.Turning.{turns_of, turns_append}
+use Rattle.completeness_laws.proofs.Delivery.Turning.{turns_of}
 use Rattle.completeness_laws.proofs.Timely.Firsts.{firsts, sent_before}
 use Rattle.completeness_laws.proofs.Timely.Prompt.{turns_later}
 use Rattle.quiet_laws.specs.Quiet.{ComesIn, NoneAgain}
@@ -48,7 +48,7 @@ use Rattle.quiet_laws.specs.Rounded.{IsPatient, BringAll, RoundsBringAll, QuietI
 use Rattle.quiet_laws.proofs.Data.{HasGot, sents_back, no_data}
 use Rattle.quiet_laws.proofs.Going.{open_late}
 use Rattle.quiet_laws.proofs.Looked.{IsAfterGot, Stands, InFirst, InSecond, stands, round_sent, last_round}
-use Rattle.quiet_laws.proofs.Open.{IsTurnAfter, turn_after, turns_split, behaves_at, runs_at, young}
+use Rattle.quiet_laws.proofs.Open.{after_front, joined, outer, IsTurnAfter, turn_after, turns_within, turns_split, behaves_at, runs_at, young}
 use Rattle.quiet_laws.proofs.Soon.{CameSoon, came_soon, comes_soon, comes_before, comes_back, turned_at, away}
 use Rattle.quiet_laws.proofs.Young.{none_in}
 
@@ -196,7 +196,7 @@ module _ (sc : Scenario) (other : SlaveDesc) (ok : IsScenario sc) (patient : IsP
 
   soon_at : (later log : List LogEntry) → R ≡ later ++ log → CameSoon W.master log
   soon_at later log split after between earlier from to bytes e h =
-      soon_all (later ++ after) between earlier from to bytes (split ∙ ap (λ (z : List LogEntry). later ++ z) e ∙ sym (append_assoc later after (Turn W.master ∷ (between ++ Sent from to bytes ∷ earlier)))) h
+      soon_all (later ++ after) between earlier from to bytes (after_front R later log after (Turn W.master ∷ (between ++ Sent from to bytes ∷ earlier)) split e) h
 
   -- ---- the requests to one slave
   module _ (s : ℕ) (it : IsSlaveOf W s) where
@@ -311,14 +311,10 @@ module _ (sc : Scenario) (other : SlaveDesc) (ok : IsScenario sc) (patient : IsP
       let t : IsTurnAfter W.master 1 k.part = turn_after W.master 1 k.part (omega (arith, h)) in
       let one = t.as_many in
       let x = Sent from to bytes ∷ k.base in
-      let split : R ≡ t.after ++ Turn W.master ∷ (t.before ++ x) = k.is ∙ ap (λ (z : List LogEntry). z ++ x) t.is ∙ append_assoc t.after (Turn W.master ∷ t.before) x in
+      let split = joined R k.part t.after t.before x (Turn W.master) k.is t.is in
       let c = soon_all t.after t.before k.base from to bytes split (omega (arith, one)) in
-      let g = Got to from bytes in
-      let before : t.before ++ x ≡ c.before ++ g ∷ (c.after ++ x) = ap (λ (z : List LogEntry). z ++ x) c.is ∙ append_assoc c.before (g ∷ c.after) x in
-      let all : R ≡ (t.after ++ Turn W.master ∷ c.before) ++ g ∷ (c.after ++ x) = split ∙ ap (λ (z : List LogEntry). t.after ++ Turn W.master ∷ z) before ∙ sym (append_assoc t.after (Turn W.master ∷ c.before) (g ∷ (c.after ++ x))) in
-      let n = ap (turns_of W.master) c.is ∙ turns_append W.master c.before (g ∷ c.after) in
-      let o : turns_of W.master (g ∷ c.after) ≡ 0 + turns_of W.master c.after = refl in
-      come i from to bytes (t.after ++ Turn W.master ∷ c.before) c.after k.base all k.place (omega (arith, one, n, o))
+      let few = turns_within W.master t.before c.before c.after (Got to from bytes) c.is in
+      come i from to bytes (t.after ++ Turn W.master ∷ c.before) c.after k.base (outer R t.after t.before c.before c.after x (Turn W.master) (Got to from bytes) split c.is) k.place (omega (arith, one, few))
 
   since : (i : ℕ) (e : LogEntry) (k : IsAt R i e) → turns_after S.address R i ≤ turns_of W.master k.part + turns_of W.master (e ∷ [])
   since i e k =
@@ -351,14 +347,14 @@ module _ (sc : Scenario) (other : SlaveDesc) (ok : IsScenario sc) (patient : IsP
     not_last before part more later round e f =
         let P : List LogEntry → Type 0 = λ z. has_report (Some (master_rules sc)) z ≡ true in
         let none = last_round (master_rules sc) (rules_of_slaves sc) (away sc other ok) before part round (subst P e has_it) in
-        let split : R ≡ reverse later ++ x ∷ reverse (before ++ more) = ap reverse (e ∙ ap (λ (z : List LogEntry). before ++ z) f ∙ sym (append_assoc before more (x ∷ later))) ∙ turned_at (before ++ more) later x in
+        let split : R ≡ reverse later ++ x ∷ reverse (before ++ more) = ap reverse (after_front whole before part more (x ∷ later) e f) ∙ turned_at (before ++ more) later x in
         let b = behaves_at sc other ok whole r 1 first_slave (reverse later) (x ∷ reverse (before ++ more)) split in
         no_data sc other ok from to bytes (reverse (before ++ more)) b (by (round_sent from to bytes (master_rules sc) (rules_of_slaves sc) before part more later round none f)) number id payload values
       where
         by : (from ≡ W.master) ⊎ IsAfterGot from more → (from ≡ W.master) ⊎ HasGot from (reverse (before ++ more))
         by (inl k) = inl k
         by (inr g) =
-            let q : before ++ more ≡ (before ++ g.before) ++ Got from g.sender g.bytes ∷ g.sents = ap (λ (z : List LogEntry). before ++ z) g.is ∙ sym (append_assoc before g.before (Got from g.sender g.bytes ∷ g.sents)) in
+            let q = after_front (before ++ more) before more g.before (Got from g.sender g.bytes ∷ g.sents) refl g.is in
             inr (record { sents = reverse g.sents; base = reverse (before ++ g.before); sender = g.sender; heard = g.bytes; is = ap reverse q ∙ turned_at (before ++ g.before) g.sents (Got from g.sender g.bytes); own = sents_back from g.sents g.own })
 
     data_comes : (n : ℕ) (rounds : Rounds (Some (master_rules sc)) (rules_of_slaves sc) n whole) → BringAll sc n whole rounds → (first later : List LogEntry) → whole ≡ first ++ x ∷ later → ComesIn to from bytes later
@@ -390,10 +386,8 @@ module _ (sc : Scenario) (other : SlaveDesc) (ok : IsScenario sc) (patient : IsP
         by (inl h) = came i from to bytes k h
         by (inr h) =
             let c = comes_back to from bytes k.part (data_comes r.count r.rounds bring (reverse k.base) (reverse k.part) whole_is) in
-            let g = Got to from bytes in
-            let n = ap (turns_of W.master) c.is ∙ turns_append W.master c.before (g ∷ c.after) in
-            let o : turns_of W.master (g ∷ c.after) ≡ 0 + turns_of W.master c.after = refl in
-            come i from to bytes c.before c.after k.base (k.is ∙ ap (λ (z : List LogEntry). z ++ x ∷ k.base) c.is ∙ append_assoc c.before (g ∷ c.after) (x ∷ k.base)) k.place (omega (arith, h, n, o))
+            let few = turns_within W.master k.part c.before c.after (Got to from bytes) c.is in
+            come i from to bytes c.before c.after k.base (joined R k.part c.before c.after (x ∷ k.base) (Got to from bytes) k.is c.is) k.place (omega (arith, h, few))
 
   values : (i : ℕ) (from to : Address) (bytes : List ℕ) → entry_at R i ≡ Some (Sent from to bytes) → (number id : ℕ) (payload : List ℕ) → news_of bytes ≡ Brings number id payload → ComesInTime S R i from to bytes
   values i from to bytes e number id payload v =
