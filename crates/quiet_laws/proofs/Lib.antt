@@ -30,3 +30,4 @@ pub mod Along
 pub mod Mild
 pub mod Passing
 pub mod Brings
+pub mod Patient
