@@ -109,6 +109,7 @@ module _ (sc : Scenario) (other : SlaveDesc) (ok : IsScenario sc) (s : ℕ) (it 
   abbrev Facts : List LogEntry → Type 0
   Facts z = MidFacts sc other ok s it n ns log all run asked_now decided_now not_over sent z
 
+  -- what is known at each moment since it was first sent
   facts : (later mid : List LogEntry) → log ≡ later ++ (mid ++ First) → Facts (mid ++ First)
   facts later mid e = mid_facts sc other ok s it n ns log all run asked_now decided_now not_over sent later mid e
 
@@ -185,6 +186,7 @@ pub record IsTurnAfter (m : Address) (k : ℕ) (part : List LogEntry) : Type 0 w
   pub is : part ≡ after ++ Turn m ∷ before
   pub as_many : turns_of m before ≡ k
 
+-- such a turn is there where the part has more turns
 pub turn_after : (m : Address) (k : ℕ) (part : List LogEntry) → k < turns_of m part → IsTurnAfter m k part
 turn_after m k [] h = absurd (omega (arith, h))
 turn_after m k (e ∷ part) h = by e h (λ z. turn_after m k part z)
@@ -216,6 +218,7 @@ turns_within m part x y g e =
     let b = turns_append m (g ∷ []) y in
     omega (arith, a, b)
 
+-- the turns of a part, counted in two ways
 turns_counted : (m : Address) (p : List LogEntry) → count_by (is_turn_of m) p ≡ turns_of m p
 turns_counted m [] = refl
 turns_counted m (e ∷ p) = let h = turns_counted m p in let k = sum_by-cons (λ (z : LogEntry). if is_turn_of m z then 1 else 0) e p in omega (arith, h, k)
@@ -252,6 +255,7 @@ module _ (sc : Scenario) (other : SlaveDesc) (ok : IsScenario sc) (whole : List 
   pub behaves_at : (later log : List LogEntry) → reverse whole ≡ later ++ log → Behaves V (slaves_asked sc other) log
   behaves_at later log split = drop_later V (slaves_asked sc other) (are_slaves sc other ok) later log (so_far sc other ok whole (rounds_are_runs sc other ok whole r) later log split)
 
+  -- the master goes by its rules in it
   pub runs_at : (later log : List LogEntry) → reverse whole ≡ later ++ log → IsRun S log
   runs_at later log split = let P : List LogEntry → Type 0 = λ z. IsRun S z in run_front S later log (subst P split (entry_by_entry sc whole r.master))
 
@@ -266,30 +270,38 @@ module _ (sc : Scenario) (other : SlaveDesc) (ok : IsScenario sc) (whole : List 
     abbrev ns : List Note
     ns = map (note_of s) bs
 
+    -- all ends behave up to here
     all : Behaves V (slaves_asked sc other) log
     all = behaves_at later log split
 
+    -- the master goes by its rules up to here
     run : IsRun S log
     run = runs_at later log split
 
+    -- the newest request that was sent is this one
     asked_now : requests_sent V s log ≡ n ∷ ns
     asked_now = are_asked S heard V (are_parties sc other ok) log run s it L (party sc other ok s it) ∙ ap (map (note_of s)) told
 
+    -- the exchanges are those of the requests before it
     decisions : AreDecisions s bs (decided_exchanges V s log)
     decisions =
         let P : List Asking → Type 0 = λ x. AreDecisions s x (decided_exchanges V s log) in
         let Q : Option Decision → Type 0 = λ o. IsDecision s b o (AreDecisions s bs) (decided_exchanges V s log) in
         subst Q free (subst P told (are_told S heard V (are_parties sc other ok) log run s it L (party sc other ok s it)))
 
+    -- the requests go one by one
     order : AreOneByOne (b ∷ bs)
     order = let P : List Asking → Type 0 = λ x. AreOneByOne x in subst P told (one_by_one S heard log run (s - 1) L (numbered_at sc other ok s it))
 
+    -- so all requests before it are decided, and it is not
     decided_now : length (decided_exchanges V s log) ≡ length ns
     decided_now = decided_length s bs (decided_exchanges V s log) (order.1).0 decisions ∙ sym (length-map bs (note_of s))
 
+    -- no exchange has ended the session
     not_over : list_any is_over_exchange (decided_exchanges V s log) ≡ true → ⊥
     not_over = goes_on sc other ok s it log run b bs told free
 
+    -- its first sending
     sent : FirstSent sc other ok s it log n ns
     sent = first_sent sc other ok s it log n ns asked_now
 
@@ -300,6 +312,7 @@ module _ (sc : Scenario) (other : SlaveDesc) (ok : IsScenario sc) (whole : List 
     there : log ≡ (sent.since ++ Sent m (V.slave s) sent.bytes ∷ []) ++ sent.earlier
     there = sent.split ∙ sym (append_assoc sent.since (Sent m (V.slave s) sent.bytes ∷ []) sent.earlier)
 
+    -- at its first sending those before it had been asked
     asked_before : length (asks S.address L sent.earlier) ≡ length bs
     asked_before =
         let P : List LogEntry → Type 0 = λ z. IsRun S z in
@@ -309,6 +322,7 @@ module _ (sc : Scenario) (other : SlaveDesc) (ok : IsScenario sc) (whole : List 
         let h = length-map bs (note_of s) in
         omega (arith, e, f, g, h)
 
+    -- so its place is not before that sending
     place : length sent.earlier ≤ b.first
     place = by g.new g.high (sym (ap (λ (z : List LogEntry). firsts (asks S.address L z)) there ∙ g.is) ∙ ap firsts told)
       where
@@ -329,9 +343,11 @@ module _ (sc : Scenario) (other : SlaveDesc) (ok : IsScenario sc) (whole : List 
 
     -- three turns of the master since would have brought an answer
     module _ (x y : List LogEntry) (one_is : sent.since ≡ x ++ Turn m ∷ y) (b' a : List LogEntry) (two_is : y ≡ b' ++ Turn m ∷ a) (a_turn : turns_of m a ≡ 1) (q : List LogEntry) (old_is : old ≡ q ++ Turn m ∷ (y ++ Asked)) where
+      -- the request came to the slave before the earlier of the two turns
       came : ComesIn (V.slave s) m sent.bytes a
       came = soon (q ++ Turn m ∷ b') a sent.earlier m (V.slave s) sent.bytes (outer old q y b' a Asked (Turn m) (Turn m) old_is two_is) (omega (arith, a_turn))
 
+      -- each answer that the slave sent before that turn came before the later one
       answers : (after before : List LogEntry) (bytes : List ℕ) → a ≡ after ++ Sent (V.slave s) m bytes ∷ before → ComesIn m (V.slave s) bytes ((b' ++ Turn m ∷ []) ++ after)
       answers after before bytes e =
           let many = turns_append m b' (Turn m ∷ after) in
@@ -339,6 +355,7 @@ module _ (sc : Scenario) (other : SlaveDesc) (ok : IsScenario sc) (whole : List 
           let P : List LogEntry → Type 0 = λ z. ComesIn m (V.slave s) bytes z in
           subst P (sym (append_assoc b' (Turn m ∷ []) after)) (soon q (b' ++ Turn m ∷ after) (before ++ Asked) (V.slave s) m bytes (inner old q y b' a after before Asked (Turn m) (Sent (V.slave s) m bytes) old_is two_is e) (omega (arith, many, own)))
 
+      -- the two turns stand in the log
       log_is : log ≡ x ++ Turn m ∷ (y ++ Asked)
       log_is = joined log sent.since x y Asked (Turn m) sent.split one_is
 
@@ -346,9 +363,11 @@ module _ (sc : Scenario) (other : SlaveDesc) (ok : IsScenario sc) (whole : List 
       sent_all : (at (machine (slave_setup_of sc other s)) V s (a ++ Asked)).desk.owed ≡ []
       sent_all = nothing_owed sc other ok whole r s it (later ++ (x ++ Turn m ∷ b')) (a ++ Asked) (Turn m) (after_front (reverse whole) later log (x ++ Turn m ∷ b') (Turn m ∷ (a ++ Asked)) split (outer log x y b' a Asked (Turn m) (Turn m) log_is two_is)) tt
 
+      -- so it is decided
       off : ⊥
       off = not_both sc other ok s it n ns log all run asked_now decided_now not_over sent (x ++ Turn m ∷ []) (b' ++ Turn m ∷ []) a (moved log x y b' a Asked (Turn m) log_is two_is) sent_all came answers
 
+    -- four turns since are too many, since one of them at most is new
     too_many : 4 ≤ turns_of m sent.since → ⊥
     too_many h = by (splits new old t.after (Turn m ∷ (t.before ++ Asked)) (sym parts ∙ joined log sent.since t.after t.before Asked (Turn m) sent.split t.is))
       where
@@ -384,6 +403,7 @@ module _ (sc : Scenario) (other : SlaveDesc) (ok : IsScenario sc) (whole : List 
         by (Within q f g) = found q g
         by (Beyond q f g) = beyond q f g
 
+    -- three turns since at most
     few : turns_of m sent.since ≤ 3
     few = by (either (turns_of m sent.since))
       where
