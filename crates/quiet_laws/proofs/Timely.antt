@@ -39,7 +39,7 @@ use Rattle.run_laws.specs.Laws.{parties, rules_of_slaves, IsRunInRounds}
 use Rattle.run_laws.proofs.Runs.{are_parties}
 use Rattle.completeness_laws.specs.Timely.{IsGotAfter, IsAnsweredInTime, ComesInTime, Timely}
 use Rattle.completeness_laws.proofs.Delivery.Ended.{numbered_at}
-use Rattle.completeness_laws.proofs.Delivery.InputsSent.{entry_there}
+use Rattle.completeness_laws.proofs.Delivery.Entries.{entry_there}
 use Rattle.completeness_laws.proofs.Delivery.Turning.{turns_of}
 use Rattle.completeness_laws.proofs.Timely.Firsts.{firsts, sent_before}
 use Rattle.completeness_laws.proofs.Timely.Prompt.{turns_later}
