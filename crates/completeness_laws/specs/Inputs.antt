@@ -1,6 +1,5 @@
 -- Why inputs of a step did not come to a slave. Logs have their newest entry first, and the place of an entry is the number of those before it.
 use Rattle.std.specs.Prelude.{◌≡◌, ℕ, ◌+◌, ◌-◌, ◌*◌, ◌/◌, ◌%◌, ◌<◌, ◌≤◌, IsTrue, Some, List, ◌∷◌, ◌++◌, length, slice_get}
-use Rattle.dcp_types.specs.declared.addresses.Address.{Address}
 use Rattle.dcp_ends.specs.declared.entries.LogEntry.{LogEntry}
 use Rattle.dcp_ends.specs.declared.entries.LogEntry.TheVariants.{Sent, Got}
 use Rattle.slave_desc.specs.declared.descriptions.SlaveDesc.{SlaveDesc}
@@ -45,12 +44,11 @@ pub record WasSentOver (w : Parties) (s : ℕ) (link : DataLink) (o : ℕ) (log 
   pub number : note.number ≡ o % 65536
   pub ordinal : length (values_sent w link.id (Sent (w.slave link.from) (w.slave s) bytes ∷ earlier)) ≡ o + 1
 
--- at this place slave s sends the answer that inputs are missing, to the request with this number
+-- at this place slave s sends the master the answer that inputs are missing, to the request with this number
 pub record RefusesAt (w : Parties) (s q : ℕ) (log : List LogEntry) (place : ℕ) : Type 0 where
-  pub to : Address
   pub bytes : List ℕ
   pub code : ℕ
-  pub is : entry_at log place ≡ Some (Sent (w.slave s) to bytes)
+  pub is : entry_at log place ≡ Some (Sent (w.slave s) w.master bytes)
   pub read : news_of bytes ≡ Answers q s (Nack code)
   pub missing : IsTrue (is_missing code)
 

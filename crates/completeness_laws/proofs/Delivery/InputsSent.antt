@@ -16,6 +16,7 @@ use Rattle.scenario.specs.Sound.{IsScenario}
 use Rattle.lockstep.specs.Lockstep.{row_index}
 use Rattle.log_spec.specs.Messages.{Note, Request, Value, answer_in}
 use Rattle.log_spec.specs.Log.{Parties, IsSlaveOf, role_heard, values_sent, DecidedRequest}
+use Rattle.log_spec.specs.Honest.{MayStandNewest}
 use Rattle.log_spec.specs.Moves.{move, decided_exchanges}
 use Rattle.lockstep_laws.specs.Cast.{ConversingSlaves}
 use Rattle.lockstep_laws.specs.Runs.{Behaves}
@@ -70,7 +71,8 @@ use Rattle.completeness_laws.proofs.Delivery.Ordinals.{ordinal_rises}
 use Rattle.completeness_laws.proofs.Delivery.Phases.{before_rises, not_more}
 use Rattle.completeness_laws.proofs.Delivery.Reaching.{reached_most, IsOfPhase, of_phase_at}
 use Rattle.completeness_laws.proofs.Delivery.Refused.{WasDecided, was_decided}
-use Rattle.completeness_laws.proofs.Delivery.Replying.{answer_role, OwesAnswer, takes_owing, IsQuiet, got_behind, answered_before}
+use Rattle.completeness_laws.proofs.Delivery.Replying.{answer_role, OwesAnswer, takes_owing, AreTo, to_sender, IsQuiet, got_behind, answered_before}
+use Rattle.completeness_laws.proofs.Delivery.Sessions.{comes_of_master}
 use Rattle.completeness_laws.proofs.Delivery.StepJobs.{IsStepJob, step_job}
 use Rattle.completeness_laws.proofs.Delivery.Values.{SentValue, OwnSending}
 use Rattle.completeness_laws.proofs.Delivery.Whole.{IsEventEntry}
@@ -229,12 +231,22 @@ module _ (sc : Scenario) (other : SlaveDesc) (ok : IsScenario sc) (log : List Lo
     pub entry_is : entry ≡ Got (W.slave s) from bytes
     pub read : role_heard W bytes ≡ Request receiver note
     pub owes : OwesAnswer W is.x (X.desk s (entry ∷ there))
+    pub to_master : AreTo W.master (X.desk s (entry ∷ there)).owed
 
   -- with an entry with which the slave takes a request, it comes to owe the answer
   owing : (there : List LogEntry) (e : LogEntry) (x : DecidedRequest) (es : List DecidedRequest) → Behaves W X (e ∷ there) → (X.desk s (e ∷ there)).served ≡ x ∷ es → (X.desk s there).served ≡ es → OwesAnswer W x (X.desk s (e ∷ there))
   owing there e x es b now before =
       let may = (b.slaves s it).0 in
       takes_owing W (X.accepts s) (move W s e) (X.desk s there) (X.desk s (e ∷ there)) x (((are_slaves sc other ok).each s it).goes e there may) (now ∙ ap (λ (l : List DecidedRequest). x ∷ l) (sym before))
+
+  -- and all that it owes then goes to the master
+  telling : (there : List LogEntry) (e : LogEntry) → Behaves W X there → Behaves W X (e ∷ there) → IsRun S (e ∷ there) → (from : Address) (bytes : List ℕ) (receiver : ℕ) (n : Note) → e ≡ Got (W.slave s) from bytes → role_heard W bytes ≡ Request receiver n → AreTo W.master (X.desk s (e ∷ there)).owed
+  telling there e b c run from bytes receiver n is read =
+      let P : LogEntry → Type 0 = λ x. MayStandNewest W x there in
+      let m : from ≡ W.master = (comes_of_master sc other ok s it there b run.1 from bytes receiver n (subst P is c.honest.0) read).from_is in
+      let Q : LogEntry → Type 0 = λ x. AreTo W.master (X.desk s (x ∷ there)).owed in
+      let R : Address → Type 0 = λ a. AreTo a (X.desk s (Got (W.slave s) from bytes ∷ there)).owed in
+      subst Q (sym is) (subst R m (to_sender sc other s there from bytes))
 
   refused_step : (later now : List LogEntry) → F ≡ later ++ now → (who : Asking) (tail : List Asking) (place code : ℕ) → asks S.address L now ≡ who ∷ tail → IsDecided who place (Nack code) → (code == 8) ≡ true → who.code ≡ 7 → RefusedStep now who tail
   refused_step later now f who tail place code a d e c =
@@ -270,6 +282,7 @@ module _ (sc : Scenario) (other : SlaveDesc) (ok : IsScenario sc) (log : List Lo
         entry_is = (t.takes).is;
         read = (t.takes).read;
         owes = owing (t.before ++ base) t.entry w.x w.es (behaves_at (later ++ t.after) (t.entry ∷ (t.before ++ base)) all) t.newest t.rest;
+        to_master = telling (t.before ++ base) t.entry step.behaves (behaves_at (later ++ t.after) (t.entry ∷ (t.before ++ base)) all) (run_at (later ++ t.after) (t.entry ∷ (t.before ++ base)) all) (t.takes).from (t.takes).bytes (t.takes).receiver (t.takes).note (t.takes).is (t.takes).read;
       }
 
   request_value : {receiver id : ℕ} {n m : Note} → Request receiver n ≡ Value id m → ⊥
@@ -521,9 +534,8 @@ module _ (sc : Scenario) (other : SlaveDesc) (ok : IsScenario sc) (log : List Lo
     record IsRefused : Type 0 where
       pub later : List LogEntry
       pub quiet : List LogEntry
-      pub to : Address
       pub bytes : List ℕ
-      pub is : F ≡ later ++ Sent (W.slave s) to bytes ∷ (quiet ++ asked_at)
+      pub is : F ≡ later ++ Sent (W.slave s) W.master bytes ∷ (quiet ++ asked_at)
       pub none : IsQuiet quiet
       pub read : answer_in (role_heard W bytes) ≡ Some answer
 
@@ -542,12 +554,11 @@ module _ (sc : Scenario) (other : SlaveDesc) (ok : IsScenario sc) (log : List Lo
             let same : newest.came ≡ c = head_same (sym newest.now_is ∙ e) in
             let E : LogEntry → Type 0 = λ z. IsEventEntry sc other ok log r s it z in
             let event : IsEventEntry sc other ok log r s it c = subst E same (subst E (sym (newest.heard).is) tt) in
-            let k = answered_before sc other ok log r s it behaves_at asked_at answer (step.owes).owes part newest.part c all event in
-            let sent = Sent (W.slave s) k.to k.bytes in
+            let k = answered_before sc other ok log r s it behaves_at asked_at answer (step.owes).owes step.to_master part newest.part c all event in
+            let sent = Sent (W.slave s) W.master k.bytes in
             record {
               later = (newest.part ++ c ∷ []) ++ k.after;
               quiet = k.before;
-              to = k.to;
               bytes = k.bytes;
               is =
                   all ∙ ap (λ (z : List LogEntry). newest.part ++ c ∷ (z ++ asked_at)) k.is ∙ ap (λ (z : List LogEntry). newest.part ++ c ∷ z) (append_assoc k.after (sent ∷ k.before) asked_at)
@@ -559,8 +570,8 @@ module _ (sc : Scenario) (other : SlaveDesc) (ok : IsScenario sc) (log : List Lo
     abbrev refused_at : List LogEntry
     refused_at = is_refused.quiet ++ asked_at
 
-    refused_whole : F ≡ (is_refused.later ++ Sent (W.slave s) is_refused.to is_refused.bytes ∷ []) ++ refused_at
-    refused_whole = is_refused.is ∙ sym (append_assoc is_refused.later (Sent (W.slave s) is_refused.to is_refused.bytes ∷ []) refused_at)
+    refused_whole : F ≡ (is_refused.later ++ Sent (W.slave s) W.master is_refused.bytes ∷ []) ++ refused_at
+    refused_whole = is_refused.is ∙ sym (append_assoc is_refused.later (Sent (W.slave s) W.master is_refused.bytes ∷ []) refused_at)
 
     answer_message : message_in is_refused.bytes ≡ Some answer.message
     answer_message = let k = answer_role (role_heard W is_refused.bytes) answer is_refused.read in (answers_heard is_refused.bytes k.sender answer k.is).0
@@ -570,10 +581,9 @@ module _ (sc : Scenario) (other : SlaveDesc) (ok : IsScenario sc) (log : List Lo
 
     refuses : RefusesAt W s q F (length refused_at)
     refuses = record {
-      to = is_refused.to;
       bytes = is_refused.bytes;
       code = step.code;
-      is = ap (λ (l : List LogEntry). entry_at l (length refused_at)) is_refused.is ∙ entry_there is_refused.later refused_at (Sent (W.slave s) is_refused.to is_refused.bytes);
+      is = ap (λ (l : List LogEntry). entry_at l (length refused_at)) is_refused.is ∙ entry_there is_refused.later refused_at (Sent (W.slave s) W.master is_refused.bytes);
       read = news_by_message is_refused.bytes answer.message answer_message ∙ step.answer_is ∙ ap (λ (n : ℕ). Answers n s (Nack step.code)) number_is;
       missing = step.eight;
     }
@@ -588,10 +598,10 @@ module _ (sc : Scenario) (other : SlaveDesc) (ok : IsScenario sc) (log : List Lo
         by (inr l) = not_there i lt l h
         by (inl g) =
             let n = ap length refused_whole in
-            let m = length-append (is_refused.later ++ Sent (W.slave s) is_refused.to is_refused.bytes ∷ []) refused_at in
+            let m = length-append (is_refused.later ++ Sent (W.slave s) W.master is_refused.bytes ∷ []) refused_at in
             let v = within F i got (omega (arith, n, m, few)) h in
             let p = v.place in
-            let a = ends_with (is_refused.later ++ Sent (W.slave s) is_refused.to is_refused.bytes ∷ []) refused_at v.part (got ∷ v.base) (sym refused_whole ∙ v.is) (omega (arith, p, few)) in
+            let a = ends_with (is_refused.later ++ Sent (W.slave s) W.master is_refused.bytes ∷ []) refused_at v.part (got ∷ v.base) (sym refused_whole ∙ v.is) (omega (arith, p, few)) in
             got_behind is_refused.quiet asked_at a.front v.base (W.slave s) sending.from sending.bytes is_refused.none a.is (omega (arith, p, g))
 
     -- ---- before each refusal

@@ -1,5 +1,5 @@
 -- A slave that has taken a request sends its answer before anything is got, by any end.
-use Rattle.std.proofs.Common.{◌≡◌, ℕ, ◌≤◌, Bool, ◌⊎◌, inl, inr, Option, Some, None, List, [], ◌∷◌, ◌++◌, length, reverse, refl, sym, ap, ◌∙◌, subst, arith, length-append}
+use Rattle.std.proofs.Common.{◌≡◌, ℕ, ◌≤◌, Bool, if◌then◌else◌, ◌⊎◌, map, inl, inr, Option, Some, None, List, [], ◌∷◌, ◌++◌, length, reverse, refl, sym, ap, ◌∙◌, subst, arith, length-append}
 use Rattle.std.specs.List.{cons_option}
 use Rattle.std.proofs.lemmas.List.{append_assoc}
 use Rattle.dcp_types.specs.declared.addresses.Address.{Address}
@@ -14,8 +14,18 @@ use Rattle.log_spec.specs.Moves.{Move, Asks, Comes, Tells, Hears, Brings, Turns,
 use Rattle.lockstep_laws.specs.Slaves.{Post, Desk, SlaveMay, ServesNote, Handles, answers_of, tail}
 use Rattle.lockstep_laws.specs.Cast.{ConversingSlaves}
 use Rattle.lockstep_laws.specs.Runs.{Behaves}
+use Rattle.log_spec.proofs.Moves.{same_self}
+use Rattle.slave_spec.specs.Heard as spec
+use Rattle.slave_spec.specs.Transport as transport
+use Rattle.slave_spec.specs.Transport.{SlaveState}
+use Rattle.slave_spec.specs.Plants.{Plant}
+use Rattle.slave_spec.specs.Slaves.{machine}
+use Rattle.slave_spec.specs.declared.words.SlaveRequest as req
+use Rattle.slave_spec.specs.declared.words.Fate.{Fate}
+use Rattle.slave_spec.specs.declared.words.Fate.TheVariants.{Dropped, Refused, Repeated, Taken}
+use Rattle.slave_laws.specs.Talk.Desks.{post, got, at}
 use Rattle.slave_laws.specs.Data.Whole.{slaves_asked}
-use Rattle.run_laws.specs.Laws.{parties, IsRunInRounds}
+use Rattle.run_laws.specs.Laws.{parties, slave_setup_of, IsRunInRounds}
 use Rattle.run_laws.proofs.Headline.Behaving.{are_slaves}
 use Rattle.completeness_laws.proofs.Delivery.Unheard.{tells_entry}
 use Rattle.completeness_laws.proofs.Delivery.Whole.{IsEventEntry, nothing_owed}
@@ -63,6 +73,41 @@ takes_owing w accepts Turns x y z v h = absurd (longer z x.served y.served v.ser
 takes_owing w accepts Rests x y z v h = absurd (longer z x.served y.served v.served h)
 takes_owing w accepts Other x y z v h = absurd (longer z x.served y.served (ap (λ (d : Desk). d.served) v) h)
 
+-- ---- whom a slave tells what it has to send for a datagram: where that came from
+abbrev pub AreTo : Address → List Post → Type 0
+AreTo a [] = Unit {0}
+AreTo a (p ∷ posts) = (p.to ≡ a) × AreTo a posts
+
+notices_to : (from : Address) (id : ℕ) (notices : List transport.Notice) → AreTo from (map post (transport.notice_sends from id notices))
+notices_to from id [] = tt
+notices_to from id (n ∷ notices) = (refl, notices_to from id notices)
+
+module _ (sc : Scenario) (other : SlaveDesc) (s : ℕ) where
+  abbrev M : transport.Machine Plant
+  M = machine (slave_setup_of sc other s)
+
+  again_to : (from : Address) (es : List transport.Exchange) → AreTo from (map post (transport.again from es))
+  again_to from [] = tt
+  again_to from (e ∷ es) = (refl, tt)
+
+  fate_to : (x : SlaveState Plant) (from : Address) (r : req.SlaveRequest) (f : Fate) → AreTo from (map post (transport.request_sends M x from r f))
+  fate_to x from r Dropped = tt
+  fate_to x from r (Refused code) = (refl, tt)
+  fate_to x from r Repeated = again_to from x.served
+  fate_to x from r Taken = (refl, notices_to from r.receiver (M.answers r.asked x.inner).notices)
+
+  heard_to : (x : SlaveState Plant) (from : Address) (h : spec.Heard) → AreTo from (map post (transport.heard_sends M x from h))
+  heard_to x from (spec.Asks r) = fate_to x from r (transport.fate M x from r)
+  heard_to x from (spec.Brings number id payload) = tt
+  heard_to x from spec.Nothing = tt
+
+  pub to_sender : (log : List LogEntry) (from : Address) (bytes : List ℕ) → AreTo from ((slaves_asked sc other).desk s (Got ((parties sc other).slave s) from bytes ∷ log)).owed
+  to_sender log from bytes =
+      let w = parties sc other in
+      let x = at M w s log in
+      let P : Bool → Type 0 = λ b. AreTo from (if b then got M w s from bytes x else x).desk.owed in
+      subst P (sym (same_self (w.slave s))) (heard_to x.slave from (spec.heard bytes))
+
 -- ---- parts of a log in which nothing is got
 abbrev pub IsNoGot : LogEntry → Type 0
 IsNoGot (Sent from to bytes) = Unit {0}
@@ -88,7 +133,7 @@ got_behind (c ∷ part) log (d ∷ front) rest at from bytes q e h = got_behind 
 
 -- ---- the answer is sent
 module _ (sc : Scenario) (other : SlaveDesc) (ok : IsScenario sc) (log : List LogEntry) (r : IsRunInRounds sc other log) (s : ℕ) (it : IsSlaveOf (parties sc other) s) (behaves : (part base : List LogEntry) → reverse log ≡ part ++ base → Behaves (parties sc other) (slaves_asked sc other) base)
-    (base : List LogEntry) (a : Note) (owes : answers_of (parties sc other) ((slaves_asked sc other).desk s base).owed ≡ a ∷ []) where
+    (base : List LogEntry) (a : Note) (owes : answers_of (parties sc other) ((slaves_asked sc other).desk s base).owed ≡ a ∷ []) (to_master : AreTo (parties sc other).master ((slaves_asked sc other).desk s base).owed) where
   abbrev W : Parties
   W = parties sc other
 
@@ -99,15 +144,15 @@ module _ (sc : Scenario) (other : SlaveDesc) (ok : IsScenario sc) (log : List Lo
   pub record IsAnswered (part : List LogEntry) : Type 0 where
     pub after : List LogEntry
     pub before : List LogEntry
-    pub to : Address
     pub bytes : List ℕ
-    pub is : part ≡ after ++ Sent (W.slave s) to bytes ∷ before
+    pub is : part ≡ after ++ Sent (W.slave s) W.master bytes ∷ before
     pub quiet : IsQuiet before
     pub read : answer_in (role_heard W bytes) ≡ Some a
 
   record StillOwes (part : List LogEntry) : Type 0 where
     pub quiet : IsQuiet part
     pub owes_it : answers_of W (X.desk s (part ++ base)).owed ≡ a ∷ []
+    pub to_it : AreTo W.master (X.desk s (part ++ base)).owed
 
   none_owed : (posts : List Post) → posts ≡ [] → answers_of W posts ≡ a ∷ [] → ⊥
   none_owed posts e h = let z : [] ≡ a ∷ [] = sym (ap (answers_of W) e) ∙ h in cc
@@ -132,7 +177,7 @@ module _ (sc : Scenario) (other : SlaveDesc) (ok : IsScenario sc) (log : List Lo
     no_event v = none_owed x.owed (nothing_owed sc other ok log r s it later (part ++ base) c split v) h.owes_it
 
     stays : y ≡ x → IsAnswered (c ∷ part) ⊎ StillOwes (c ∷ part)
-    stays e = inr (record { quiet = (no_got c no_event, h.quiet); owes_it = ap (λ (d : Desk). answers_of W d.owed) e ∙ h.owes_it })
+    stays e = inr (record { quiet = (no_got c no_event, h.quiet); owes_it = ap (λ (d : Desk). answers_of W d.owed) e ∙ h.owes_it; to_it = (let P : Desk → Type 0 = λ d. AreTo W.master d.owed in subst P (sym e) h.to_it) })
 
     sends : (to : Address) (bytes : List ℕ) → c ≡ Sent (W.slave s) to bytes → (posts : List Post) → x.owed ≡ posts → y.owed ≡ tail x.owed → SlaveMay (Tells to bytes) posts → IsAnswered (c ∷ part) ⊎ StillOwes (c ∷ part)
     sends to bytes e [] q t m = absurd m
@@ -144,11 +189,14 @@ module _ (sc : Scenario) (other : SlaveDesc) (ok : IsScenario sc) (log : List Lo
         rest : y.owed ≡ posts
         rest = t ∙ ap tail q
 
+        all_to : AreTo W.master (p ∷ posts)
+        all_to = let P : List Post → Type 0 = λ ps. AreTo W.master ps in subst P q h.to_it
+
         by : (o : Option Note) → answer_in (role_heard W p.bytes) ≡ o → IsAnswered (c ∷ part) ⊎ StillOwes (c ∷ part)
-        by None o = inr (record { quiet = (no_got c no_event, h.quiet); owes_it = ap (answers_of W) rest ∙ sym (ap (λ (k : Option Note). cons_option k (answers_of W posts)) o) ∙ all })
+        by None o = inr (record { quiet = (no_got c no_event, h.quiet); owes_it = ap (answers_of W) rest ∙ sym (ap (λ (k : Option Note). cons_option k (answers_of W posts)) o) ∙ all; to_it = (let P : List Post → Type 0 = λ ps. AreTo W.master ps in subst P (sym rest) all_to.1) })
         by (Some b) o =
             let z : b ≡ a = head_same (sym (ap (λ (k : Option Note). cons_option k (answers_of W posts)) o) ∙ all) in
-            inl (record { after = []; before = part; to = to; bytes = bytes; is = ap (λ (k : LogEntry). k ∷ part) e; quiet = h.quiet; read = ap (λ (k : List ℕ). answer_in (role_heard W k)) (sym m.1) ∙ o ∙ ap (λ (k : Note). Some k) z })
+            inl (record { after = []; before = part; bytes = bytes; is = ap (λ (k : LogEntry). k ∷ part) (e ∙ ap (λ (k : Address). Sent (W.slave s) k bytes) (sym m.0 ∙ all_to.0)); quiet = h.quiet; read = ap (λ (k : List ℕ). answer_in (role_heard W k)) (sym m.1) ∙ o ∙ ap (λ (k : Note). Some k) z })
 
     goes_on : IsAnswered (c ∷ part) ⊎ StillOwes (c ∷ part)
     goes_on = by (move W s c) refl may (((are_slaves sc other ok).each s it).goes c (part ++ base) may)
@@ -164,10 +212,10 @@ module _ (sc : Scenario) (other : SlaveDesc) (ok : IsScenario sc) (log : List Lo
         by Other e m v = stays v
 
   later_too : (c : LogEntry) (part : List LogEntry) → IsAnswered part → IsAnswered (c ∷ part)
-  later_too c part k = record { after = c ∷ k.after; before = k.before; to = k.to; bytes = k.bytes; is = ap (λ (z : List LogEntry). c ∷ z) k.is; quiet = k.quiet; read = k.read }
+  later_too c part k = record { after = c ∷ k.after; before = k.before; bytes = k.bytes; is = ap (λ (z : List LogEntry). c ∷ z) k.is; quiet = k.quiet; read = k.read }
 
   scan : (part later : List LogEntry) → reverse log ≡ later ++ (part ++ base) → IsAnswered part ⊎ StillOwes part
-  scan [] later e = inr (record { quiet = tt; owes_it = owes })
+  scan [] later e = inr (record { quiet = tt; owes_it = owes; to_it = to_master })
   scan (c ∷ part) later e = by (scan part (later ++ c ∷ []) (e ∙ sym (append_assoc later (c ∷ []) (part ++ base))))
     where
       by : IsAnswered part ⊎ StillOwes part → IsAnswered (c ∷ part) ⊎ StillOwes (c ∷ part)
