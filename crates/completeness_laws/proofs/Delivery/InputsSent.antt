@@ -138,6 +138,7 @@ abbrev nack_by : Option Decision → ℕ
 nack_by None = 0
 nack_by (Some d) = nack_in d.answer
 
+-- lists that are the same begin with the same
 head_same : {A : Type 0} {y z : A} {ys zs : List A} → y ∷ ys ≡ z ∷ zs → y ≡ z
 head_same q = cc
 
@@ -150,7 +151,7 @@ news_by_message bytes m e = ap news_in e
 step_main : (a : Asking) → a.code ≡ 7 → is_main a ≡ true
 step_main a e = ap (λ (m : ℕ). (nat_le 1 m && nat_le m 10) || (nat_le 32 m && nat_le m 43)) e
 
--- what holds of each that is kept of a list holds of each request for a step in it
+-- where each step among these requests was refused for missing inputs, so was one that stands at a place
 kept_missing : (xs : List Asking) → ((j : ℕ) (b : Asking) → slice_get (filter is_step xs) j ≡ Some b → IsMissing b) → (i : ℕ) (a : Asking) → slice_get xs i ≡ Some a → IsTrue (is_step a) → IsMissing a
 kept_missing [] each i a h s = absurd (none i h)
   where
@@ -181,9 +182,11 @@ odd_place d m low high odd = by (cases_lt d (2 * m + 2))
 pinned : (before after all counted done row one : ℕ) → before ≤ all → all ≤ counted → counted ≤ after → after ≡ before + one → one ≡ 1 → all ≡ done → before ≡ 2 * row + 1 → (done % 2 ≡ 0 → ⊥) → done ≡ 2 * row + 1
 pinned before after all counted done row one a b c d e f g odd = odd_place done row (omega (arith, a, f, g)) (omega (arith, b, c, d, e, f, g)) odd
 
+-- halves, rounded down, rise
 halves : (m n : ℕ) → m ≤ n → m / 2 ≤ n / 2
 halves m n h = omega (arith, h)
 
+-- half of an odd number, rounded down
 half_odd : (d m : ℕ) → d ≡ 2 * m + 1 → d / 2 ≡ m
 half_odd d m h = omega (arith, h)
 
@@ -303,6 +306,7 @@ module _ (sc : Scenario) (other : SlaveDesc) (ok : IsScenario sc) (log : List Lo
   abbrev js : List Job
   js = jobs_of S L
 
+  -- what the exchanges tell of the row events, the requests tell
   told : (part base : List LogEntry) → F ≡ part ++ base → view (decided_exchanges W s base) ≡ progress (asks S.address L base)
   told part base e = progress_told S heard W (are_parties sc other ok) base (run_at part base e) s it L (party sc other ok s it)
 
@@ -391,6 +395,7 @@ module _ (sc : Scenario) (other : SlaveDesc) (ok : IsScenario sc) (log : List Lo
     done = (view (step.is).es).done
 
     -- ---- the step of the phase
+    -- no more row events are done at the end than when the last step was asked
     done_whole : (view (decided_exchanges W s F)).done ≡ done
     done_whole =
         let same : progress (newest.who ∷ tail) ≡ progress (request ∷ tail) =
@@ -406,9 +411,11 @@ module _ (sc : Scenario) (other : SlaveDesc) (ok : IsScenario sc) (log : List Lo
     phase_one : phase ≡ phase - 1 + 1
     phase_one = let b = (sh.last).begun in omega (arith, b)
 
+    -- the row events that are done are those before the phase, and at most the one of the phase
     stands : StandsInPhase js (phase - 1) (view (decided_exchanges W s F))
     stands = progress_by_phase S heard W (are_parties sc other ok) F (run_at [] F refl) s it L (party sc other ok s it) (phase - 1) (phase_now ∙ phase_one)
 
+    -- the phase is for step k of a run
     at : IsStepJob S.steps S.runs (phase - 1) (events_before js (phase - 1)) k
     at = step_job S.steps S.runs L.script heard.runs (phase - 1) job job_in k (sh.shown.1).step
 
@@ -418,6 +425,7 @@ module _ (sc : Scenario) (other : SlaveDesc) (ok : IsScenario sc) (log : List Lo
     one_event : events_of job ≡ 1
     one_event = ap (λ (t : Task). if is_some (row_event_in t) then 1 else 0) (sh.shown.1).step
 
+    -- the slave stands at the row before the step
     done_is : done ≡ 2 * row + 1
     done_is =
         pinned (events_before js (phase - 1)) (events_before js (phase - 1 + 1)) (view (decided_exchanges W s F)).done (events_counted (view (decided_exchanges W s F))) done row (events_of job)
@@ -436,6 +444,7 @@ module _ (sc : Scenario) (other : SlaveDesc) (ok : IsScenario sc) (log : List Lo
     abbrev link : DataLink
     link = wired.link
 
+    -- and the ordinal of its place is the one that the step wants
     j_is : j ≡ ordinal_wanted sc.steps link.every at.run k
     j_is =
         let place : place_after done ≡ row = half_odd done row done_is in
@@ -473,6 +482,7 @@ module _ (sc : Scenario) (other : SlaveDesc) (ok : IsScenario sc) (log : List Lo
     own : OwnSending sc other ok sending.from sending.to sending.bytes id j sending.note old
     own = missed.own sc other ok s it there done step.at_step
 
+    -- it went over a wire to the slave
     link_to : IsLinkTo sc other s link
     link_to = record {
       sender = (let P : ℕ → Type 0 = λ n. IsSlaveOf W n in subst P (sym (missed.from_link sc other ok s it there done step.at_step)) (missed.sender sc other ok s it there done step.at_step));
@@ -539,6 +549,7 @@ module _ (sc : Scenario) (other : SlaveDesc) (ok : IsScenario sc) (log : List Lo
       pub none : IsQuiet quiet
       pub read : answer_in (role_heard W bytes) ≡ Some answer
 
+    -- what the slave gets is not what the master gets
     not_master : step.entry ≡ newest.came → ⊥
     not_master e =
         let same : Got (W.slave s) step.from step.bytes ≡ Got (newest.heard).at (newest.heard).from (newest.heard).bytes = sym step.entry_is ∙ e ∙ (newest.heard).is in
@@ -618,6 +629,7 @@ module _ (sc : Scenario) (other : SlaveDesc) (ok : IsScenario sc) (log : List Lo
       abbrev base : List LogEntry
       base = (was.step).there
 
+      -- the phase had begun then
       phase_least : phase ≤ (course_at S was.now).phase
       phase_least =
           let reached : phase_reached js (asks S.address L was.now) ≡ phase_at js (acked of.rest) =
@@ -626,6 +638,7 @@ module _ (sc : Scenario) (other : SlaveDesc) (ok : IsScenario sc) (log : List Lo
           let most = reached_most S heard (s - 1) L (numbered_at sc other ok s it) was.now (run_at was.part was.now was.is) in
           omega (arith, reached, least, most)
 
+      -- so as many row events were done
       done_least : done ≤ (view ((was.step).is).es).done
       done_least =
           let f = (course_at S was.now).phase - 1 in
@@ -638,6 +651,7 @@ module _ (sc : Scenario) (other : SlaveDesc) (ok : IsScenario sc) (log : List Lo
           let e : done ≡ events_before js (phase - 1) = done_is ∙ sym at.events in
           omega (arith, stand, rise, same, e)
 
+      -- and the message had been sent
       enough : j + 1 ≤ length (values_sent W id base)
       enough =
           let z = ((was.step).at_step).sent id (missed.sender sc other ok s it there done step.at_step) in

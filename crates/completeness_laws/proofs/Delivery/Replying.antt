@@ -35,6 +35,7 @@ pub record IsAnswerOf (k : Role) (a : Note) : Type 0 where
   pub sender : ℕ
   pub is : k ≡ Answer sender a
 
+-- what reads as an answer is one
 pub answer_role : (k : Role) (a : Note) → answer_in k ≡ Some a → IsAnswerOf k a
 answer_role (Answer sender n) a h = let z : n ≡ a = cc in record { sender = sender; is = ap (λ (x : Note). Answer sender x) z }
 answer_role (Request receiver n) a h = absurd cc
@@ -46,12 +47,15 @@ pub record OwesAnswer (w : Parties) (z : DecidedRequest) (d : Desk) : Type 0 whe
   pub owes : answers_of w d.owed ≡ z.answer ∷ []
   pub number : z.answer.number ≡ z.request.number
 
+-- a list is not the same with one more in front
 longer : {A : Type 0} (z : A) (xs ys : List A) → ys ≡ xs → ys ≡ z ∷ xs → ⊥
 longer z xs ys e h = let n = ap length (sym e ∙ h) in omega (arith, n)
 
+-- lists that are the same begin with the same
 head_same : {A : Type 0} {y z : A} {ys zs : List A} → y ∷ ys ≡ z ∷ zs → y ≡ z
 head_same q = cc
 
+-- an entry with which one more request is served leaves its answer to be sent
 pub takes_owing : (w : Parties) (accepts : Note → Bool) (mv : Move) (x y : Desk) (z : DecidedRequest) → ServesNote w accepts mv x y → y.served ≡ z ∷ x.served → OwesAnswer w z y
 takes_owing w accepts (Asks n) x y z v h = absurd (longer z x.served y.served (ap (λ (d : Desk). d.served) v) h)
 takes_owing w accepts (Comes from receiver n) x y z v h = by v
@@ -96,6 +100,7 @@ module _ (sc : Scenario) (other : SlaveDesc) (s : ℕ) where
   fate_to x from r Repeated = again_to from x.served
   fate_to x from r Taken = (refl, notices_to from r.receiver (M.answers r.asked x.inner).notices)
 
+  -- all that is sent for a datagram goes to its sender
   heard_to : (x : SlaveState Plant) (from : Address) (h : spec.Heard) → AreTo from (map post (transport.heard_sends M x from h))
   heard_to x from (spec.Asks r) = fate_to x from r (transport.fate M x from r)
   heard_to x from (spec.Brings number id payload) = tt
@@ -149,6 +154,7 @@ module _ (sc : Scenario) (other : SlaveDesc) (ok : IsScenario sc) (log : List Lo
     pub quiet : IsQuiet before
     pub read : answer_in (role_heard W bytes) ≡ Some a
 
+  -- or nothing is got, and it is still to be sent
   record StillOwes (part : List LogEntry) : Type 0 where
     pub quiet : IsQuiet part
     pub owes_it : answers_of W (X.desk s (part ++ base)).owed ≡ a ∷ []
@@ -214,6 +220,7 @@ module _ (sc : Scenario) (other : SlaveDesc) (ok : IsScenario sc) (log : List Lo
   later_too : (c : LogEntry) (part : List LogEntry) → IsAnswered part → IsAnswered (c ∷ part)
   later_too c part k = record { after = c ∷ k.after; before = k.before; bytes = k.bytes; is = ap (λ (z : List LogEntry). c ∷ z) k.is; quiet = k.quiet; read = k.read }
 
+  -- one of the two, after each entry
   scan : (part later : List LogEntry) → reverse log ≡ later ++ (part ++ base) → IsAnswered part ⊎ StillOwes part
   scan [] later e = inr (record { quiet = tt; owes_it = owes; to_it = to_master })
   scan (c ∷ part) later e = by (scan part (later ++ c ∷ []) (e ∙ sym (append_assoc later (c ∷ []) (part ++ base))))
