@@ -7,7 +7,7 @@ from .source import camel, table
 
 
 def tables():
-    yield table("codec_tests/src/tests.rt", "ROWS", again)
+    yield table("text_tests/src/messages.rt", "ROWS", again)
 
 
 def again(row):

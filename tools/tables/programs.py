@@ -2,14 +2,13 @@
 import hashlib
 import re
 
-from model.commands import (BAD_INPUT, DIFFERS, DONE, READ_FAULT, USAGE, WRITE_FAULT, Outcome, call, command_of, reads_input)
+from model.commands import BAD_INPUT, READ_FAULT, USAGE, WRITE_FAULT, Outcome, call, command_of, reads_input
 
 from .source import Table, constant, literal, source, table
 
 ROWS = "program_tests/src/rows.rt"
 RUNS = "program_tests/src/runs.rt"
 TABLES = "NO_COMMANDS DECODED ENCODED DESCRIBED REFERENCES TALKS RUNS SOAKS FAULTS".split()
-STATUSES = {"Done": DONE, "Differs": DIFFERS, "BadInput": BAD_INPUT}
 # The tests hand over so many bytes at each read.
 READ_BYTES = 2
 
@@ -83,12 +82,14 @@ def counter_trace():
 
 def damages():
     """What is said of the counter's trace with a byte changed, and cut to a length."""
-    trace, rows, made = counter_of().trace, [], []
-    pattern = r"\(\s*([0-9_]+),\s*(b'.'|[0-9]+),\s*([0-9_]+),\s*Status::(\w+),\s*b\"(.*?)\"\.as_slice\(\),?\s*\)"
-    for at, byte, length, status, out in re.findall(pattern, source(RUNS)):
-        rows.append(f"{at} {byte} {length} {STATUSES[status]} {literal(out)!r}")
+    trace = counter_of().trace
+
+    def again(row):
+        words, cut, _, _ = row.split("|")
+        at, byte, length = map(int, cut.split())
         changed = bytearray(trace)
-        changed[int(at)] = ord(byte[2]) if byte.startswith("b") else int(byte)
-        given = call(["replay"], bytes(changed[:int(length.replace("_", ""))]))
-        made.append(f"{at} {byte} {length} {given.status} {given.out.decode()!r}")
-    return Table(f"crates/{RUNS}: the damaged trace of COUNTER", rows, made)
+        changed[at] = byte
+        given = call(words.split(), bytes(changed[:length]))
+        return "|".join([words, cut, str(given.status), given.out.decode().replace("\n", "/")])
+
+    return table(RUNS, "DAMAGED", again)

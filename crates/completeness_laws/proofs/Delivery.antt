@@ -34,4 +34,7 @@ pub mod Lacked
 pub mod Rising
 pub mod Missed
 pub mod Refused
+pub mod Entries
+pub mod StepJobs
+pub mod Reaching
 pub mod InputsSent

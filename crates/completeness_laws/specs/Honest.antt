@@ -15,14 +15,18 @@ use Rattle.master_log_laws.specs.Index.Runs.{course_at}
 use Rattle.lockstep_laws.specs.Models.Scenarios.{slave_numbered}
 use Rattle.run_laws.specs.Laws.{parties, IsRunInRounds}
 use Rattle.completeness_laws.specs.AnswerCauses.{IsOfHeartbeat, IsOfReference, IsRefusedInError}
-use Rattle.completeness_laws.specs.Reasons.{InputsWereSent}
+use Rattle.completeness_laws.specs.Inputs.{InputsWereSent}
 use Rattle.completeness_laws.specs.Undelivered.{EndedInPhase}
 use Rattle.completeness_laws.specs.Unheard.{IsUnheard}
 use Rattle.completeness_laws.specs.Unshown.{AreOutputsUnshown}
 
--- where the log shows that slave s refused a step for want of inputs until the master gave it up, some of them were on their way
-abbrev pub AreInputsMissing : Scenario → List LogEntry → (s phase q k : ℕ) → Type 0
-AreInputsMissing sc log s phase q k = (slave : Slave) → IsIn (setup_from sc) slave → slave.id ≡ s → (shown : Shown (setup_from sc) log slave phase (causes.InputsMissing q k)) → InputsWereSent (setup_from sc) log slave phase q k shown
+-- the log shows that slave s refused step k for want of inputs until the master gave it up, and some of the inputs were on their way
+pub record AreInputsMissing (sc : Scenario) (other : SlaveDesc) (log : List LogEntry) (s phase q k : ℕ) : Type 0 where
+  pub slave : Slave
+  pub is_in : IsIn (setup_from sc) slave
+  pub id_is : slave.id ≡ s
+  pub shown : Shown (setup_from sc) log slave phase (causes.InputsMissing q k)
+  pub sent : InputsWereSent sc other log slave phase q k shown
 
 -- The reason of the cause with which the conversation with slave s ended in this phase. It ended with entry e, after what was so far; the log is the one at the report.
 --   Unexpected             never
@@ -32,12 +36,12 @@ AreInputsMissing sc log s phase q k = (slave : Slave) → IsIn (setup_from sc) s
 --   Stuck                  the steps of the slave last, with two turns more, as long as the limit for a state
 --   Faulted, code 35       the slave had as many turns in a row as its heartbeat without taking a request
 --   Faulted, other codes   the reference ends with this fault of this slave, at what the phase is for
---   InputsMissing          a data message for the slave had been sent before the refusal before the last came, and had not come when the step that it refused last was first asked
+--   InputsMissing, step k  over a wire to the slave the data that it wants for step k had been sent before any refusal of the step came, and had not come when the slave got the request that it refused last
 abbrev pub HasHonestReason : (sc : Scenario) (other : SlaveDesc) (log sofar : List LogEntry) → LogEntry → (s phase : ℕ) → Cause → Type 0
 HasHonestReason sc other log sofar e s phase (causes.Unexpected q y t) = ⊥
 HasHonestReason sc other log sofar e s phase (causes.NoAnswer q) = IsUnheard (parties sc other) s q sofar
 HasHonestReason sc other log sofar e s phase (causes.Refused q c) = IsRefusedInError sc other log s c
-HasHonestReason sc other log sofar e s phase (causes.InputsMissing q k) = AreInputsMissing sc log s phase q k
+HasHonestReason sc other log sofar e s phase (causes.InputsMissing q k) = AreInputsMissing sc other log s phase q k
 HasHonestReason sc other log sofar e s phase (causes.DataMissing k) = AreOutputsUnshown sc other s k (e ∷ sofar)
 HasHonestReason sc other log sofar e s phase (causes.Stuck q t) = sc.limits.state_limit ≤ (slave_numbered sc other s).busy + 2
 HasHonestReason sc other log sofar e s phase (causes.Faulted q c) = IsOfHeartbeat sc other log s (causes.Faulted q c) × IsOfReference sc s phase (causes.Faulted q c)

@@ -7,6 +7,7 @@ pub mod Undelivered
 pub mod Timely
 pub mod Small
 pub mod Lacking
+pub mod Inputs
 pub mod Reasons
 pub mod Completes
 pub mod Honest

@@ -1,42 +1,22 @@
 -- What honest runs show of the causes that their masters report. The log has its newest entry first.
 use Rattle.std.specs.Prelude.{◌≡◌, ◌≢◌, ℕ, ◌+◌, ◌<◌, ◌≤◌, IsTrue, true, Option, Some, List, [], ◌∷◌, ◌++◌, length, slice_get, count_by}
 use Rattle.dcp_types.specs.Codes.{fault_code}
-use Rattle.dcp_types.specs.declared.addresses.Address.{Address}
 use Rattle.dcp_ends.specs.declared.entries.LogEntry.{LogEntry}
-use Rattle.dcp_ends.specs.declared.entries.LogEntry.TheVariants.{Sent, Got}
 use Rattle.slave_desc.specs.declared.descriptions.SlaveDesc.{SlaveDesc}
 use Rattle.scenario.specs.declared.scenarios.Scenario.{Scenario}
 use Rattle.lockstep.specs.declared.references.RefFault.{RefFault}
-use Rattle.master_spec.specs.declared.causes.Cause.TheVariants as causes
 use Rattle.master_spec.specs.declared.requests.Answer.TheVariants.{Nack}
 use Rattle.master_spec.specs.declared.setups.Slave.{Slave}
 use Rattle.master_spec.specs.declared.setups.Setup.{Setup}
 use Rattle.master_spec.specs.Setup.{jobs_of}
-use Rattle.master_spec.specs.News.{news_of, Brings}
 use Rattle.master_spec.specs.Requests.{Asking, asks, is_step, of_phase, is_turn_of, turns_before}
-use Rattle.master_spec.specs.Exchanged.{IsDecided, entry_at}
-use Rattle.master_spec.specs.Shown.{Shown}
+use Rattle.master_spec.specs.Exchanged.{IsDecided}
 use Rattle.master_log_laws.specs.Index.Runs.{course_at}
 use Rattle.lockstep_laws.specs.Models.Scenarios.{slave_numbered}
 use Rattle.slave_laws.specs.Data.Whole.{slaves_asked}
 use Rattle.completeness_laws.specs.StepPhases.{phase_of_step}
 
--- ---- inputs that were missing
-
--- a datagram with inputs was sent before the refusal before the last one came, and had not come when the slave got the step that it refused last
-pub record InputsWereSent (setup : Setup) (log : List LogEntry) (slave : Slave) (p q k : ℕ) (s : Shown setup log slave p (causes.InputsMissing q k)) : Type 0 where
-  pub sent : ℕ
-  pub from : Address
-  pub bytes : List ℕ
-  pub number : ℕ
-  pub id : ℕ
-  pub payload : List ℕ
-  pub is : entry_at log sent ≡ Some (Sent from slave.address bytes)
-  pub read : news_of bytes ≡ Brings number id payload
-  pub before : (a : Asking) (place code : ℕ) → slice_get s.earlier 0 ≡ Some a → IsTrue (is_step a) → IsDecided a place (Nack code) → sent ≤ place
-  pub came : ℕ
-  pub asked : s.request.first < came
-  pub missing : (j : ℕ) → sent < j → j < came → entry_at log j ≡ Some (Got slave.address from bytes) → ⊥
+-- ---- steps that are asked again
 
 -- of the phase in which the run ends: where the newest request is a step, and another step was asked in this phase, the request before is a step that was refused, and the newest one comes as many turns after that as the limit says
 pub record Waits (setup : Setup) (log : List LogEntry) (r a : Asking) : Type 0 where

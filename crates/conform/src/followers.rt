@@ -27,7 +27,7 @@ use crate::faults::Faults;
 use crate::matching::{find_out, is_begun, is_out};
 use crate::meanings::Meaning;
 use crate::notices::is_told;
-use crate::plants::{ForeignDevice, is_passing};
+use crate::plants::ForeignDevice;
 use crate::sending::OUTPUTS;
 use dcp_types::{Address, ErrorCode, FaultCode, OutOfMemory, State};
 use pdu_layout::Stc;
@@ -38,7 +38,7 @@ use slave_core::{
 };
 use slave_desc::SlaveDesc;
 use slave_spec::{Asked, Fate, Session, SlaveRequest};
-use slave_states::next_on_turn;
+use slave_states::{is_passing, next_on_turn};
 use std::alloc::Global;
 use wirings::Wiring;
 

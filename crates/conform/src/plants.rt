@@ -5,7 +5,6 @@ ghost use Rattle.dcp_types.specs.declared.states.State.{State};
 ghost use Rattle.slave_desc.specs.declared.descriptions.SlaveDesc.{SlaveDesc};
 ghost use Rattle.slave_log.specs.Shelves as shelves;
 ghost use Rattle.slave_spec.specs.Transport.{Ack};
-ghost use Rattle.slave_states.specs.Transitions.{is_passing};
 ghost use Rattle.slave_spec.specs.Turns as turns;
 ghost use Rattle.slave_spec.specs.Requests.{refusal, accepted, change_refusal, changed_to, plant_reset, is_in_error};
 ghost use Rattle.foreign_spec.specs.Foreign.{ForeignPlant, setup_for, known_plant, table_refusal, taken_over, foreign_answered, foreign_brings, passed, verdict};
@@ -67,24 +66,6 @@ fn is_in_error(state: State) -> bool
     ensures { result ≡ is_in_error state }
 {
     matches!(state, State::ErrorHandling | State::ErrorResolved)
-}
-
-/// Whether a slave leaves a state by its own turn.
-pub(crate) fn is_passing(state: State) -> bool
-    ensures { result ≡ is_passing state }
-{
-    matches!(
-        state,
-        State::Preparing
-            | State::Configuring
-            | State::Initializing
-            | State::SendingI
-            | State::Synchronizing
-            | State::Computing
-            | State::SendingD
-            | State::Stopping
-            | State::ErrorHandling
-    )
 }
 
 impl ForeignDevice {

@@ -5,10 +5,10 @@
 //! each new request follows the plan. There is no code.
 #![tactic(auto)]
 
-pub mod barrier;
-pub mod hears;
-pub mod meets;
+pub mod barrier_laws;
+pub mod hearing_laws;
 pub mod plan_order;
-pub mod rest;
+pub mod request_laws;
+pub mod rest_laws;
 pub mod row_counts;
-pub mod rows;
+pub mod row_laws;

@@ -6,15 +6,15 @@
 //! master has its report within the bound of its scenario. No code stands here; each function is a law.
 #![tactic(auto)]
 
-pub mod asking;
+pub mod asking_laws;
 mod bounds;
-pub mod exchanges;
-pub mod failures;
-pub mod finish;
-pub mod index;
+pub mod exchange_laws;
+pub mod failure_laws;
+pub mod finish_laws;
+pub mod index_laws;
 mod naming;
-pub mod phases;
-pub mod scenarios;
+pub mod phase_laws;
+pub mod scenario_laws;
 mod turns;
 
 pub use bounds::{scenario_reports, setup_reports};

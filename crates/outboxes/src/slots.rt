@@ -20,7 +20,9 @@ pub(crate) struct Slot {
 
 impl Slot {
     /// A slot in which no message stands yet.
-    pub fn new() -> Slot {
+    pub fn new() -> Slot
+        ensures { result.length ≡ 0 }
+    {
         Slot {
             to: Address { ip: 0, port: 0 },
             length: 0,

@@ -1,6 +1,6 @@
 //! An end with an inbox, polled by hand.
 
-ghost use Rattle.std.specs.Prelude.{◌≡◌, ◌≤◌, List, [], ◌∷◌, ◌++◌, Some, None, IsTrue, IfOk, IfSome, IfNone, IsSome, length, ◌↔◌};
+ghost use Rattle.std.specs.Prelude.{◌≡◌, ◌≤◌, List, [], ◌∷◌, ◌++◌, Some, None, IfOk, IfSome, IfNone, length};
 ghost use Rattle.dcp_ends.specs.Events.{Event, Gram, Tick};
 ghost use Rattle.futures.specs.Task.{Covers, Keeps};
 ghost use Rattle.futures.specs.Poll.{OnPending};
@@ -79,13 +79,6 @@ impl<E: End> EndTask<E> {
         self.has_mail = true;
         // A waker wakes its task when it is dropped.
         self.waker = None;
-    }
-
-    /// Whether a datagram is in the inbox.
-    pub fn has_mail(&self) -> bool
-        ensures { IsTrue result ↔ IsSome self.now.mail }
-    {
-        self.has_mail
     }
 
     /// The end of this task.

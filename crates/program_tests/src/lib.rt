@@ -5,6 +5,8 @@
 #[cfg(test)]
 mod adapters;
 #[cfg(test)]
+mod bridges;
+#[cfg(test)]
 mod calls;
 #[cfg(test)]
 mod faults;

@@ -3,6 +3,7 @@
 ghost use Rattle.std.specs.Prelude.{◌≤◌, length, IfOk};
 ghost use Rattle.dcp_net.specs.Scripts.{AllFit};
 
+use crate::tables::bytes_of;
 use commands::{Status, Words, run_words};
 use dcp_ends::Bytes;
 use dcp_io::{MemorySink, MemorySource};
@@ -67,158 +68,64 @@ fn the_trace_of_a_counter_is_that_of_the_model(rt: HostRuntime) -> Result<(), Fa
     Ok(())
 }
 
-/// What the words say of this trace, with one byte of it changed and cut to a length.
-fn judged(
-    alloc: Global,
-    words: &str,
-    trace: &[u8],
-    case: &Damage,
-) -> Result<(Status, Vec<u8>), Fail> {
-    let mut bytes = trace.to_vec(alloc)?;
-    if let Some(place) = bytes.get_mut(case.at) {
-        *place = case.byte;
-    }
-    bytes.truncate(case.len);
-    let mut net = MemoryNet::new(alloc);
-    let (status, out, _trace) = call_over(alloc, words, bytes, &mut net)?;
-    Ok((status, out))
-}
+/// Traces of the counter of which one byte is changed, and which are then cut to a length. A line has the words of
+/// the command; the place of the byte, its new value and the length; the number of the status; and what is written.
+/// The acknowledgement of the register, entry 7, stands at the bytes 268 to 286.
+const DAMAGED: &str = "\
+replay|0 68 4634|0|0 0/1 1/2 2/3 3/finished 3/
+replay|193 1 4634|8|differs at 3/
+replay|0 68 222|8|unended 5/
+replay|5 7 4634|2|input: byte 5 HEADER/
+replay|13 120 4634|2|input: byte 13 HEADER/
+replay|0 68 3|2|input: byte 3 HEADER/
+conform count|0 68 4634|0|conforms count events 77/
+conform count|0 68 287|0|conforms count events 2/
+conform count|286 2 287|8|bad entry 7 SEND/
+conform count|268 4 275|8|bad entry 7 MISSING/
+conform count|5 7 4634|2|input: byte 5 HEADER/
+conform other|0 68 4634|2|input: line 0 UNKNOWN_SLAVE/";
 
-/// A byte of a trace that is changed, its length, and the answer.
-#[derive(Drop)]
-struct Damage {
-    at: usize,
-    byte: u8,
-    len: usize,
-    status: Status,
-    out: &'static [u8],
+/// The trace with one byte changed and cut to a length, as a cell tells them.
+fn damaged(alloc: Global, trace: &[u8], cell: &str) -> Result<Vec<u8>, Fail> {
+    let mut numbers = cell.split_whitespace();
+    let mut next = || numbers.next().unwrap_or("").parse::<usize>().unwrap_or(0);
+    let (at, byte, len) = (next(), next(), next());
+    let mut bytes = trace.to_vec(alloc)?;
+    if let Some(place) = bytes.get_mut(at) {
+        *place = u8::try_from(byte).unwrap_or(0);
+    }
+    bytes.truncate(len);
+    Ok(bytes)
 }
 
 #[test]
-fn a_trace_goes_to_its_run_or_stops_where_it_differs(rt: HostRuntime) -> Result<(), Fail> {
+fn damaged_traces_are_refused_or_stop_where_they_differ(rt: HostRuntime) -> Result<(), Fail> {
     let (_, _, trace) = run_over(rt.alloc(), &mut MemoryNet::new(rt.alloc()))?;
-    let damages = [
-        (
-            0,
-            b'D',
-            4_634,
-            Status::Done,
-            b"0 0\n1 1\n2 2\n3 3\nfinished 3\n".as_slice(),
-        ),
-        (193, 1, 4_634, Status::Differs, b"differs at 3\n".as_slice()),
-        (0, b'D', 222, Status::Differs, b"unended 5\n".as_slice()),
-        (
-            5,
-            7,
-            4_634,
-            Status::BadInput,
-            b"input: byte 5 HEADER\n".as_slice(),
-        ),
-        (
-            13,
-            b'x',
-            4_634,
-            Status::BadInput,
-            b"input: byte 13 HEADER\n".as_slice(),
-        ),
-        (
-            0,
-            b'D',
-            3,
-            Status::BadInput,
-            b"input: byte 3 HEADER\n".as_slice(),
-        ),
-    ];
-    for (at, byte, len, status, out) in damages {
-        let damage = Damage {
-            at,
-            byte,
-            len,
-            status,
-            out,
-        };
-        let told = judged(rt.alloc(), "replay", trace.as_slice(), &damage)?;
-        assert_eq!(rt; told.0, damage.status);
-        assert!(rt; told.1.as_slice() == damage.out);
+    for line in DAMAGED.lines() {
+        let mut cells = line.split('|');
+        let words = cells.next().unwrap_or("");
+        let bytes = damaged(rt.alloc(), trace.as_slice(), cells.next().unwrap_or(""))?;
+        let mut net = MemoryNet::new(rt.alloc());
+        let (status, out, _) = call_over(rt.alloc(), words, bytes, &mut net)?;
+        let code = cells.next().unwrap_or("").parse::<u8>().unwrap_or(99);
+        assert_eq!(rt; status.code(), code, "{line}");
+        let text = bytes_of(rt.alloc(), cells.next().unwrap_or(""))?;
+        assert!(rt; out == text, "{line}");
     }
     Ok(())
 }
 
 #[test]
-fn the_slave_of_a_run_conforms_and_a_changed_one_does_not(rt: HostRuntime) -> Result<(), Fail> {
+fn a_slave_without_its_answer_does_not_conform(rt: HostRuntime) -> Result<(), Fail> {
     let (_, _, trace) = run_over(rt.alloc(), &mut MemoryNet::new(rt.alloc()))?;
-    // The acknowledgement of the register, entry 7, stands at the bytes 268 to 286.
-    let table = [
-        (
-            "conform count",
-            0,
-            b'D',
-            4_634,
-            Status::Done,
-            b"conforms count events 77\n".as_slice(),
-        ),
-        (
-            "conform count",
-            0,
-            b'D',
-            287,
-            Status::Done,
-            b"conforms count events 2\n".as_slice(),
-        ),
-        (
-            "conform count",
-            286,
-            2,
-            287,
-            Status::Differs,
-            b"bad entry 7 SEND\n".as_slice(),
-        ),
-        (
-            "conform count",
-            268,
-            4,
-            275,
-            Status::Differs,
-            b"bad entry 7 MISSING\n".as_slice(),
-        ),
-        (
-            "conform count",
-            5,
-            7,
-            4_634,
-            Status::BadInput,
-            b"input: byte 5 HEADER\n".as_slice(),
-        ),
-        (
-            "conform other",
-            0,
-            b'D',
-            4_634,
-            Status::BadInput,
-            b"input: line 0 UNKNOWN_SLAVE\n".as_slice(),
-        ),
-    ];
-    for (words, at, byte, len, status, out) in table {
-        let damage = Damage {
-            at,
-            byte,
-            len,
-            status,
-            out,
-        };
-        let told = judged(rt.alloc(), words, trace.as_slice(), &damage)?;
-        assert_eq!(rt; told.0, damage.status);
-        assert!(rt; told.1.as_slice() == damage.out);
-    }
-    let front = trace.as_slice().get(..268).unwrap_or(&[]);
-    let mut without = front.to_vec(rt.alloc())?;
+    let mut without = trace
+        .as_slice()
+        .get(..268)
+        .unwrap_or(&[])
+        .to_vec(rt.alloc())?;
     without.extend_from_slice(trace.as_slice().get(287..).unwrap_or(&[]))?;
-    let (status, out, _) = call_over(
-        rt.alloc(),
-        "conform count",
-        without,
-        &mut MemoryNet::new(rt.alloc()),
-    )?;
+    let mut net = MemoryNet::new(rt.alloc());
+    let (status, out, _) = call_over(rt.alloc(), "conform count", without, &mut net)?;
     assert_eq!(rt; status, Status::Differs);
     assert!(rt; out.as_slice() == b"bad entry 7 MISSING\n".as_slice());
     Ok(())

@@ -37,7 +37,7 @@ since_each base (d ∷ w) h = (h.0, since_each base w h.1)
 pub told_is : (log : List LogEntry) → told (reverse log) ≡ without_turns log
 told_is log = ap without_turns (reverse-reverse log)
 
-onto_is : (part log : List LogEntry) → onto part (reverse log) ≡ reverse (log ++ part)
+pub onto_is : (part log : List LogEntry) → onto part (reverse log) ≡ reverse (log ++ part)
 onto_is part log = onto_reverse part (reverse log) ∙ sym (reverse-append log part)
 
 pub looks_take_all : QuietLooksTakeAll

@@ -30,7 +30,7 @@ none_own a (Got at from bytes ∷ part) h n = absurd h
 none_own a (Idle at ∷ part) h n = absurd h
 none_own a (Turn at ∷ part) h n = absurd h
 
-sent_rises : (part log : List LogEntry) → sent_count log ≤ sent_count (onto part log)
+pub sent_rises : (part log : List LogEntry) → sent_count log ≤ sent_count (onto part log)
 sent_rises [] log = omega arith
 sent_rises (Sent from to bytes ∷ part) log = let h = sent_rises part (Sent from to bytes ∷ log) in omega (arith, h)
 sent_rises (Got at from bytes ∷ part) log = sent_rises part (Got at from bytes ∷ log)
@@ -61,7 +61,7 @@ module _ (o : Opening) (quiet : IsQuietPlan o.plan) where
       fresh_at_onto a base part (e ∷ log) (omega (arith, h, r)) (each_entry o quiet (λ (d : Arrival). is_for o quiet a d ≡ true → base ≤ d.number) e log (λ from to bytes q. λ z. new_number base log h from to bytes) f)
 
   -- where none waits, all that wait later are new
-  none_fresh : (a : Address) (base : ℕ) (w : List Arrival) → tally (is_for o quiet a) w ≡ 0 → Each (λ (d : Arrival). is_for o quiet a d ≡ true → base ≤ d.number) w
+  pub none_fresh : (a : Address) (base : ℕ) (w : List Arrival) → tally (is_for o quiet a) w ≡ 0 → Each (λ (d : Arrival). is_for o quiet a d ≡ true → base ≤ d.number) w
   none_fresh a base [] h = tt
   none_fresh a base (d ∷ w) h = ((λ t. absurd (off t)), none_fresh a base w (omega (arith, h)))
     where

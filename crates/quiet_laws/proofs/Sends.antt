@@ -50,7 +50,7 @@ use Rattle.quiet_laws.proofs.Links.{link_end, one_id}
 use Rattle.quiet_laws.proofs.Plain.{IsPlainAsked, IsPlainHeard}
 use Rattle.quiet_laws.proofs.Mute.{IsMute, answered_mute, turned_mute}
 
-posts_more : (a : Address) (p : Post) (ps : List Post) → posts_to a (p ∷ ps) ≡ bit (same_address p.to a) + posts_to a ps
+pub posts_more : (a : Address) (p : Post) (ps : List Post) → posts_to a (p ∷ ps) ≡ bit (same_address p.to a) + posts_to a ps
 posts_more a p ps = by (same_address p.to a)
   where
     by : (b : Bool) → (if b then posts_to a ps + 1 else posts_to a ps) ≡ bit b + posts_to a ps

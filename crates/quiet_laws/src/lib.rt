@@ -5,6 +5,7 @@
 #![tactic(auto)]
 
 ghost use Rattle.quiet_laws.specs.Quiet.{OneRequestWaits, QuietLooksTakeAll, QuietNetsLoseNothing, SlavesSendLittle};
+ghost use Rattle.quiet_laws.specs.Rounded.{NoneAskedAgain};
 
 /// A look at an end of a quiet network takes all that waits for it, where that is no more than 64 messages of the
 /// last 32,767.
@@ -26,4 +27,9 @@ pub fn slaves_send_little()
 /// Over a quiet network one request waits for a slave at most, where the master sends it no request again.
 pub fn one_request_waits()
     ensures { OneRequestWaits }
+{}
+
+/// Where each round brings all that was sent before it, a patient master sends no request again.
+pub fn none_is_asked_again()
+    ensures { NoneAskedAgain }
 {}

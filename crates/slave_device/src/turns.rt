@@ -1,7 +1,6 @@
 //! Turns: the heartbeat, the steps of the model, and the states that a slave passes.
 
 ghost use Rattle.std.specs.Prelude.{◌≡◌, ◌≤◌, ◌<◌, ◌+◌, ◌++◌, ◌∷◌, [], length};
-ghost use Rattle.slave_states.specs.Transitions.{is_passing};
 ghost use Rattle.slave_spec.specs.Transport.{send, notice_message, notice_sends, turned_sends, Changed};
 ghost use Rattle.slave_spec.specs.Plants.{Plant};
 ghost use Rattle.slave_spec.specs.Requests.{note};
@@ -15,7 +14,7 @@ use crate::devices::Device;
 use dcp_types::{Address, FaultCode, State};
 use slave_core::{SlaveOutbox, put_changed};
 use slave_spec::{LogRemark, Wired};
-use slave_states::next_on_turn;
+use slave_states::{is_passing, next_on_turn};
 
 /// Whether the initial outputs are sent, after a state and what was so before.
 fn sent_after(state: State, before: bool) -> bool
@@ -25,24 +24,6 @@ fn sent_after(state: State, before: bool) -> bool
         State::SendingI => true,
         _ => before,
     }
-}
-
-/// Whether a slave leaves a state by its own turn.
-fn is_passing(state: State) -> bool
-    ensures { result ≡ is_passing state }
-{
-    matches!(
-        state,
-        State::Preparing
-            | State::Configuring
-            | State::Initializing
-            | State::SendingI
-            | State::Synchronizing
-            | State::Computing
-            | State::SendingD
-            | State::Stopping
-            | State::ErrorHandling
-    )
 }
 
 impl<W: Wired> Device<W> {

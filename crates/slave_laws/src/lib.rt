@@ -8,7 +8,7 @@
 #![tactic(auto)]
 
 pub mod courses;
-pub mod data;
+pub mod data_laws;
 pub mod emits;
 pub mod holds;
 pub mod inputs;

@@ -1,22 +1,22 @@
 //! Small runs, written out entry by entry, so that the laws and definitions speak of something.
 //!
-//! A master that asks one slave for a session and then for its state (`exchange`); logs that show a cause, and logs
-//! that lack one thing of it; whole runs of small scenarios that meet every premise of the laws of runs (`runs`). No
+//! A master that asks one slave for a session and then for its state (`exchange_run`); logs that show a cause, and logs
+//! that lack one thing of it; whole runs of small scenarios that meet every premise of the laws of runs (`whole_runs`). No
 //! code stands here; each function is a fact on these logs.
 #![tactic(auto)]
 
 mod bounds;
 mod data_missing;
-pub mod exchange;
+pub mod exchange_run;
 mod faulted;
 mod finished;
 mod inputs_missing;
 mod least;
 mod no_answer;
 mod refused;
-pub mod runs;
 mod stuck;
 mod unexpected;
+pub mod whole_runs;
 
 pub use bounds::{small_bound, usual_bound};
 pub use data_missing::{

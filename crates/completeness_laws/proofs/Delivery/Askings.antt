@@ -168,7 +168,7 @@ module _ (master : Address) (slave : Slave) where
     pub is : e ≡ Got at from bytes
     pub own : same_address at master ≡ true
 
-  pub record DecidedAt (log : List LogEntry) (d : Decision) (code first : ℕ) (tail : List Asking) : Type 0 where
+  pub record DecidedAt (log : List LogEntry) (d : Decision) (code number first : ℕ) (tail : List Asking) : Type 0 where
     pub part : List LogEntry
     pub entry : LogEntry
     pub base : List LogEntry
@@ -179,11 +179,12 @@ module _ (master : Address) (slave : Slave) where
     pub now : asks master slave (entry ∷ base) ≡ who ∷ tail
     pub decided : who.decision ≡ Some d
     pub same : who.code ≡ code
+    pub named : who.number ≡ number
     pub since : who.first ≡ first
 
   pub record OneAt (log : List LogEntry) (b : Asking) (tail : List Asking) : Type 0 where
     pub first : FirstAt log b tail
-    pub decided : (d : Decision) → b.decision ≡ Some d → DecidedAt log d b.code b.first tail
+    pub decided : (d : Decision) → b.decision ≡ Some d → DecidedAt log d b.code b.number b.first tail
 
   abbrev pub AreAt : List LogEntry → List Asking → Type 0
   AreAt log [] = Unit {0}
@@ -192,11 +193,11 @@ module _ (master : Address) (slave : Slave) where
   first_later : (e : LogEntry) (log : List LogEntry) (b : Asking) (tail : List Asking) → FirstAt log b tail → FirstAt (e ∷ log) b tail
   first_later e log b tail f = record { part = e ∷ f.part; entry = f.entry; base = f.base; is = ap (λ (z : List LogEntry). e ∷ z) f.is; place = f.place; before = f.before }
 
-  decided_later : (e : LogEntry) (log : List LogEntry) (d : Decision) (code first : ℕ) (tail : List Asking) → DecidedAt log d code first tail → DecidedAt (e ∷ log) d code first tail
-  decided_later e log d code first tail f = record { part = e ∷ f.part; entry = f.entry; base = f.base; is = ap (λ (z : List LogEntry). e ∷ z) f.is; heard = f.heard; place = f.place; who = f.who; now = f.now; decided = f.decided; same = f.same; since = f.since }
+  decided_later : (e : LogEntry) (log : List LogEntry) (d : Decision) (code number first : ℕ) (tail : List Asking) → DecidedAt log d code number first tail → DecidedAt (e ∷ log) d code number first tail
+  decided_later e log d code number first tail f = record { part = e ∷ f.part; entry = f.entry; base = f.base; is = ap (λ (z : List LogEntry). e ∷ z) f.is; heard = f.heard; place = f.place; who = f.who; now = f.now; decided = f.decided; same = f.same; named = f.named; since = f.since }
 
   one_later : (e : LogEntry) (log : List LogEntry) (b : Asking) (tail : List Asking) → OneAt log b tail → OneAt (e ∷ log) b tail
-  one_later e log b tail o = record { first = first_later e log b tail o.first; decided = λ d q. decided_later e log d b.code b.first tail (o.decided d q) }
+  one_later e log b tail o = record { first = first_later e log b tail o.first; decided = λ d q. decided_later e log d b.code b.number b.first tail (o.decided d q) }
 
   all_later : (e : LogEntry) (log : List LogEntry) (bs : List Asking) → AreAt log bs → AreAt (e ∷ log) bs
   all_later e log [] h = tt
@@ -235,7 +236,7 @@ module _ (master : Address) (slave : Slave) where
           let f = first_later e log b bs (h.0).first in (
             record {
               first = record { part = f.part; entry = f.entry; base = f.base; is = f.is; place = f.place; before = f.before };
-              decided = λ d z. decided_later e log d b.code b.first bs ((h.0).decided d z);
+              decided = λ d z. decided_later e log d b.code b.number b.first bs ((h.0).decided d z);
             },
             all_later e log bs h.1,
           )
@@ -262,11 +263,11 @@ module _ (master : Address) (slave : Slave) where
             all_later e log bs h.1,
           )
         where
-          two : (o : Option Decision) → b.decision ≡ o → (d : Decision) → decided_by b.decision (record { place = length log; answer = answer }) ≡ Some d → DecidedAt (e ∷ log) d b.code b.first bs
-          two (Some x) w d y = decided_later e log d b.code b.first bs ((h.0).decided d (w ∙ sym (ap (λ (o : Option Decision). decided_by o (record { place = length log; answer = answer })) w) ∙ y))
+          two : (o : Option Decision) → b.decision ≡ o → (d : Decision) → decided_by b.decision (record { place = length log; answer = answer }) ≡ Some d → DecidedAt (e ∷ log) d b.code b.number b.first bs
+          two (Some x) w d y = decided_later e log d b.code b.number b.first bs ((h.0).decided d (w ∙ sym (ap (λ (o : Option Decision). decided_by o (record { place = length log; answer = answer })) w) ∙ y))
           two None w d y =
               let v : record { place = length log; answer = answer } ≡ d = let u : Some (record { place = length log; answer = answer }) ≡ Some d = sym (ap (λ (o : Option Decision). decided_by o (record { place = length log; answer = answer })) w) ∙ y in cc in
-              record { part = []; entry = e; base = log; is = refl; heard = heard; place = ap (λ (x : Decision). x.place) v; who = record { code = b.code; number = b.number; more = b.more; first = b.first; repeats = b.repeats; decision = decided_by b.decision (record { place = length log; answer = answer }) }; now = z; decided = y; same = refl; since = refl }
+              record { part = []; entry = e; base = log; is = refl; heard = heard; place = ap (λ (x : Decision). x.place) v; who = record { code = b.code; number = b.number; more = b.more; first = b.first; repeats = b.repeats; decision = decided_by b.decision (record { place = length log; answer = answer }) }; now = z; decided = y; same = refl; named = refl; since = refl }
       by false z = all_later e log (b ∷ bs) h
   told_at e heard log (Hints sender) os q now h = all_later e log os h
   told_at e heard log (Brings number id payload) os q now h = all_later e log os h

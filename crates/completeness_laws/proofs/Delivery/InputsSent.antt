@@ -1,6 +1,6 @@
--- What a report of missing inputs shows of a data message: it was sent before the refusal before the last came, and had not come when the slave took the last request.
-use Rattle.std.proofs.Common.{◌≡◌, ℕ, zero, suc, ◌+◌, ◌-◌, ◌<◌, ◌≤◌, Bool, true, false, if◌then◌else◌, ◌⊎◌, inl, inr, Option, Some, None, List, [], ◌∷◌, ◌++◌, length, reverse, refl, sym, ap, ◌∙◌, subst, arith, length-append}
-use Rattle.std.specs.Prelude.{◌==◌, ◌&&◌, nat_lt, IsTrue, cond, filter, slice_get}
+-- What a report of missing inputs shows of a data message: it is what the step wants, it was sent before each refusal came, and it had not come when the slave took the last request.
+use Rattle.std.proofs.Common.{◌≡◌, ℕ, zero, suc, ◌+◌, ◌-◌, ◌*◌, ◌/◌, ◌%◌, ◌<◌, ◌≤◌, Bool, true, false, if◌then◌else◌, ◌⊎◌, inl, inr, Option, Some, None, List, [], ◌∷◌, ◌++◌, length, reverse, refl, sym, ap, ◌∙◌, subst, arith, length-append}
+use Rattle.std.specs.Prelude.{◌==◌, ◌&&◌, ◌||◌, nat_lt, nat_le, is_some, IsTrue, cond, filter, slice_get}
 use Rattle.std.proofs.lemmas.Bool.{cases_lt, eqb-true}
 use Rattle.std.proofs.lemmas.List.{append_assoc, append_cancel_right}
 use Rattle.dcp_types.specs.declared.addresses.Address.{Address}
@@ -11,95 +11,67 @@ use Rattle.pdu_layout.specs.Fields.FieldValue.{Number, Signed, Bytes}
 use Rattle.slave_desc.specs.declared.descriptions.SlaveDesc.{SlaveDesc}
 use Rattle.scenario.specs.declared.scenarios.Scenario.{Scenario}
 use Rattle.scenario.specs.Sound.{IsScenario}
+use Rattle.lockstep.specs.Lockstep.{row_index}
 use Rattle.log_spec.specs.Messages.{Note, Request, Value}
 use Rattle.log_spec.specs.Log.{Parties, IsSlaveOf, role_heard, values_sent, DecidedRequest}
+use Rattle.log_spec.specs.Moves.{decided_exchanges}
+use Rattle.log_spec.specs.Honest.{MayStandNewest}
 use Rattle.lockstep_laws.specs.Cast.{ConversingSlaves}
 use Rattle.lockstep_laws.specs.Runs.{Behaves}
-use Rattle.lockstep_laws.specs.Steps.{Step, reply_with, reply_of, told_by, told_of, Told, view_after, view, Nothing, Accepted, AtRest, Otherwise, is_on_its_way}
+use Rattle.lockstep_laws.specs.Steps.{Step, reply_with, reply_of, told_by, told_of, Told, BenchProgress, place_after, events_counted, view_after, view, Nothing, Accepted, AtRest, Otherwise, is_on_its_way}
+use Rattle.lockstep_laws.specs.Models.Ordinals.{ordinal_at}
+use Rattle.lockstep_laws.specs.Models.Scenarios.{slave_numbered}
 use Rattle.lockstep_laws.proofs.Conversation.{drop_later}
+use Rattle.lockstep_laws.proofs.Models.EachQth.{ordinal_is}
 use Rattle.master_spec.specs.declared.causes.Cause.TheVariants as causes
+use Rattle.master_spec.specs.declared.links.DataLink.{DataLink}
 use Rattle.master_spec.specs.declared.requests.Answer.{Answer as Answered}
 use Rattle.master_spec.specs.declared.requests.Answer.TheVariants.{Nack}
+use Rattle.master_spec.specs.declared.tasks.Task.{Task}
 use Rattle.master_spec.specs.declared.setups.Slave.{Slave}
 use Rattle.master_spec.specs.declared.setups.Setup.{Setup}
 use Rattle.master_spec.specs.Setup.{setup_from, slave_of, jobs_of}
 use Rattle.master_spec.specs.Jobs.{Job}
 use Rattle.master_spec.specs.Exchanged.{IsIn, IsDecided, entry_at}
-use Rattle.master_spec.specs.Requests.{Asking, Decision, asks, acked, is_main, is_step, phase_at, of_phase}
+use Rattle.master_spec.specs.Requests.{Asking, Decision, asks, acked, is_main, is_step, phase_at, phase_reached, of_phase}
 use Rattle.master_spec.specs.Shown.{Shown, IsMissing}
-use Rattle.master_log_laws.specs.Index.Runs.{IsRun}
+use Rattle.master_log_laws.specs.Index.Laws.{AreHeard}
+use Rattle.master_log_laws.specs.Index.Runs.{course_at, IsRun}
 use Rattle.master_log_laws.proofs.Index.ByEntry.{entry_by_entry}
-use Rattle.master_log_laws.proofs.Index.Dates.{entry_now, entry_later}
-use Rattle.master_laws.specs.Hears.Laws.{IsAnswerAs}
-use Rattle.lockstep_laws.specs.Models.Scenarios.{slave_numbered}
 use Rattle.master_log_laws.proofs.Scenarios.Heard.{setups_heard}
+use Rattle.master_laws.specs.Hears.Laws.{IsAnswerAs}
+use Rattle.master_laws.specs.Rows.Laws.{progress_after, progress}
+use Rattle.master_laws.proofs.Rows.Views.{progress_told}
+use Rattle.master_laws.specs.Barrier.Laws.{row_event_in, events_before, StandsInPhase}
+use Rattle.master_laws.proofs.Barrier.Scripts.{events_of, before_next}
+use Rattle.master_laws.proofs.Barrier.Standing.{progress_by_phase}
 use Rattle.slave_laws.specs.Data.Whole.{slaves_asked}
-use Rattle.slave_laws.proofs.Data.Held.{reads}
-use Rattle.run_laws.specs.Laws.{parties, slave_setup_of, IsRunInRounds}
-use Rattle.run_laws.proofs.Runs.{are_parties}
+use Rattle.slave_laws.specs.Wiring.Links.{interval_of}
+use Rattle.slave_laws.proofs.Data.Feeding.{some_interval}
+use Rattle.run_laws.specs.Laws.{parties, IsRunInRounds}
+use Rattle.run_laws.proofs.Runs.{party, are_parties}
 use Rattle.run_laws.proofs.Rounded.{rounds_are_runs}
 use Rattle.run_laws.proofs.Headline.Behaving.{are_slaves}
 use Rattle.run_laws.proofs.Headline.Moments.{so_far}
-use Rattle.completeness_laws.specs.Reasons.{InputsWereSent}
-use Rattle.completeness_laws.proofs.Causes.Moments.{served_grows}
+use Rattle.completeness_laws.specs.Inputs.{IsLinkTo, ordinal_wanted, WasSentOver, GetsAt, InputsWereSent}
 use Rattle.completeness_laws.proofs.Delivery.Askings.{DecidedAt, AreAt, are_at, at_one, same_ack}
 use Rattle.completeness_laws.proofs.Delivery.Ended.{numbered_at, run_front}
+use Rattle.completeness_laws.proofs.Delivery.Entries.{some_same, entry_there, within, ends_with}
 use Rattle.completeness_laws.proofs.Delivery.Fronts.{values_grow}
 use Rattle.completeness_laws.proofs.Delivery.Lacked as lacked
 use Rattle.completeness_laws.proofs.Delivery.Lacked.{AtStep}
 use Rattle.completeness_laws.proofs.Delivery.Missed as missed
+use Rattle.completeness_laws.proofs.Delivery.Ordinals.{ordinal_rises}
+use Rattle.completeness_laws.proofs.Delivery.Phases.{before_rises, not_more}
+use Rattle.completeness_laws.proofs.Delivery.Reaching.{reached_most, IsOfPhase, of_phase_at}
 use Rattle.completeness_laws.proofs.Delivery.Refused.{WasDecided, was_decided}
-use Rattle.completeness_laws.proofs.Delivery.Values.{Says, SentValue}
+use Rattle.completeness_laws.proofs.Delivery.Sessions.{comes_of_master}
+use Rattle.completeness_laws.proofs.Delivery.StepJobs.{IsStepJob, step_job}
+use Rattle.completeness_laws.proofs.Delivery.Values.{SentValue, OwnSending}
+use Rattle.completeness_laws.proofs.Delivery.Wires.{IsWiredTo}
 
 clash : true ≡ false → ⊥
 clash z = cc
-
--- ---- places in a log
-pub entry_there : (part base : List LogEntry) (e : LogEntry) → entry_at (part ++ e ∷ base) (length base) ≡ Some e
-entry_there [] base e = entry_now e base
-entry_there (c ∷ part) base e =
-    let n = length-append part (e ∷ base) in
-    entry_later c (part ++ e ∷ base) (length base) (omega (arith, n)) ∙ entry_there part base e
-
-record SplitAt (log : List LogEntry) (j : ℕ) (e : LogEntry) : Type 0 where
-  pub part : List LogEntry
-  pub base : List LogEntry
-  pub is : log ≡ part ++ e ∷ base
-  pub place : length base ≡ j
-
-some_same : {A : Type 0} {x y : A} → Some x ≡ Some y → x ≡ y
-some_same z = cc
-
-never_there : (i : ℕ) (e : LogEntry) → entry_at [] i ≡ Some e → ⊥
-never_there i e h = by i h
-  where
-    by : (i : ℕ) → slice_get [] i ≡ Some e → ⊥
-    by zero z = cc
-    by (suc i) z = cc
-
-within : (log : List LogEntry) (j : ℕ) (e : LogEntry) → j < length log → entry_at log j ≡ Some e → SplitAt log j e
-within [] j e lt h = absurd (omega (arith, lt))
-within (c ∷ log) j e lt h = by (cases_lt j (length log)) (λ z. within log j e z)
-  where
-    by : (j < length log) ⊎ (length log ≤ j) → (j < length log → entry_at log j ≡ Some e → SplitAt log j e) → SplitAt (c ∷ log) j e
-    by (inl l) f = let k = f l (sym (entry_later c log j l) ∙ h) in record { part = c ∷ k.part; base = k.base; is = ap (λ (z : List LogEntry). c ∷ z) k.is; place = k.place }
-    by (inr g) f =
-        let same : length log ≡ j = omega (arith, lt, g) in
-        let q : c ≡ e = some_same (sym (entry_now c log) ∙ ap (entry_at (c ∷ log)) same ∙ h) in
-        record { part = []; base = log; is = ap (λ (z : LogEntry). z ∷ log) q; place = same }
-
--- of two ends of a list the longer one ends with the other
-record EndsWith (xs ys : List LogEntry) : Type 0 where
-  pub front : List LogEntry
-  pub is : xs ≡ front ++ ys
-
-ends_with : (u xs v ys : List LogEntry) → u ++ xs ≡ v ++ ys → length ys ≤ length xs → EndsWith xs ys
-ends_with [] xs v ys e h = record { front = v; is = e }
-ends_with (c ∷ u) xs [] ys e h = let a = ap length e in let n = length-append u xs in absurd (omega (arith, a, n, h))
-ends_with (c ∷ u) xs (d ∷ v) ys e h = ends_with u xs v ys (tail_same e) h
-  where
-    tail_same : {y z : LogEntry} {us vs : List LogEntry} → y ∷ us ≡ z ∷ vs → us ≡ vs
-    tail_same q = cc
 
 -- ---- the requests of a phase are the newest
 record IsFront {A : Type 0} (xs all : List A) : Type 0 where
@@ -113,13 +85,6 @@ of_phase_front js p (a ∷ os) = by (is_main a && nat_lt (phase_at js (acked os)
     by : (b : Bool) → IsFront (of_phase js p os) os → IsFront (if b then [] else a ∷ of_phase js p os) (a ∷ os)
     by true f = record { rest = a ∷ os; is = refl }
     by false f = record { rest = f.rest; is = ap (λ (l : List Asking). a ∷ l) f.is }
-
-starts : (xs : List Asking) (a : Asking) → IsTrue (is_step a) → filter is_step (a ∷ xs) ≡ a ∷ filter is_step xs
-starts xs a h = by (is_step a) h
-  where
-    by : (b : Bool) → IsTrue b → cond b (a ∷ filter is_step xs) (filter is_step xs) ≡ a ∷ filter is_step xs
-    by true h = refl
-    by false h = absurd (clash (sym h))
 
 step_code : (a : Asking) → IsTrue (is_step a) → a.code ≡ 7
 step_code a h = eqb-true a.code 7 h
@@ -157,10 +122,6 @@ refused_done s x es code c h =
     let t : told_of x ≡ Nothing = ap (λ q. told_by q (reply_of x.answer)) (lacked.event_of_step x.request c) ∙ refused_tells x.answer.message.code x.answer.message.values n in
     ap (λ (z : Told). (view_after z (view es)).done) t
 
-no_more : {A : Type 0} (more xs ys : List A) → ys ≡ more ++ xs → length ys ≡ length xs → ys ≡ xs
-no_more [] xs ys e h = e
-no_more (m ∷ more) xs ys e h = let a = ap length e in let n = length-append more xs in absurd (omega (arith, a, n, h))
-
 abbrev nack_in : Answered → ℕ
 nack_in (Nack c) = c
 nack_in a = 0
@@ -168,6 +129,47 @@ nack_in a = 0
 abbrev nack_by : Option Decision → ℕ
 nack_by None = 0
 nack_by (Some d) = nack_in d.answer
+
+-- a request for a step is one of the spine
+step_main : (a : Asking) → a.code ≡ 7 → is_main a ≡ true
+step_main a e = ap (λ (m : ℕ). (nat_le 1 m && nat_le m 10) || (nat_le 32 m && nat_le m 43)) e
+
+-- what holds of each that is kept of a list holds of each request for a step in it
+kept_missing : (xs : List Asking) → ((j : ℕ) (b : Asking) → slice_get (filter is_step xs) j ≡ Some b → IsMissing b) → (i : ℕ) (a : Asking) → slice_get xs i ≡ Some a → IsTrue (is_step a) → IsMissing a
+kept_missing [] each i a h s = absurd (none i h)
+  where
+    none : (i : ℕ) → slice_get [] i ≡ Some a → ⊥
+    none zero z = cc
+    none (suc i) z = cc
+kept_missing (x ∷ xs) each i a h s = by (is_step x) refl each i h (λ e n z. kept_missing xs e n a z s)
+  where
+    other_kind : x ≡ a → is_step x ≡ false → ⊥
+    other_kind e f = clash (sym s ∙ ap is_step (sym e) ∙ f)
+
+    by : (b : Bool) → is_step x ≡ b → ((j : ℕ) (c : Asking) → slice_get (cond b (x ∷ filter is_step xs) (filter is_step xs)) j ≡ Some c → IsMissing c) → (i : ℕ) → slice_get (x ∷ xs) i ≡ Some a
+        → (((j : ℕ) (c : Asking) → slice_get (filter is_step xs) j ≡ Some c → IsMissing c) → (n : ℕ) → slice_get xs n ≡ Some a → IsMissing a) → IsMissing a
+    by true f e zero z k = e zero a z
+    by true f e (suc n) z k = k (λ j c y. e (suc j) c y) n z
+    by false f e zero z k = absurd (other_kind (some_same z) f)
+    by false f e (suc n) z k = k e n z
+
+-- between two even numbers there is one that is odd
+odd_place : (d m : ℕ) → 2 * m + 1 ≤ d → d ≤ 2 * m + 2 → (d % 2 ≡ 0 → ⊥) → d ≡ 2 * m + 1
+odd_place d m low high odd = by (cases_lt d (2 * m + 2))
+  where
+    by : (d < 2 * m + 2) ⊎ (2 * m + 2 ≤ d) → d ≡ 2 * m + 1
+    by (inl l) = omega (arith, low, l)
+    by (inr g) = absurd (odd (omega (arith, high, g)))
+
+-- what is done lies between the events of the phases before and those with this phase
+pinned : (before after all counted done row one : ℕ) → before ≤ all → all ≤ counted → counted ≤ after → after ≡ before + one → one ≡ 1 → all ≡ done → before ≡ 2 * row + 1 → (done % 2 ≡ 0 → ⊥) → done ≡ 2 * row + 1
+pinned before after all counted done row one a b c d e f g odd = odd_place done row (omega (arith, a, f, g)) (omega (arith, b, c, d, e, f, g)) odd
+
+halves : (m n : ℕ) → m ≤ n → m / 2 ≤ n / 2
+halves m n h = omega (arith, h)
+
+half_odd : (d m : ℕ) → d ≡ 2 * m + 1 → d / 2 ≡ m
+half_odd d m h = omega (arith, h)
 
 module _ (sc : Scenario) (other : SlaveDesc) (ok : IsScenario sc) (log : List LogEntry) (r : IsRunInRounds sc other log) (s : ℕ) (it : IsSlaveOf (parties sc other) s) where
   abbrev W : Parties
@@ -204,7 +206,7 @@ module _ (sc : Scenario) (other : SlaveDesc) (ok : IsScenario sc) (log : List Lo
     pub after : List LogEntry
     pub whole : now ≡ after ++ entry ∷ there
     pub long : length (is.first).base ≤ length there
-    pub tied : EndsWith there (is.first).base
+    pub odd : (view is.es).done % 2 ≡ 0 → ⊥
     pub at_step : AtStep sc other s there (view is.es).done
     pub from : Address
     pub bytes : List ℕ
@@ -212,7 +214,17 @@ module _ (sc : Scenario) (other : SlaveDesc) (ok : IsScenario sc) (log : List Lo
     pub note : Note
     pub entry_is : entry ≡ Got (W.slave s) from bytes
     pub read : role_heard W bytes ≡ Request receiver note
-    pub served_there : (X.desk s there).served ≡ is.es
+    pub of_master : from ≡ W.master
+    pub number_is : note.number ≡ who.number
+
+  head_same : {A : Type 0} {y z : A} {ys zs : List A} → y ∷ ys ≡ z ∷ zs → y ≡ z
+  head_same q = cc
+
+  -- a request that the slave gets is of the master
+  comes_from : (there : List LogEntry) (e : LogEntry) → Behaves W X there → Behaves W X (e ∷ there) → IsRun S (e ∷ there) → (from : Address) (bytes : List ℕ) (receiver : ℕ) (n : Note) → e ≡ Got (W.slave s) from bytes → role_heard W bytes ≡ Request receiver n → from ≡ W.master
+  comes_from there e b c run from bytes receiver n is read =
+      let P : LogEntry → Type 0 = λ x. MayStandNewest W x there in
+      (comes_of_master sc other ok s it there b run.1 from bytes receiver n (subst P is c.honest.0) read).from_is
 
   refused_step : (later now : List LogEntry) → F ≡ later ++ now → (who : Asking) (tail : List Asking) (place code : ℕ) → asks S.address L now ≡ who ∷ tail → IsDecided who place (Nack code) → (code == 8) ≡ true → who.code ≡ 7 → RefusedStep now who tail
   refused_step later now f who tail place code a d e c =
@@ -224,6 +236,9 @@ module _ (sc : Scenario) (other : SlaveDesc) (ok : IsScenario sc) (log : List Lo
       let rc : (w.x).request.message.code ≡ 7 = ap (λ (n : Note). n.message.code) w.request_is ∙ c in
       let t = w.taken in
       let n = length-append t.before base in
+      let whole : now ≡ t.after ++ t.entry ∷ (t.before ++ base) = lacked.whole sc other ok log r s it later now f b part base now_is w.x w.es t code w.answer_is e rc in
+      let all : F ≡ (later ++ t.after) ++ t.entry ∷ (t.before ++ base) = f ∙ ap (λ (z : List LogEntry). later ++ z) whole ∙ sym (append_assoc later t.after (t.entry ∷ (t.before ++ base))) in
+      let step = lacked.at_step sc other ok log r s it later now f b part base now_is w.x w.es t code w.answer_is e rc in
       record {
         place = place;
         code = code;
@@ -234,17 +249,18 @@ module _ (sc : Scenario) (other : SlaveDesc) (ok : IsScenario sc) (log : List Lo
         there = t.before ++ base;
         entry = t.entry;
         after = t.after;
-        whole = lacked.whole sc other ok log r s it later now f b part base now_is w.x w.es t code w.answer_is e rc;
+        whole = whole;
         long = omega (arith, n);
-        tied = record { front = t.before; is = refl };
-        at_step = lacked.at_step sc other ok log r s it later now f b part base now_is w.x w.es t code w.answer_is e rc;
+        odd = lacked.odd sc other ok log r s it later now f b part base now_is w.x w.es t code w.answer_is e rc;
+        at_step = step;
         from = (t.takes).from;
         bytes = (t.takes).bytes;
         receiver = (t.takes).receiver;
         note = (t.takes).note;
         entry_is = (t.takes).is;
         read = (t.takes).read;
-        served_there = t.rest;
+        of_master = comes_from (t.before ++ base) t.entry step.behaves (behaves_at (later ++ t.after) (t.entry ∷ (t.before ++ base)) all) (run_at (later ++ t.after) (t.entry ∷ (t.before ++ base)) all) (t.takes).from (t.takes).bytes (t.takes).receiver (t.takes).note (t.takes).is (t.takes).read;
+        number_is = ap (λ (y : Note). y.number) (sym (ap (λ (y : DecidedRequest). y.request) (head_same (sym t.newest ∙ (t.takes).served))) ∙ w.request_is);
       }
 
   request_value : {receiver id : ℕ} {n m : Note} → Request receiver n ≡ Value id m → ⊥
@@ -253,22 +269,66 @@ module _ (sc : Scenario) (other : SlaveDesc) (ok : IsScenario sc) (log : List Lo
   got_same : (a b : Address) (us vs : List ℕ) → Got (W.slave s) a us ≡ Got (W.slave s) b vs → us ≡ vs
   got_same a b us vs z = cc
 
-  head_of : (xs : List Asking) (a : Asking) → slice_get xs 0 ≡ Some a → IsFront (a ∷ []) xs
-  head_of [] a h = absurd cc
-  head_of (x ∷ xs) a h = record { rest = xs; is = ap (λ (y : Asking). y ∷ xs) (some_same h) }
-
   same_nack : (a : Asking) (p q c d : ℕ) → IsDecided a p (Nack c) → IsDecided a q (Nack d) → c ≡ d
   same_nack a p q c d h k = ap nack_by (sym h ∙ k)
 
-  module _ (phase q k : ℕ) (sh : Shown S F L phase (causes.InputsMissing q k)) where
+  heard : AreHeard S
+  heard = (setups_heard sc ok).heard
+
+  abbrev js : List Job
+  js = jobs_of S L
+
+  told : (part base : List LogEntry) → F ≡ part ++ base → view (decided_exchanges W s base) ≡ progress (asks S.address L base)
+  told part base e = progress_told S heard W (are_parties sc other ok) base (run_at part base e) s it L (party sc other ok s it)
+
+  -- a request for a step among those to the slave, which was refused for missing inputs
+  record WasRefused (a : Asking) (rest : List Asking) (place : ℕ) : Type 0 where
+    pub part : List LogEntry
+    pub now : List LogEntry
+    pub is : F ≡ part ++ now
+    pub long : length now ≡ place + 1
+    pub who : Asking
+    pub asks_now : asks S.address L now ≡ who ∷ rest
+    pub code_is : who.code ≡ a.code
+    pub named : who.number ≡ a.number
+    pub decided : who.decision ≡ a.decision
+    pub since : who.first ≡ a.first
+    pub step : RefusedStep now who rest
+    pub done_now : (view (decided_exchanges W s now)).done ≡ (view (step.is).es).done
+
+  was_refused : (front : List Asking) (a : Asking) (rest : List Asking) → asks S.address L F ≡ front ++ a ∷ rest → IsTrue (is_step a) → (place code : ℕ) → IsDecided a place (Nack code) → (code == 8) ≡ true → WasRefused a rest place
+  was_refused front a rest all is place code d eight = record {
+    part = decided.part;
+    now = decided.entry ∷ decided.base;
+    is = decided.is;
+    long = (let p = decided.place in omega (arith, p));
+    who = decided.who;
+    asks_now = decided.now;
+    code_is = decided.same;
+    named = decided.named;
+    decided = decided.decided ∙ sym d;
+    since = decided.since;
+    step = step;
+    done_now = ap (λ (ds : List DecidedRequest). (view ds).done) (step.is).decided_is ∙ refused_done s (step.is).x (step.is).es step.code step.request_code step.answer_is;
+  }
+    where
+      decided : DecidedAt S.address L F (record { place = place; answer = Nack code }) a.code a.number a.first rest
+      decided =
+          let P : List Asking → Type 0 = λ os. AreAt S.address L F os in
+          (at_one S.address L F front a rest (subst P all (are_at S.address L F))).decided (record { place = place; answer = Nack code }) d
+
+      step : RefusedStep (decided.entry ∷ decided.base) decided.who rest
+      step = refused_step decided.part (decided.entry ∷ decided.base) decided.is decided.who rest place code decided.now decided.decided eight (decided.same ∙ step_code a is)
+
+  module _ (phase q k : ℕ) (phase_now : (course_at S F).phase ≡ phase) (sh : Shown S F L phase (causes.InputsMissing q k)) where
     abbrev request : Asking
     request = sh.request
 
     abbrev earlier' : List Asking
     earlier' = sh.earlier
 
-    front : IsFront (of_phase (jobs_of S L) phase (asks S.address L F)) (asks S.address L F)
-    front = of_phase_front (jobs_of S L) phase (asks S.address L F)
+    front : IsFront (of_phase js phase (asks S.address L F)) (asks S.address L F)
+    front = of_phase_front js phase (asks S.address L F)
 
     abbrev tail : List Asking
     tail = earlier' ++ front.rest
@@ -276,43 +336,89 @@ module _ (sc : Scenario) (other : SlaveDesc) (ok : IsScenario sc) (log : List Lo
     asks_are : asks S.address L F ≡ request ∷ tail
     asks_are = front.is ∙ ap (λ (l : List Asking). l ++ front.rest) (sh.last).last
 
-    steps_first : filter is_step (request ∷ earlier') ≡ request ∷ filter is_step earlier'
-    steps_first = starts earlier' request (sh.shown.1).asks_step
-
     missing_first : IsMissing request
-    missing_first = (sh.shown.1).each 0 request (ap (λ (l : List Asking). slice_get l 0) steps_first)
+    missing_first = kept_missing (request ∷ earlier') (sh.shown.1).each 0 request refl (sh.shown.1).asks_step
 
-    decided : DecidedAt S.address L F (record { place = missing_first.0; answer = Nack missing_first.1 }) request.code request.first tail
-    decided =
-        let P : List Asking → Type 0 = λ os. AreAt S.address L F os in
-        (at_one S.address L F [] request tail (subst P asks_are (are_at S.address L F))).decided (record { place = missing_first.0; answer = Nack missing_first.1 }) missing_first.2
+    newest : WasRefused request tail missing_first.0
+    newest = was_refused [] request tail asks_are (sh.shown.1).asks_step missing_first.0 missing_first.1 missing_first.2 missing_first.3
 
-    step : RefusedStep (decided.entry ∷ decided.base) decided.who tail
-    step = refused_step decided.part (decided.entry ∷ decided.base) decided.is decided.who tail missing_first.0 missing_first.1 decided.now decided.decided missing_first.3 (decided.same ∙ step_code request (sh.shown.1).asks_step)
+    abbrev step : RefusedStep newest.now newest.who tail
+    step = newest.step
 
     abbrev there : List LogEntry
     there = step.there
 
     abbrev outer : List LogEntry
-    outer = decided.part ++ step.after
+    outer = newest.part ++ step.after
 
     whole : F ≡ outer ++ step.entry ∷ there
-    whole = decided.is ∙ ap (λ (z : List LogEntry). decided.part ++ z) step.whole ∙ sym (append_assoc decided.part step.after (step.entry ∷ there))
+    whole = newest.is ∙ ap (λ (z : List LogEntry). newest.part ++ z) step.whole ∙ sym (append_assoc newest.part step.after (step.entry ∷ there))
 
     abbrev done : ℕ
     done = (view (step.is).es).done
 
+    -- ---- the step of the phase
+    done_whole : (view (decided_exchanges W s F)).done ≡ done
+    done_whole =
+        let same : progress (newest.who ∷ tail) ≡ progress (request ∷ tail) =
+        ap (λ (c : ℕ). progress_after c (newest.who).decision (progress tail)) newest.code_is ∙ ap (λ (o : Option Decision). progress_after request.code o (progress tail)) newest.decided in
+        ap (λ (v : BenchProgress). v.done) (told [] F refl ∙ ap progress asks_are ∙ sym same ∙ sym (ap progress newest.asks_now) ∙ sym (told newest.part newest.now newest.is)) ∙ newest.done_now
+
+    abbrev job : Job
+    job = record { task = sh.task; list = ((sh.last).job).0 }
+
+    job_in : slice_get js (phase - 1) ≡ Some job
+    job_in = ((sh.last).job).1
+
+    phase_one : phase ≡ phase - 1 + 1
+    phase_one = let b = (sh.last).begun in omega (arith, b)
+
+    stands : StandsInPhase js (phase - 1) (view (decided_exchanges W s F))
+    stands = progress_by_phase S heard W (are_parties sc other ok) F (run_at [] F refl) s it L (party sc other ok s it) (phase - 1) (phase_now ∙ phase_one)
+
+    at : IsStepJob S.steps S.runs (phase - 1) (events_before js (phase - 1)) k
+    at = step_job S.steps S.runs L.script heard.runs (phase - 1) job job_in k (sh.shown.1).step
+
+    abbrev row : ℕ
+    row = row_index sc.steps at.run (k - 1)
+
+    one_event : events_of job ≡ 1
+    one_event = ap (λ (t : Task). if is_some (row_event_in t) then 1 else 0) (sh.shown.1).step
+
+    done_is : done ≡ 2 * row + 1
+    done_is =
+        pinned (events_before js (phase - 1)) (events_before js (phase - 1 + 1)) (view (decided_exchanges W s F)).done (events_counted (view (decided_exchanges W s F))) done row (events_of job)
+        stands.least (not_more (view (decided_exchanges W s F))) stands.most (before_next js (phase - 1) job job_in) one_event done_whole at.events step.odd
+
+    -- ---- the message
     abbrev id : ℕ
     id = (missed.lack sc other ok s it there done step.at_step).id
 
-    abbrev sending : SentValue sc other ok there id (missed.j sc other ok s it there done step.at_step)
-    sending = missed.sending sc other ok s it there done step.at_step
+    abbrev j : ℕ
+    j = missed.j sc other ok s it there done step.at_step
 
-    said : Says sending.bytes id sending.note
-    said = missed.news sc other ok s it there done step.at_step
+    abbrev wired : IsWiredTo sc s (slave_numbered sc other s) id
+    wired = missed.wired sc other ok s it there done step.at_step
+
+    abbrev link : DataLink
+    link = wired.link
+
+    j_is : j ≡ ordinal_wanted sc.steps link.every at.run k
+    j_is =
+        let place : place_after done ≡ row = half_odd done row done_is in
+        let some = (wired.wire).interval.0 in
+        let within_run : k - 1 ≤ sc.steps = let a = at.some in let b = at.step in omega (arith, a, b) in
+        ap (λ (n : ℕ). ordinal_at sc.steps (interval_of sc id) n) place ∙ ap (λ (i : ℕ). ordinal_at sc.steps i row) (missed.every_is sc other ok s it there done step.at_step)
+        ∙ ordinal_is sc.steps link.every (at.run - 1) (k - 1) some within_run
+
+    abbrev sending : SentValue sc other ok there id j
+    sending = missed.sending sc other ok s it there done step.at_step
 
     to_is : sending.to ≡ W.slave s
     to_is = missed.to_is sc other ok s it there done step.at_step
+
+    from_is : sending.from ≡ W.slave link.from
+    from_is = missed.from_slave sc other ok s it there done step.at_step
 
     abbrev old : List LogEntry
     old = sending.sofar
@@ -320,7 +426,10 @@ module _ (sc : Scenario) (other : SlaveDesc) (ok : IsScenario sc) (log : List Lo
     abbrev sent' : LogEntry
     sent' = Sent sending.from sending.to sending.bytes
 
-    sent_whole : F ≡ ((outer ++ step.entry ∷ []) ++ sending.later) ++ sent' ∷ old
+    abbrev since : List LogEntry
+    since = (outer ++ step.entry ∷ []) ++ sending.later
+
+    sent_whole : F ≡ since ++ sent' ∷ old
     sent_whole =
         whole ∙ ap (λ (z : List LogEntry). outer ++ step.entry ∷ z) sending.split ∙ sym (append_assoc outer (step.entry ∷ []) (sending.later ++ sent' ∷ old))
         ∙ sym (append_assoc (outer ++ step.entry ∷ []) sending.later (sent' ∷ old))
@@ -328,19 +437,54 @@ module _ (sc : Scenario) (other : SlaveDesc) (ok : IsScenario sc) (log : List Lo
     there_whole : F ≡ (outer ++ step.entry ∷ []) ++ there
     there_whole = whole ∙ sym (append_assoc outer (step.entry ∷ []) there)
 
-    sent_there : entry_at F (length old) ≡ Some (Sent sending.from L.address sending.bytes)
-    sent_there =
-        ap (λ (l : List LogEntry). entry_at l (length old)) sent_whole ∙ entry_there ((outer ++ step.entry ∷ []) ++ sending.later) old sent' ∙ ap (λ (a : Address). Some (Sent sending.from a sending.bytes)) to_is
+    own : OwnSending sc other ok sending.from sending.to sending.bytes id j sending.note old
+    own = missed.own sc other ok s it there done step.at_step
 
-    not_there : (j : ℕ) → length old < j → j < length there + 1 → entry_at F j ≡ Some (Got L.address sending.from sending.bytes) → ⊥
-    not_there j lt few h = by (cases_lt j (length there))
+    link_to : IsLinkTo sc other s link
+    link_to = record {
+      sender = (let P : ℕ → Type 0 = λ n. IsSlaveOf W n in subst P (sym (missed.from_link sc other ok s it there done step.at_step)) (missed.sender sc other ok s it there done step.at_step));
+      to = wired.to;
+      wired = (wired.wire).wired;
+      planned = wired.found;
+    }
+
+    abbrev sent_over : WasSentOver W s link (ordinal_wanted sc.steps link.every at.run k) F
+    sent_over = record {
+      later = since;
+      earlier = old;
+      bytes = sending.bytes;
+      note = sending.note;
+      is =
+          sent_whole ∙ ap (λ (a : Address). since ++ Sent a sending.to sending.bytes ∷ old) from_is
+          ∙ ap (λ (a : Address). since ++ Sent (W.slave link.from) a sending.bytes ∷ old) to_is;
+      read = sending.read ∙ ap (λ (i : ℕ). Value i sending.note) (sym wired.id_is);
+      number = own.number ∙ ap (λ (n : ℕ). n % 65536) j_is;
+      ordinal =
+          ap (λ (i : ℕ). length (values_sent W i (Sent (W.slave link.from) (W.slave s) sending.bytes ∷ old))) wired.id_is
+          ∙ ap (λ (a : Address). length (values_sent W id (Sent a (W.slave s) sending.bytes ∷ old))) (sym from_is)
+          ∙ ap (λ (a : Address). length (values_sent W id (Sent sending.from a sending.bytes ∷ old))) (sym to_is)
+          ∙ sending.ordinal ∙ ap (λ (n : ℕ). n + 1) j_is;
+    }
+
+    -- ---- it had not come
+    gets_last : GetsAt W s q F (length there)
+    gets_last = record {
+      note = step.note;
+      number = step.number_is ∙ newest.named ∙ sh.shown.0;
+      entry = step.entry;
+      is = ap (λ (l : List LogEntry). entry_at l (length there)) whole ∙ entry_there outer there step.entry;
+      gets = record { bytes = step.bytes; receiver = step.receiver; is = step.entry_is ∙ ap (λ (a : Address). Got (W.slave s) a step.bytes) step.of_master; read = step.read };
+    }
+
+    not_there : (i : ℕ) → length old < i → i ≤ length there → entry_at F i ≡ Some (Got (W.slave s) sending.from sending.bytes) → ⊥
+    not_there i lt few h = by (cases_lt i (length there))
       where
         got : LogEntry
         got = Got (W.slave s) sending.from sending.bytes
 
-        by : (j < length there) ⊎ (length there ≤ j) → ⊥
+        by : (i < length there) ⊎ (length there ≤ i) → ⊥
         by (inr g) =
-            let same : length there ≡ j = omega (arith, g, few) in
+            let same : length there ≡ i = omega (arith, g, few) in
             let here : entry_at F (length there) ≡ Some step.entry = ap (λ (l : List LogEntry). entry_at l (length there)) whole ∙ entry_there outer there step.entry in
             let e : step.entry ≡ got = some_same (sym here ∙ ap (entry_at F) same ∙ h) in
             let b : step.bytes ≡ sending.bytes = got_same step.from sending.from step.bytes sending.bytes (sym step.entry_is ∙ e) in
@@ -348,116 +492,99 @@ module _ (sc : Scenario) (other : SlaveDesc) (ok : IsScenario sc) (log : List Lo
         by (inl l) =
             let n = ap length there_whole in
             let m = length-append (outer ++ step.entry ∷ []) there in
-            let k = within F j got (omega (arith, n, m, l)) h in
-            let p = k.place in
-            let a = ends_with (outer ++ step.entry ∷ []) there k.part (got ∷ k.base) (sym there_whole ∙ k.is) (omega (arith, p, l)) in
-            let b = ends_with (k.part ++ got ∷ []) k.base ((outer ++ step.entry ∷ []) ++ sending.later) (sent' ∷ old) (append_assoc k.part (got ∷ []) k.base ∙ sym k.is ∙ sent_whole) (omega (arith, p, lt)) in
+            let v = within F i got (omega (arith, n, m, l)) h in
+            let p = v.place in
+            let a = ends_with (outer ++ step.entry ∷ []) there v.part (got ∷ v.base) (sym there_whole ∙ v.is) (omega (arith, p, l)) in
+            let b = ends_with (v.part ++ got ∷ []) v.base since (sent' ∷ old) (append_assoc v.part (got ∷ []) v.base ∙ sym v.is ∙ sent_whole) (omega (arith, p, lt)) in
             let all : sending.later ++ sent' ∷ old ≡ (a.front ++ got ∷ b.front) ++ sent' ∷ old = sym sending.split ∙ a.is ∙ ap (λ (z : List LogEntry). a.front ++ got ∷ z) b.is ∙ sym (append_assoc a.front (got ∷ b.front) (sent' ∷ old)) in
             missed.not_come sc other ok s it there done step.at_step a.front b.front (append_cancel_right sending.later (a.front ++ got ∷ b.front) (sent' ∷ old) all)
 
-    -- ---- before the refusal before it
-    module _ (a : Asking) (place code : ℕ) (here : slice_get earlier' 0 ≡ Some a) (is : IsTrue (is_step a)) (d : IsDecided a place (Nack code)) where
-      next : IsFront (a ∷ []) earlier'
-      next = head_of earlier' a here
+    -- ---- before each refusal
+    module _ (i : ℕ) (a : Asking) (place code : ℕ) (here : slice_get (request ∷ earlier') i ≡ Some a) (is : IsTrue (is_step a)) (d : IsDecided a place (Nack code)) where
+      of : IsOfPhase js phase (asks S.address L F) a
+      of = of_phase_at js phase (asks S.address L F) i a (ap (λ (l : List Asking). slice_get l i) (sh.last).last ∙ here)
 
-      abbrev rest : List Asking
-      rest = next.rest ++ front.rest
+      missing : IsMissing a
+      missing = kept_missing (request ∷ earlier') (sh.shown.1).each i a here is
 
-      tail_is : tail ≡ a ∷ rest
-      tail_is = ap (λ (l : List Asking). l ++ front.rest) next.is
-
-      eight : (code == 8) ≡ true
-      eight =
-          let two : filter is_step (request ∷ earlier') ≡ request ∷ (a ∷ filter is_step next.rest) = steps_first ∙ ap (λ (l : List Asking). request ∷ filter is_step l) next.is ∙ ap (λ (l : List Asking). request ∷ l) (starts next.rest a is) in
-          let m = (sh.shown.1).each 1 a (ap (λ (l : List Asking). slice_get l 1) two) in
-          ap (λ (n : ℕ). n == 8) (same_nack a place m.0 code m.1 d m.2) ∙ m.3
+      was : WasRefused a of.rest place
+      was = was_refused of.front a of.rest of.is is place code d (ap (λ (n : ℕ). n == 8) (same_nack a place missing.0 code missing.1 d missing.2) ∙ missing.3)
 
       abbrev base : List LogEntry
-      base = ((step.is).first).base
+      base = (was.step).there
 
-      decided_there : DecidedAt S.address L base (record { place = place; answer = Nack code }) a.code a.first rest
-      decided_there =
-          let P : List Asking → Type 0 = λ os. AreAt S.address L base os in
-          (at_one S.address L base [] a rest (subst P (((step.is).first).before ∙ tail_is) (are_at S.address L base))).decided (record { place = place; answer = Nack code }) d
+      phase_least : phase ≤ (course_at S was.now).phase
+      phase_least =
+          let reached : phase_reached js (asks S.address L was.now) ≡ phase_at js (acked of.rest) =
+          ap (phase_reached js) was.asks_now ∙ ap (λ (b : Bool). if b then phase_at js (acked of.rest) else phase_reached js of.rest) (step_main was.who (was.code_is ∙ step_code a is)) in
+          let least = of.least (step_main a (step_code a is)) in
+          let most = reached_most S heard (s - 1) L (numbered_at sc other ok s it) was.now (run_at was.part was.now was.is) in
+          omega (arith, reached, least, most)
 
-      abbrev now : List LogEntry
-      now = decided_there.entry ∷ decided_there.base
+      done_least : done ≤ (view ((was.step).is).es).done
+      done_least =
+          let f = (course_at S was.now).phase - 1 in
+          let low = phase_least in
+          let one = phase_one in
+          let begun : (course_at S was.now).phase ≡ f + 1 = omega (arith, low, one) in
+          let stand = (progress_by_phase S heard W (are_parties sc other ok) was.now (run_at was.part was.now was.is) s it L (party sc other ok s it) f begun).least in
+          let rise = before_rises js (phase - 1) f (omega (arith, low, begun)) in
+          let same = was.done_now in
+          let e : done ≡ events_before js (phase - 1) = done_is ∙ sym at.events in
+          omega (arith, stand, rise, same, e)
 
-      abbrev between : List LogEntry
-      between = (step.tied).front ++ decided_there.part
-
-      there_is : there ≡ between ++ now
-      there_is = (step.tied).is ∙ ap (λ (z : List LogEntry). (step.tied).front ++ z) decided_there.is ∙ sym (append_assoc (step.tied).front decided_there.part now)
-
-      now_whole : F ≡ ((outer ++ step.entry ∷ []) ++ between) ++ now
-      now_whole = there_whole ∙ ap (λ (z : List LogEntry). (outer ++ step.entry ∷ []) ++ z) there_is ∙ sym (append_assoc (outer ++ step.entry ∷ []) between now)
-
-      step_there : RefusedStep now decided_there.who rest
-      step_there = refused_step ((outer ++ step.entry ∷ []) ++ between) now now_whole decided_there.who rest place code decided_there.now decided_there.decided eight (decided_there.same ∙ step_code a is)
-
-      served_same : (step.is).es ≡ (step_there.is).x ∷ (step_there.is).es
-      served_same =
-          let g = served_grows (slave_setup_of sc other s) W s (reads sc other) between now in
-          let all : (step.is).es ≡ g.0 ++ ((step_there.is).x ∷ (step_there.is).es) = sym step.served_there ∙ ap (λ (l : List LogEntry). (X.desk s l).served) there_is ∙ g.1 ∙ ap (λ (l : List DecidedRequest). g.0 ++ l) (step_there.is).served_is in
-          let m = (step.is).size in
-          let n = ap length tail_is in
-          let o = (step_there.is).size in
-          no_more g.0 ((step_there.is).x ∷ (step_there.is).es) (step.is).es all (omega (arith, m, n, o))
-
-      done_same : done ≡ (view (step_there.is).es).done
-      done_same = ap (λ (l : List DecidedRequest). (view l).done) served_same ∙ refused_done s (step_there.is).x (step_there.is).es step_there.code step_there.request_code step_there.answer_is
-
-      enough : missed.j sc other ok s it there done step.at_step + 1 ≤ length (values_sent W id step_there.there)
+      enough : j + 1 ≤ length (values_sent W id base)
       enough =
-          let z = (step_there.at_step).sent id (missed.sender sc other ok s it there done step.at_step) in
-          let y = ap (λ (n : ℕ). missed.j_of sc id n) done_same in
+          let z = ((was.step).at_step).sent id (missed.sender sc other ok s it there done step.at_step) in
+          let y : missed.j_of sc id done ≤ missed.j_of sc id (view ((was.step).is).es).done =
+          ordinal_rises sc.steps (interval_of sc id) (place_after done) (place_after (view ((was.step).is).es).done) (some_interval sc ok id) (halves done (view ((was.step).is).es).done done_least) in
           omega (arith, z, y)
 
-      step_whole : F ≡ ((((outer ++ step.entry ∷ []) ++ between) ++ step_there.after) ++ step_there.entry ∷ []) ++ step_there.there
-      step_whole =
-          now_whole ∙ ap (λ (z : List LogEntry). ((outer ++ step.entry ∷ []) ++ between) ++ z) step_there.whole ∙ sym (append_assoc ((outer ++ step.entry ∷ []) ++ between) step_there.after (step_there.entry ∷ step_there.there))
-          ∙ sym (append_assoc (((outer ++ step.entry ∷ []) ++ between) ++ step_there.after) (step_there.entry ∷ []) step_there.there)
+      base_whole : F ≡ ((was.part ++ (was.step).after) ++ (was.step).entry ∷ []) ++ base
+      base_whole =
+          was.is ∙ ap (λ (z : List LogEntry). was.part ++ z) (was.step).whole ∙ sym (append_assoc was.part (was.step).after ((was.step).entry ∷ base))
+          ∙ sym (append_assoc (was.part ++ (was.step).after) ((was.step).entry ∷ []) base)
 
-      sent_before : length old ≤ place
-      sent_before = by (cases_lt (length old) (length step_there.there))
+      sent_before : length old < place
+      sent_before = by (cases_lt (length old) (length base))
         where
-          n : length now ≡ length step_there.after + length (step_there.entry ∷ step_there.there)
-          n = ap length step_there.whole ∙ length-append step_there.after (step_there.entry ∷ step_there.there)
+          n : length was.now ≡ length (was.step).after + length ((was.step).entry ∷ base)
+          n = ap length (was.step).whole ∙ length-append (was.step).after ((was.step).entry ∷ base)
 
-          by : (length old < length step_there.there) ⊎ (length step_there.there ≤ length old) → length old ≤ place
-          by (inl l) = let p = decided_there.place in omega (arith, l, n, p)
+          by : (length old < length base) ⊎ (length base ≤ length old) → length old < place
+          by (inl l) = let p = was.long in omega (arith, l, n, p)
           by (inr g) =
-              let k = ends_with (((outer ++ step.entry ∷ []) ++ sending.later) ++ sent' ∷ []) old ((((outer ++ step.entry ∷ []) ++ between) ++ step_there.after) ++ step_there.entry ∷ []) step_there.there
-              (append_assoc ((outer ++ step.entry ∷ []) ++ sending.later) (sent' ∷ []) old ∙ sym sent_whole ∙ step_whole) g in
-              let grow = values_grow W id k.front step_there.there in
-              let same = ap (λ (l : List LogEntry). length (values_sent W id l)) k.is in
+              let v = ends_with (since ++ sent' ∷ []) old ((was.part ++ (was.step).after) ++ (was.step).entry ∷ []) base (append_assoc since (sent' ∷ []) old ∙ sym sent_whole ∙ base_whole) g in
+              let grow = values_grow W id v.front base in
+              let same = ap (λ (l : List LogEntry). length (values_sent W id l)) v.is in
               let f = sending.first in
               let m = enough in
               absurd (omega (arith, grow, same, f, m))
 
-    pub shown_sent : InputsWereSent S F L phase q k sh
+    pub shown_sent : InputsWereSent sc other F L phase q k sh
     shown_sent = record {
-      sent = length old;
-      from = sending.from;
-      bytes = sending.bytes;
-      number = (sending.note).number;
-      id = id;
-      payload = said.payload;
-      is = sent_there;
-      read = said.news;
+      run = at.run;
+      first = at.first;
+      last = at.last;
+      step = (at.some, at.step);
+      phase = phase_one ∙ at.phase_is;
+      link = link;
+      wire = link_to;
+      sent = sent_over;
       before = sent_before;
-      came = length there + 1;
-      asked = (let a = ((step.is).first).place in let b = decided.since in let c = step.long in omega (arith, a, b, c));
-      missing = not_there;
+      taken = length there;
+      asked = (let a = ((step.is).first).place in let b = newest.since in let c = step.long in omega (arith, a, b, c));
+      gets = gets_last;
+      missing = λ i lt few h. not_there i lt few (h ∙ ap (λ (a : Address). Some (Got (W.slave s) a sending.bytes)) (sym from_is));
     }
 
--- of each slave that is reported so
-pub inputs_were_sent : (sc : Scenario) (other : SlaveDesc) → IsScenario sc → (log : List LogEntry) → IsRunInRounds sc other log → (slave : Slave) → IsIn (setup_from sc) slave → (phase q k : ℕ) → (s : Shown (setup_from sc) (reverse log) slave phase (causes.InputsMissing q k))
-    → InputsWereSent (setup_from sc) (reverse log) slave phase q k s
-inputs_were_sent sc other ok log r slave i phase q k s =
+-- of each slave that is reported so, in the phase that has begun
+pub inputs_were_sent : (sc : Scenario) (other : SlaveDesc) → IsScenario sc → (log : List LogEntry) → IsRunInRounds sc other log → (slave : Slave) → IsIn (setup_from sc) slave → (phase q k : ℕ) → (course_at (setup_from sc) (reverse log)).phase ≡ phase
+    → (s : Shown (setup_from sc) (reverse log) slave phase (causes.InputsMissing q k)) → InputsWereSent sc other (reverse log) slave phase q k s
+inputs_were_sent sc other ok log r slave i phase q k now s =
     let it = ((are_parties sc other ok).all slave i).0 in
     let n : slave.id ≡ i.0 + 1 = (setups_heard sc ok).numbered i.0 slave i.1 in
     let m : slave.id - 1 ≡ i.0 = omega (arith, n) in
     let same : slave_of sc slave.id (slave_numbered sc other slave.id) ≡ slave = some_same (sym (numbered_at sc other ok slave.id it) ∙ ap (slice_get (setup_from sc).slaves) m ∙ i.1) in
-    let P : Slave → Type 0 = λ x. (s : Shown (setup_from sc) (reverse log) x phase (causes.InputsMissing q k)) → InputsWereSent (setup_from sc) (reverse log) x phase q k s in
-    subst P same (λ z. shown_sent sc other ok log r slave.id it phase q k z) s
+    let P : Slave → Type 0 = λ x. (s : Shown (setup_from sc) (reverse log) x phase (causes.InputsMissing q k)) → InputsWereSent sc other (reverse log) x phase q k s in
+    subst P same (λ z. shown_sent sc other ok log r slave.id it phase q k now z) s

@@ -49,7 +49,7 @@ use Rattle.slave_laws.specs.Wiring.Wired.{planned_changes, changes_restarted, is
 use Rattle.slave_laws.specs.Wiring.Ordinals.{IsCountedOn}
 use Rattle.slave_laws.proofs.Wiring.Counting.{inputs_go_on}
 use Rattle.slave_laws.proofs.Wiring.Courses.{is_planned}
-use Rattle.slave_laws.specs.Wiring.Links.{interval_of, data_link_of, from_of}
+use Rattle.slave_laws.specs.Wiring.Links.{interval_of, link_interval, data_link_of, from_of}
 use Rattle.slave_laws.proofs.Wiring.Planned.{input_intervals}
 use Rattle.slave_laws.specs.Data.Made.{machines}
 use Rattle.slave_laws.proofs.Data.Held.{of_scenario, reads}
@@ -210,7 +210,7 @@ module _ (sc : Scenario) (other : SlaveDesc) (ok : IsScenario sc) (s : ℕ) (it 
     behaves_sent : Behaves W X (sent' ∷ sending.sofar)
     behaves_sent = let P : List LogEntry → Type 0 = λ z. Behaves W X z in drop_later W X (are_slaves sc other ok) sending.later (sent' ∷ sending.sofar) (subst P sending.split a.behaves)
 
-    own : OwnSending sc other ok sending.from sending.to sending.bytes lack.id j sending.note sending.sofar
+    pub own : OwnSending sc other ok sending.from sending.to sending.bytes lack.id j sending.note sending.sofar
     own = own_sending sc other ok sending.sofar sending.from sending.to sending.bytes lack.id j sending.note behaves_sent sending.read sending.ordinal
 
     said : Says sending.bytes lack.id sending.note
@@ -227,8 +227,15 @@ module _ (sc : Scenario) (other : SlaveDesc) (ok : IsScenario sc) (s : ℕ) (it 
         let same : (own.goes).link ≡ wired.link = let y : Some (own.goes).link ≡ Some wired.link = sym (own.goes).found ∙ found in cc in
         (own.goes).there ∙ ap (λ (l : DataLink). address_at sc l.to) same ∙ ap (address_at sc) wired.to ∙ address_of s it
 
-    from_link : (wired.link).from ≡ t
+    pub from_link : (wired.link).from ≡ t
     from_link = sym (ap from_of found)
+
+    -- what the plan says of it
+    pub every_is : interval_of sc lack.id ≡ (wired.link).every
+    every_is = ap link_interval found
+
+    pub from_slave : sending.from ≡ W.slave (wired.link).from
+    from_slave = own.from_is ∙ ap W.slave (sym own.owns) ∙ ap W.slave (sym from_link)
 
     from_is : sending.from ≡ address_at sc (wired.link).from
     from_is = own.from_is ∙ ap W.slave (sym own.owns) ∙ sym (address_of t sender) ∙ ap (address_at sc) (sym from_link)

@@ -125,7 +125,7 @@ some_event : (o : Option RowEvent) → IsEvent o → (k : RowEvent) × (o ≡ So
 some_event None e = absurd e
 some_event (Some k) e = (k, refl)
 
-not_more : (v : BenchProgress) → v.done ≤ events_counted v
+pub not_more : (v : BenchProgress) → v.done ≤ events_counted v
 not_more v = grind arith
 
 waits_more : (v : BenchProgress) → v.waiting ≡ true → events_counted v ≡ v.done + 1

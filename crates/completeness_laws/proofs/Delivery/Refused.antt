@@ -51,6 +51,7 @@ module _ (sc : Scenario) (other : SlaveDesc) (ok : IsScenario sc) (s : ℕ) (it 
   pub record WasDecided (now : List LogEntry) (who : Asking) (tail : List Asking) (d : Decision) : Type 0 where
     pub x : DecidedRequest
     pub es : List DecidedRequest
+    pub decided_is : decided_exchanges W s now ≡ x ∷ es
     pub request_is : x.request ≡ note_of s who
     pub answer_is : IsAnswerAs s x.answer d.answer
     pub size : length es ≡ length tail
@@ -78,7 +79,7 @@ module _ (sc : Scenario) (other : SlaveDesc) (ok : IsScenario sc) (s : ℕ) (it 
 
           two : (ds : List DecidedRequest) → decided_exchanges W s now ≡ ds → IsDecision s who (Some d) (AreDecisions s tail) ds → WasDecided now who tail d
           two [] y k = absurd k
-          two (x ∷ es) y k = record { x = x; es = es; request_is = k.0; answer_is = (k.1).0; size = size; served_is = serves; first = first; taken = taking }
+          two (x ∷ es) y k = record { x = x; es = es; decided_is = y; request_is = k.0; answer_is = (k.1).0; size = size; served_is = serves; first = first; taken = taking }
             where
               size : length es ≡ length tail
               size = decided_length s tail es all (k.1).1

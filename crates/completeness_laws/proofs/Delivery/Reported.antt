@@ -9,6 +9,7 @@ use Rattle.log_spec.specs.Log.{IsSlaveOf}
 use Rattle.master_spec.specs.declared.causes.Cause.{Cause}
 use Rattle.master_spec.specs.declared.reports.Report.TheVariants as reports
 use Rattle.master_spec.specs.declared.setups.Slave.{Slave}
+use Rattle.master_spec.specs.declared.setups.Setup.{Setup}
 use Rattle.master_spec.specs.Setup.{setup_from}
 use Rattle.master_spec.specs.Marks.{job_of, cause_of}
 use Rattle.master_spec.specs.Course.{course, fresh_talk}
@@ -54,6 +55,12 @@ module _ (sc : Scenario) (ok : IsScenario sc) (s : ℕ) (cause : Cause) where
           let z : d ≡ cause = some_cause d cause (sym w.ended ∙ h) in
           let g = f (q ∙ ap (λ (x : Cause). Some x) z) in
           record { later = e ∷ g.later; sofar = g.sofar; entry = g.entry; split = ap (λ (l : List LogEntry). e ∷ l) g.split; ends = g.ends; phase_is = g.phase_is ∙ sym w.phase }
+
+-- a failure is reported in the phase that has begun
+pub phase_reported : (setup : Setup) (log : List LogEntry) (id phase : ℕ) (cause : Cause) → (course_at setup log).report ≡ Some (reports.Failed id phase cause) → (course_at setup log).phase ≡ phase
+phase_reported setup log id phase cause e =
+    let c = course_at setup log in
+    (ends c.phase c.talks id phase cause (all_report setup (events_of_master setup log) (reports.Failed id phase cause) e).1).phase_is
 
 pub reported : ReportedEnded
 reported sc other ok log m id phase cause r =

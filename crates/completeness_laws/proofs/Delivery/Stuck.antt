@@ -331,7 +331,7 @@ module _ (sc : Scenario) (other : SlaveDesc) (ok : IsScenario sc) (log : List Lo
       rest_same ∙ ap (λ (l : List Asking). (k.qs ++ l) ++ old) c.is ∙ ap (λ (l : List Asking). l ++ old) (sym (append_assoc k.qs c.front (found.request ∷ c.tail)))
       ∙ append_assoc (k.qs ++ c.front) (found.request ∷ c.tail) old
 
-  decided : DecidedAt S.address L base (record { place = place.0; answer = Ack }) (found.request).code (found.request).first tail
+  decided : DecidedAt S.address L base (record { place = place.0; answer = Ack }) (found.request).code (found.request).number (found.request).first tail
   decided =
       let P : List Asking → Type 0 = λ os. AreAt S.address L base os in
       (at_one S.address L base (k.qs ++ c.front) found.request tail (subst P (here.first.before ∙ rest_is) (are_at S.address L base))).decided (record { place = place.0; answer = Ack }) place.1

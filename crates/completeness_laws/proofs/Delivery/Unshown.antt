@@ -206,7 +206,7 @@ module _ (sc : Scenario) (other : SlaveDesc) (ok : IsScenario sc) (log : List Lo
   asked_is : asks S.address L sofar ≡ question.newest ∷ older
   asked_is = (f.talk.follows.tracks).is ∙ now_and_past S.limits js xs legal ∙ ap (λ (z : List Asking). z ++ askings_told (past xs)) question.is
 
-  answered : DecidedAt S.address L sofar (record { place = (question.decided).0; answer = StateAck waits.state }) (question.newest).code (question.newest).first older
+  answered : DecidedAt S.address L sofar (record { place = (question.decided).0; answer = StateAck waits.state }) (question.newest).code (question.newest).number (question.newest).first older
   answered =
       let P : List Asking → Type 0 = λ z. AreAt S.address L sofar z in
       (at_one S.address L sofar [] question.newest older (subst P asked_is (are_at S.address L sofar))).decided (record { place = (question.decided).0; answer = StateAck waits.state }) (question.decided).1

@@ -1,5 +1,5 @@
 -- Data that was sent and had not come, by the places of the log.
-use Rattle.std.proofs.Common.{◌≡◌, ℕ, ◌+◌, ◌-◌, ◌<◌, ◌≤◌, ◌⊎◌, inl, inr, if◌then◌else◌, Some, List, [], ◌∷◌, ◌++◌, length, reverse, refl, sym, ap, ◌∙◌, subst, arith, length-append}
+use Rattle.std.proofs.Common.{◌≡◌, ℕ, suc, ◌+◌, ◌-◌, ◌<◌, ◌≤◌, ◌⊎◌, inl, inr, if◌then◌else◌, Some, List, [], ◌∷◌, ◌++◌, length, reverse, refl, sym, ap, ◌∙◌, subst, arith, length-append}
 use Rattle.std.specs.Prelude.{count_by}
 use Rattle.std.proofs.lemmas.Bool.{cases_lt}
 use Rattle.std.proofs.lemmas.List.Sums.{sum_by-cons, sum_by-append}
@@ -8,18 +8,23 @@ use Rattle.dcp_ends.specs.declared.entries.LogEntry.{LogEntry}
 use Rattle.dcp_ends.specs.declared.entries.LogEntry.TheVariants.{Sent, Got}
 use Rattle.slave_desc.specs.declared.descriptions.SlaveDesc.{SlaveDesc}
 use Rattle.scenario.specs.declared.scenarios.Scenario.{Scenario}
+use Rattle.master_spec.specs.declared.causes.Cause.TheVariants as causes
+use Rattle.master_spec.specs.declared.setups.Slave.{Slave}
 use Rattle.master_spec.specs.declared.setups.Setup.{Setup}
 use Rattle.master_spec.specs.Setup.{setup_from}
 use Rattle.master_spec.specs.News.{news_of, Brings}
 use Rattle.master_spec.specs.Requests.{is_turn_of, turns_before, turns_between}
 use Rattle.master_spec.specs.Exchanged.{entry_at}
+use Rattle.master_spec.specs.Shown.{Shown}
 use Rattle.master_log_laws.proofs.Index.Dates.{before_now, entry_later, entry_now}
 use Rattle.run_laws.specs.Laws.{parties}
+use Rattle.completeness_laws.specs.Inputs.{InputsWereSent}
 use Rattle.completeness_laws.specs.Unheard.{NeverComes}
 use Rattle.completeness_laws.specs.Unshown.{AreOutputsUnshown}
+use Rattle.completeness_laws.proofs.Delivery.Entries.{entry_there}
 use Rattle.completeness_laws.proofs.Delivery.Values.{says}
 use Rattle.completeness_laws.proofs.Timely.Prompt.{turns_later}
-use Rattle.completeness_laws.proofs.Timely.Reasons.{DataWasLate}
+use Rattle.completeness_laws.proofs.Timely.Reasons.{DataWasLate, InputsWereLate}
 
 -- ---- entries at places
 entry_below : (part log : List LogEntry) (i : ℕ) → i < length log → entry_at (part ++ log) i ≡ entry_at log i
@@ -95,3 +100,31 @@ outputs_late sc other log later sofar e split s k u =
     let P : List LogEntry → Type 0 = λ l. DataWasLate (setup_from sc) l in
     let whole : reverse log ≡ later ++ (v.since ++ Sent (w.slave s) w.master v.bytes ∷ v.earlier) = split ∙ ap (λ (l : List LogEntry). later ++ l) v.is in
     subst P (sym whole) (was_late (setup_from sc) later v.since v.earlier (w.slave s) w.master v.bytes (v.note).number s n.payload n.news v.not_come u.waited)
+
+at_most : (i j : ℕ) → i < j → i ≤ j
+at_most i j h = omega (arith, h)
+
+up_to : (i j : ℕ) → i < j + 1 → i ≤ j
+up_to i j h = omega (arith, h)
+
+-- inputs for which a step was given up
+pub inputs_late : (sc : Scenario) (other : SlaveDesc) (log : List LogEntry) (slave : Slave) (p q k : ℕ) (s : Shown (setup_from sc) log slave p (causes.InputsMissing q k)) → InputsWereSent sc other log slave p q k s → InputsWereLate (setup_from sc) log slave p q k s
+inputs_late sc other log slave p q k s u =
+    let v = u.sent in
+    let w = parties sc other in
+    let n = says sc other slave.id v.bytes (u.link).id v.note v.read in
+    record {
+      sent = length v.earlier;
+      from = w.slave (u.link).from;
+      to = w.slave slave.id;
+      bytes = v.bytes;
+      number = (v.note).number;
+      id = (u.link).id;
+      payload = n.payload;
+      is = ap (λ (l : List LogEntry). entry_at l (length v.earlier)) v.is ∙ entry_there v.later v.earlier (Sent (w.slave (u.link).from) (w.slave slave.id) v.bytes);
+      read = n.news;
+      before = λ a place code here is d. at_most (length v.earlier) place (u.before (suc 0) a place code here is d);
+      came = u.taken + 1;
+      asked = (let a = u.asked in omega (arith, a));
+      missing = λ j l h g. u.missing j l (up_to j u.taken h) g;
+    }

@@ -12,8 +12,8 @@ use Rattle.master_spec.specs.Shown.{Shown, IsMissing}
 use Rattle.master_log_laws.specs.Index.Runs.{course_at}
 use Rattle.master_log_laws.proofs.Failures.Turns.{turns_rise}
 use Rattle.completeness_laws.specs.Timely.{Timely, ComesInTime}
-use Rattle.completeness_laws.specs.Reasons.{InputsWereSent, RetriesWait}
-use Rattle.completeness_laws.proofs.Timely.Reasons.{DataWasLate}
+use Rattle.completeness_laws.specs.Reasons.{RetriesWait}
+use Rattle.completeness_laws.proofs.Timely.Reasons.{DataWasLate, InputsWereLate}
 
 -- ---- another step before the last
 record OtherStep (xs : List Asking) : Type 0 where
@@ -46,7 +46,7 @@ module _ (setup : Setup) (log : List LogEntry) (t : Timely setup log) where
       by (inl l) = l
       by (inr l) = let r = rises j i l in absurd (omega (arith, r, h))
 
-  pub no_inputs_missing : (slave : Slave) (p q k : ℕ) (s : Shown setup log slave p (causes.InputsMissing q k)) → (course_at setup log).phase ≡ p → 2 ≤ setup.limits.step_tries → RetriesWait setup log slave → InputsWereSent setup log slave p q k s → ⊥
+  pub no_inputs_missing : (slave : Slave) (p q k : ℕ) (s : Shown setup log slave p (causes.InputsMissing q k)) → (course_at setup log).phase ≡ p → 2 ≤ setup.limits.step_tries → RetriesWait setup log slave → InputsWereLate setup log slave p q k s → ⊥
   no_inputs_missing slave p q k s now two wait m =
       let shown = s.shown.1 in
       let first : filter is_step (s.request ∷ s.earlier) ≡ s.request ∷ filter is_step s.earlier = starts (is_step s.request) shown.asks_step in
@@ -61,7 +61,7 @@ module _ (setup : Setup) (log : List LogEntry) (t : Timely setup log) where
       let late = v.late in
       let sent = rises m.sent place (m.before a place v.code w.1 v.step v.decided) in
       let got = rises s.request.first m.came (less s.request.first m.came m.asked) in
-      let c = t.values m.sent m.from slave.address m.bytes m.is m.number m.id m.payload m.read in
+      let c = t.values m.sent m.from m.to m.bytes m.is m.number m.id m.payload m.read in
       let soon = c.soon in
       let here : c.came.place < m.came = not_later c.came.place m.came (counts (before m.sent) (before place) (before s.request.first) (before m.came) (before c.came.place) setup.limits.retry_turns setup.limits.data_turns late sent got soon) in
       m.missing c.came.place c.came.later here c.came.got

@@ -28,11 +28,11 @@ use Rattle.completeness_laws.proofs.Causes.Reference.{faults_of_reference}
 use Rattle.completeness_laws.proofs.Causes.Refused.{refused_in_error}
 use Rattle.completeness_laws.proofs.Causes.Unexpected.{never_unexpected}
 use Rattle.completeness_laws.proofs.Delivery.InputsSent.{inputs_were_sent}
-use Rattle.completeness_laws.proofs.Delivery.Reported.{reported}
+use Rattle.completeness_laws.proofs.Delivery.Reported.{reported, phase_reported}
 use Rattle.completeness_laws.proofs.Delivery.Stuck.{stuck}
 use Rattle.completeness_laws.proofs.Delivery.Unshown.{unshown}
 use Rattle.completeness_laws.proofs.Timely.Completing.{reports_it}
-use Rattle.completeness_laws.proofs.Timely.Late.{outputs_late}
+use Rattle.completeness_laws.proofs.Timely.Late.{outputs_late, inputs_late}
 use Rattle.completeness_laws.proofs.Timely.Reasons.{HasReason}
 
 module _ (sc : Scenario) (other : SlaveDesc) (ok : IsScenario sc) (log : List LogEntry) (r : IsRunInRounds sc other log) where
@@ -48,7 +48,8 @@ module _ (sc : Scenario) (other : SlaveDesc) (ok : IsScenario sc) (log : List Lo
   has_reason rows fault ref slave i phase (causes.NoAnswer q) e = tt
   has_reason rows fault ref slave i phase (causes.Unexpected q y t) e = never_unexpected sc other ok log run [] (reverse log) refl slave.id phase (causes.Unexpected q y t) e
   has_reason rows fault ref slave i phase (causes.Refused q c) e = (refused_in_error sc other ok log run [] (reverse log) refl slave.id phase (causes.Refused q c) e).missed
-  has_reason rows fault ref slave i phase (causes.InputsMissing q k) e = λ s. inputs_were_sent sc other ok log r slave i phase q k s
+  has_reason rows fault ref slave i phase (causes.InputsMissing q k) e =
+      λ s. inputs_late sc other (reverse log) slave phase q k s (inputs_were_sent sc other ok log r slave i phase q k (phase_reported (setup_from sc) (reverse log) slave.id phase (causes.InputsMissing q k) e) s)
   has_reason rows fault ref slave i phase (causes.DataMissing k) e =
       let m = ended_then slave.id phase (causes.DataMissing k) e in
       outputs_late sc other log m.later m.sofar m.entry m.split slave.id k (unshown sc other ok log r slave.id m.is k m.later m.sofar m.entry m.split m.ends)

@@ -1,5 +1,0 @@
-use Rattle.lockstep_laws.proofs.Moments.{asked}
-use Rattle.lockstep_laws.proofs.lockstep.asked_in_order.Goals as goal
-
-pub returns : goal.returns
-returns c = asked

@@ -1,5 +1,0 @@
-use Rattle.lockstep_laws.proofs.Models.Scenarios.{has_parties}
-use Rattle.lockstep_laws.proofs.models.scenarios_have_parties.Goals as goal
-
-pub returns : goal.returns
-returns c = has_parties

@@ -1,5 +1,0 @@
-use Rattle.master_laws.proofs.Barrier.Standing.{passed_done}
-use Rattle.master_laws.proofs.barrier.passed_phases_are_done.Goals as goal
-
-pub returns : goal.returns
-returns c = passed_done

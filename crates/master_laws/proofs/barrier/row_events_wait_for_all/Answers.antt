@@ -1,5 +1,0 @@
-use Rattle.master_laws.proofs.Barrier.Waiting.{events_wait}
-use Rattle.master_laws.proofs.barrier.row_events_wait_for_all.Goals as goal
-
-pub returns : goal.returns
-returns c = events_wait

@@ -1,5 +1,0 @@
-use Rattle.master_laws.proofs.Hears.Reading.{answers_heard}
-use Rattle.master_laws.proofs.hears.answers_are_heard.Goals as goal
-
-pub returns : goal.returns
-returns c = answers_heard

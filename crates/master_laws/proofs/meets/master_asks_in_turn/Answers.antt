@@ -1,5 +1,0 @@
-use Rattle.master_laws.proofs.Meets.Asking.{in_turn}
-use Rattle.master_laws.proofs.meets.master_asks_in_turn.Goals as goal
-
-pub returns : goal.returns
-returns c = in_turn

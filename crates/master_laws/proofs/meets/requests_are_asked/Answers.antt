@@ -1,5 +1,0 @@
-use Rattle.master_laws.proofs.Meets.Asking.{are_asked}
-use Rattle.master_laws.proofs.meets.requests_are_asked.Goals as goal
-
-pub returns : goal.returns
-returns c = are_asked

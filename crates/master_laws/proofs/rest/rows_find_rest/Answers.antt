@@ -1,5 +1,0 @@
-use Rattle.master_laws.proofs.Rest.Events.{rows_rest}
-use Rattle.master_laws.proofs.rest.rows_find_rest.Goals as goal
-
-pub returns : goal.returns
-returns c = rows_rest

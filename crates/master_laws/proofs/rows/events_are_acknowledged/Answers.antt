@@ -1,5 +1,0 @@
-use Rattle.master_laws.proofs.Rows.Views.{acknowledged}
-use Rattle.master_laws.proofs.rows.events_are_acknowledged.Goals as goal
-
-pub returns : goal.returns
-returns c = acknowledged

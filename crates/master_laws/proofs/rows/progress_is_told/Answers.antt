@@ -1,5 +1,0 @@
-use Rattle.master_laws.proofs.Rows.Views.{progress_told}
-use Rattle.master_laws.proofs.rows.progress_is_told.Goals as goal
-
-pub returns : goal.returns
-returns c = progress_told

@@ -1,5 +1,0 @@
-use Rattle.master_log_laws.proofs.Asking.Legal.{talks_go_by_rule}
-use Rattle.master_log_laws.proofs.asking.talks_go_by_rule.Goals as goal
-
-pub returns : goal.returns
-returns c = talks_go_by_rule

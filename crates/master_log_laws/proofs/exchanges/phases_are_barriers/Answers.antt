@@ -1,5 +1,0 @@
-use Rattle.master_log_laws.proofs.Exchanges.Barriers.{barriers}
-use Rattle.master_log_laws.proofs.exchanges.phases_are_barriers.Goals as goal
-
-pub returns : goal.returns
-returns c = barriers

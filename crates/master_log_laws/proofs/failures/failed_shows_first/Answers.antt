@@ -1,5 +1,0 @@
-use Rattle.master_log_laws.proofs.Failures.First.{failed_is_first}
-use Rattle.master_log_laws.proofs.failures.failed_shows_first.Goals as goal
-
-pub returns : goal.returns
-returns c = failed_is_first

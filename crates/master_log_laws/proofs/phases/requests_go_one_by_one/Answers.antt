@@ -1,5 +1,0 @@
-use Rattle.master_log_laws.proofs.Phases.Numbered.{one_by_one}
-use Rattle.master_log_laws.proofs.phases.requests_go_one_by_one.Goals as goal
-
-pub returns : goal.returns
-returns c = one_by_one

@@ -1,5 +1,0 @@
-use Rattle.master_log_laws.proofs.Scenarios.Scenarios.{failed_first}
-use Rattle.master_log_laws.proofs.scenarios.failed_runs_show_first.Goals as goal
-
-pub returns : goal.returns
-returns c = failed_first

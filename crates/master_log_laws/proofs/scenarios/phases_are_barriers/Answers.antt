@@ -1,5 +1,0 @@
-use Rattle.master_log_laws.proofs.Scenarios.Scenarios.{are_barriers}
-use Rattle.master_log_laws.proofs.scenarios.phases_are_barriers.Goals as goal
-
-pub returns : goal.returns
-returns c = are_barriers

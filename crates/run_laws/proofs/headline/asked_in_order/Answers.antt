@@ -1,5 +1,0 @@
-use Rattle.run_laws.proofs.Headline.Moments.{asked_always}
-use Rattle.run_laws.proofs.headline.asked_in_order.Goals as goal
-
-pub returns : goal.returns
-returns c = asked_always

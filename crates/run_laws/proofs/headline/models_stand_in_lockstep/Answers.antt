@@ -1,5 +1,0 @@
-use Rattle.run_laws.proofs.Headline.Rows.{models_always}
-use Rattle.run_laws.proofs.headline.models_stand_in_lockstep.Goals as goal
-
-pub returns : goal.returns
-returns c = models_always

@@ -1,5 +1,0 @@
-use Rattle.slave_laws.proofs.Data.Held.{holds_inputs}
-use Rattle.slave_laws.proofs.data.inputs_are_fed.Goals as goal
-
-pub returns : goal.returns
-returns c = holds_inputs

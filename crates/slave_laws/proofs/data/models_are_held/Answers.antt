@@ -1,5 +1,0 @@
-use Rattle.slave_laws.proofs.Data.Held.{holds_model}
-use Rattle.slave_laws.proofs.data.models_are_held.Goals as goal
-
-pub returns : goal.returns
-returns c = holds_model

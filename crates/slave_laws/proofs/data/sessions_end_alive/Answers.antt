@@ -1,5 +1,0 @@
-use Rattle.slave_laws.proofs.Data.Ended.{ended_alive}
-use Rattle.slave_laws.proofs.data.sessions_end_alive.Goals as goal
-
-pub returns : goal.returns
-returns c = ended_alive

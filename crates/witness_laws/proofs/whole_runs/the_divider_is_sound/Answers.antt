@@ -1,0 +1,13 @@
+use Rattle.witness_laws.proofs.Runs.Sound.{faulty_is_scenario}
+use Rattle.witness_laws.proofs.Runs.References.{faulty_is_referred}
+use Rattle.witness_laws.proofs.Runs.Roomy.{faulty_is_roomy}
+use Rattle.witness_laws.proofs.whole_runs.the_divider_is_sound.Goals as goal
+
+pub returns-clause-sound : goal.returns-clause-sound
+returns-clause-sound c = faulty_is_scenario
+
+pub returns-clause-roomy : goal.returns-clause-roomy
+returns-clause-roomy c = faulty_is_roomy
+
+pub returns-clause-reference : goal.returns-clause-reference
+returns-clause-reference c = faulty_is_referred
