@@ -40,13 +40,13 @@ def read_formats(page: pathlib.Path = PAGE) -> Formats:
     return tables
 
 
-def _section(text: str, title: str) -> str:
+def section_of(text: str, title: str) -> str:
     """What stands under a title, up to the next one."""
     found = re.search(rf"^#+ {re.escape(title)}\n(.*?)(?=^#|\Z)", text, re.M | re.S)
     return found[1] if found else ""
 
 
-def _rows(text: str) -> list:
+def rows_of(text: str) -> list:
     """The rows of all tables in a text, each as its cells. Lines under heads are left out."""
     rows = [[cell.strip() for cell in line.strip().strip("|").split("|")] for line in text.split("\n") if line.startswith("|")]
     return [row for row in rows if not set("".join(row)) <= set("-: ")]
@@ -54,7 +54,7 @@ def _rows(text: str) -> list:
 
 def _layouts(text: str) -> dict:
     by_name, by_code = {}, {}
-    for row in _rows(_section(text, "Messages as bytes")):
+    for row in rows_of(section_of(text, "Messages as bytes")):
         if len(row) == 4 and re.fullmatch(r"[0-9a-f]{2}", row[0]):
             code, name, fields, _ = row
             like = re.fullmatch(r"as (\w+)", fields)
@@ -74,30 +74,30 @@ def _pairs(rows: list, pattern: str, base: int) -> dict:
 
 
 def _states(text: str) -> dict:
-    return _pairs(_rows(_section(text, "Codes").split("Refusal of a request")[0]), r"[01][0-9a-f]", 16)
+    return _pairs(rows_of(section_of(text, "Codes").split("Refusal of a request")[0]), r"[01][0-9a-f]", 16)
 
 
 def _refusals(text: str) -> dict:
-    rows = _rows(_section(text, "Codes"))
+    rows = rows_of(section_of(text, "Codes"))
     heads = [at for at, row in enumerate(rows) if "Refusal of a request" in row]
     return _pairs(rows[heads[0]:], r"[0-9]+", 10) if heads else {}
 
 
 def _faults(text: str) -> dict:
-    found = re.search(r"Faults of a slave: ([^;]+);", _section(text, "Codes"))
+    found = re.search(r"Faults of a slave: ([^;]+);", section_of(text, "Codes"))
     return {int(code): word for code, word in re.findall(r"(\d+) ([A-Z_]+)", found[1])} if found else {}
 
 
 def _types(text: str) -> dict:
     found = {}
-    for row in _rows(_section(text, "Codes")):
+    for row in rows_of(section_of(text, "Codes")):
         if row[0] in ("unsigned", "signed"):
             found.update(zip(map(int, row[2].split(", ")), re.findall(r"`(\w+)`", row[1])))
     return found
 
 
 def _reasons(text: str) -> dict:
-    return {row[0]: row[1] for row in _rows(_section(text, "What the reasons mean")) if re.fullmatch(r"[A-Z_0-9]+", row[0])}
+    return {row[0]: row[1] for row in rows_of(section_of(text, "What the reasons mean")) if re.fullmatch(r"[A-Z_0-9]+", row[0])}
 
 
 def line_of(data: bytes, formats: Formats) -> Optional[str]:
