@@ -1,0 +1,1 @@
+"""What the tools for users share: the tables of docs/FORMATS.md, and the entries of traces."""
