@@ -1,5 +1,5 @@
 -- Connections that are written to one after another.
-use Rattle.std.proofs.Common.{◌≡◌, ◌≢◌, ◌∙◌, refl, sym, ℕ, ◌+◌, ◌<◌, ◌≤◌, List, length, get_or, set, arith, below_more, get_or-set_other, get_or-set_same}
+use Rattle.std.proofs.Common.{◌≡◌, ◌≢◌, refl, ℕ, ◌+◌, ◌<◌, ◌≤◌, List, length, get_or, set, arith, below_more, get_or-set_other, get_or-set_same}
 use Rattle.live_net.specs.declared.departures.Outward.{Outward}
 use Rattle.live_net.specs.Departures.{FlushesOutward}
 

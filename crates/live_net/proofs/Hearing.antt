@@ -1,5 +1,5 @@
 -- What is given of a connection that was asked.
-use Rattle.std.proofs.Common.{◌≡◌, ◌∙◌, sym, ap, ℕ, ◌<◌, List, length, map, set, take, slice_get, Some, Bool, true, false, option_map, if◌then◌else◌, get_or-set_same, length-set}
+use Rattle.std.proofs.Common.{◌≡◌, ◌∙◌, ap, ℕ, ◌<◌, List, length, map, set, take, Some, Bool, true, false, option_map, if◌then◌else◌, get_or-set_same, length-set}
 use Rattle.std.proofs.lemmas.Option.{slice_get-get_or, slice_get-map}
 use Rattle.dcp_types.specs.declared.addresses.Address.{Address}
 use Rattle.stream_frame.specs.Inlets.{Arriving}

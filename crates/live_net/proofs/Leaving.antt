@@ -1,5 +1,5 @@
 -- What leaves an end, as contracts see it.
-use Rattle.std.proofs.Common.{◌≡◌, ◌∙◌, refl, sym, ap, ℕ, List, map, Bool, true, false, if◌then◌else◌, Option, Some, None, MatchOption, unwrap_or, option_map}
+use Rattle.std.proofs.Common.{◌≡◌, ◌∙◌, ap, ℕ, List, map, Bool, true, false, if◌then◌else◌, Option, Some, None, MatchOption, unwrap_or, option_map}
 use Rattle.std.proofs.lemmas.List.{map-set}
 use Rattle.std.proofs.lemmas.Option.{slice_get-map}
 use Rattle.dcp_types.specs.declared.addresses.Address.{Address}

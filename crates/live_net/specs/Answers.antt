@@ -1,9 +1,8 @@
 -- What the answers of the system mean.
-use Rattle.std.specs.Prelude.{◌≡◌, ℕ, Bool, true, false, Option, Some, None, Result, Ok, Err, MatchResult, is_ok}
+use Rattle.std.specs.Prelude.{◌≡◌, ℕ, Bool, true, false, Some, None, Result, Ok, Err, MatchResult}
 use Rattle.std.specs.IoError.{raw_os_error}
 use Rattle.std.specs.declared.io.Error.{Error}
 use Rattle.std.specs.declared.net.socket_addr.SocketAddr.{SocketAddr}
-use Rattle.dcp_types.specs.declared.addresses.Address.{Address}
 use Rattle.dcp_net.specs.declared.nets.Done.{Done}
 use Rattle.dcp_net.specs.declared.nets.Done.TheVariants as done
 use Rattle.dcp_net.specs.declared.nets.Taken.{Taken}

@@ -1,5 +1,5 @@
 -- The connections to one end.
-use Rattle.std.specs.Prelude.{◌≡◌, ℕ, ◌||◌, not, nat_eq, nat_lt, List, length, take, remove, slice_get, slice_set, unwrap_or, Bool, true, false, if◌then◌else◌, Option, Some, None}
+use Rattle.std.specs.Prelude.{◌≡◌, ℕ, ◌||◌, not, nat_eq, nat_lt, List, length, take, remove, slice_get, slice_set, unwrap_or, Bool, if◌then◌else◌, Option, Some, None}
 use Rattle.std.specs.List.{list_any, position}
 use Rattle.dcp_types.specs.declared.addresses.Address.{Address}
 use Rattle.dcp_ends.specs.Logs.{same_address}

@@ -1,9 +1,8 @@
 -- What one end sends over TCP.
-use Rattle.std.specs.Prelude.{◌≡◌, ◌⊎◌, ◌<◌, ℕ, ◌+◌, ◌&&◌, nat_le, nat_lt, slice_index_or, List, [], ◌++◌, length, drop, unwrap_or, option_map, Bool, false, if◌then◌else◌, Option, Some, None, MatchOption, ⊤}
+use Rattle.std.specs.Prelude.{◌≡◌, ◌⊎◌, ◌<◌, ℕ, ◌+◌, ◌&&◌, nat_le, nat_lt, slice_index_or, List, [], ◌++◌, length, drop, option_map, Bool, if◌then◌else◌, Option, Some, None, MatchOption, ⊤}
 use Rattle.mio.specs.declared.net.stream.TcpStream.{TcpStream}
 use Rattle.dcp_types.specs.declared.addresses.Address.{Address}
 use Rattle.dcp_io.specs.Faults.{Rose}
-use Rattle.dcp_ends.specs.Logs.{same_address}
 use Rattle.stream_frame.specs.Frames.{in_stream}
 use Rattle.stream_frame.specs.Greetings.{greeting}
 use Rattle.stream_frame.specs.Links.{LinkOutbox}

@@ -1,5 +1,5 @@
 -- What contracts see of a network of sockets.
-use Rattle.std.specs.Prelude.{◌≡◌, ℕ, List, [], map, length, drop, slice_get, slice_set, position, is_some, unwrap_or, Bool, Option, Some, None, MatchOption}
+use Rattle.std.specs.Prelude.{◌≡◌, ℕ, List, [], map, drop, slice_get, slice_set, position, is_some, unwrap_or, Bool, Option, Some, None, MatchOption}
 use Rattle.dcp_types.specs.declared.addresses.Address.{Address}
 use Rattle.dcp_types.specs.declared.protocols.Protocol.{Protocol}
 use Rattle.dcp_types.specs.declared.protocols.Protocol.TheVariants as by

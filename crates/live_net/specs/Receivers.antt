@@ -1,5 +1,5 @@
 -- To whom the messages of an end go.
-use Rattle.std.specs.Prelude.{◌≡◌, ℕ, ◌<◌, List, length, slice_get, slice_set, position, Option, Some, None, MatchOption}
+use Rattle.std.specs.Prelude.{◌≡◌, ℕ, List, slice_get, slice_set, position, Option, Some, MatchOption}
 use Rattle.dcp_types.specs.declared.addresses.Address.{Address}
 use Rattle.dcp_ends.specs.Logs.{same_address}
 use Rattle.dcp_net.specs.declared.nets.Done.{Done}
