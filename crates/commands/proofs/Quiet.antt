@@ -1,6 +1,6 @@
 -- A run of a patient master over a network in memory whose plan does nothing to the messages: nothing is lost or late.
-use Rattle.std.proofs.Common.{◌≡◌, ℕ, suc, Some, None, List, [], refl, sym, ap, ◌∙◌, subst, Option, reverse, tt}
-use Rattle.std.specs.Prelude.{IfSome, MatchOption, All}
+use Rattle.std.proofs.Common.{◌≡◌, Some, None, List, [], sym, ◌∙◌, subst, Option, reverse}
+use Rattle.std.specs.Prelude.{IfSome, MatchOption}
 use Rattle.dcp_ends.specs.declared.entries.LogEntry.{LogEntry}
 use Rattle.dcp_net.specs.declared.openings.Opening.{Opening}
 use Rattle.slave_desc.specs.declared.descriptions.SlaveDesc.{SlaveDesc}
