@@ -33,7 +33,8 @@ class UdpEnd:
         select.select([self.socket], [], [], seconds)
 
     def take(self) -> Optional[tuple]:
-        """The next message as its sender's address and its bytes, or None. One that is longer than 1,025 bytes is cut."""
+        """The next message as its sender's address and its bytes, or None. One that is longer than 1,025 bytes is
+        cut."""
         try:
             data, sender = self.socket.recvfrom(MOST_BYTES + 1)
             return sender, data

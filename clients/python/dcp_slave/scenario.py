@@ -17,8 +17,8 @@ class Port(NamedTuple):
 
 
 class Description(NamedTuple):
-    """The block of one slave. `number` counts the slaves of the scenario from 1; `identity` has 16 bytes; `address` is the
-    slave's own; `parameters` are the words behind the kind; `heartbeat` counts turns, 0 for none."""
+    """The block of one slave. `number` counts the slaves of the scenario from 1; `identity` has 16 bytes; `address` is
+    the slave's own; `parameters` are the words behind the kind; `heartbeat` counts turns, 0 for none."""
     name: str
     number: int
     identity: bytes
@@ -87,7 +87,8 @@ def _description(name: str, number: int, block: list) -> Description:
     fields = {"inputs": (), "outputs": ()}
     for line, words in block:
         _read_line(line, words, fields)
-    missing = [key for key, field in (("uuid", "identity"), ("address", "address"), ("model", "kind")) if field not in fields]
+    wanted = {"uuid": "identity", "address": "address", "model": "kind"}
+    missing = [key for key, field in wanted.items() if field not in fields]
     if missing or not fields["outputs"]:
         raise ScenarioError(f"the block of {name} has no {(missing or ['output'])[0]}")
     return Description(name, number, **fields)

@@ -111,7 +111,8 @@ class Sessions(unittest.TestCase):
         for old, new in zip((9000, 9001, 9002), ports):
             text = text.replace(f" {old}\n", f" {new}\n")
         scenario, trace, ended = read_scenario(text.encode(), "amp"), io.BytesIO(), []
-        thread = threading.Thread(target=lambda: ended.append(serve(scenario, Doubler(scenario.description), trace, 1.0)))
+        slave = Doubler(scenario.description)
+        thread = threading.Thread(target=lambda: ended.append(serve(scenario, slave, trace, 1.0)))
         master = TestMaster(protocol, ports)
         thread.start()
         try:
@@ -161,7 +162,8 @@ class Sessions(unittest.TestCase):
         end.close()
 
     def test_the_words_of_an_example(self):
-        done = subprocess.run([sys.executable, KIT / "examples/loop.py", "none"], input=TEXT.encode(), capture_output=True, check=False)
+        words = [sys.executable, KIT / "examples/loop.py", "none"]
+        done = subprocess.run(words, input=TEXT.encode(), capture_output=True, check=False)
         self.assertEqual((done.returncode, done.stderr), (2, b"the scenario has no slave none\n"))
 
 
