@@ -22,6 +22,8 @@ class Scenarios(unittest.TestCase):
         scenario = scenario_of(head="protocol tcp\nmicro 4\ntries 3\nturn_limit 100\n")
         self.assertEqual((scenario.protocol, scenario.micro), ("tcp", 4))
         self.assertEqual(patience_of(scenario), 2.5)
+        moved = read_scenario(TEXT.replace("127.0.0.1 9002", "127.000.0.01 9002").encode(), "amp")
+        self.assertEqual(moved.description.address, ("127.0.0.1", 9002))
         self.assertEqual((scenario_of().protocol, scenario_of().micro, patience_of(scenario_of())), ("udp", 1, 2.0))
 
     def test_what_does_not_read(self):
@@ -33,8 +35,9 @@ class Scenarios(unittest.TestCase):
                          ("gain 131072", "gain x"), ("127.0.0.1 9002", "localhost 9002"), ("127.0.0.1 9002", "9002")):
             with self.assertRaises(ScenarioError):
                 read_scenario(TEXT.replace(old, new).encode(), "amp")
-        with self.assertRaises(ScenarioError):
-            read_scenario(TEXT.encode(), "ampere")
+        for text, name in ((TEXT.encode(), "ampere"), (b"\xff" + TEXT.encode(), "amp")):
+            with self.assertRaises(ScenarioError):
+                read_scenario(text, name)
 
 
 if __name__ == "__main__":
