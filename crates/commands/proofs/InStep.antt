@@ -147,5 +147,8 @@ sums_in_step host report reported other keeps =
     }
 
 -- whole runs are whole rounds
-pub whole_rounds : (host : HostView) (whole : IsWhole host) → Rounds (master_in host) (slaves_in host) (suc whole.count) host.log
+whole_rounds : (host : HostView) (whole : IsWhole host) → Rounds (master_in host) (slaves_in host) (suc whole.count) host.log
 whole_rounds host whole = (whole.before, whole.last, whole.form, whole.rounds, whole.round)
+
+pub rounds_of : (host : HostView) → IsScenario host.scenario → (hosted : host.hosted ≡ all_ends) → IsWhole host → IfSome (master_in host) (λ rules. Follows rules host.log) → All (λ rules. Follows rules host.log) (slaves_in host) → HasRounds host
+rounds_of host sound hosted whole master slaves = record { sound = sound; hosted = hosted; count = suc whole.count; rounds = whole_rounds host whole; master = master; slaves = slaves }

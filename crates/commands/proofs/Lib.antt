@@ -7,4 +7,5 @@ pub mod Complete
 pub mod Summed
 pub mod Judged
 pub mod Outcomes
+pub mod Quiet
 pub mod Memory

@@ -36,7 +36,8 @@ use Rattle.commands.specs.SaysSoak.{SaysSoak, SoaksTo, rows_after}
 use Rattle.soaks.specs.Summaries.{first_line, sum_text}
 use Rattle.soaks.specs.Texts.{soak_text}
 use Rattle.commands.specs.Statuses.{judgement_of_report, status_after, status_code}
-use Rattle.commands.proofs.InStep.{sums_in_step}
+use Rattle.commands.proofs.InStep.{rounds_of, sums_in_step}
+use Rattle.commands.proofs.Quiet.{timely}
 use Rattle.commands.proofs.Summed.{sum_is_whole}
 use Rattle.commands.proofs.Naming.{one_not_two, soak_not_conform}
 use Rattle.commands.proofs.Outcomes.{stops_rose}
@@ -148,6 +149,11 @@ module _ (words : List (List ℕ)) (source out trace : RunChange) (told : NetTol
       in_step = λ other. run.in_step other (is_honest told memory run.host run.ended.run.told other);
       reasons = λ other. run.reasons other (is_honest told memory run.host run.ended.run.told other);
       complete = λ roomy timely. (let other = first_of run.host.scenario.slaves run.sound.few_slaves.0 in run.complete other (is_honest told memory run.host run.ended.run.told other) roomy timely);
+      quiet = λ plan patient roomy. (
+          let other = first_of run.host.scenario.slaves run.sound.few_slaves.0 in
+          let honest = is_honest told memory run.host run.ended.run.told other in
+          run.complete other honest roomy (timely told memory run.host run.ended.run (rounds_of run.host run.sound run.ended.run.hosted run.ended.run.whole run.master run.slaves) other honest report run.reported plan patient)
+          );
     }
 
     -- an answer to the words of run is of a run

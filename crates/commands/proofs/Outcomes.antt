@@ -54,7 +54,7 @@ use Rattle.commands.specs.SaysSoak.{SaysSoak, SoaksTo, rows_after}
 use Rattle.soaks.specs.Summaries.{summary}
 use Rattle.commands.specs.Statuses.{ComesBeforeWriting, ComesWithoutNet, judgement_of_report, status_after}
 use Rattle.commands.proofs.Complete.{complete_if_timely, fails_for_reason}
-use Rattle.commands.proofs.InStep.{HasRounds, in_step, whole_rounds}
+use Rattle.commands.proofs.InStep.{in_step, rounds_of}
 
 -- a text that was written to the one sink, with nothing for the other
 pub text_alone : (held holds : Option (List ℕ)) (before now : ℕ) (kept : Option (List ℕ)) (count : ℕ) (text : List ℕ) (delivery : Delivery)
@@ -114,8 +114,7 @@ runs_to : (net : NetTold) (input : List ℕ) (host : HostView) (report : Report)
     → IfSome (master_in host) (λ rules. Follows rules host.log) → All (λ rules. Follows rules host.log) (slaves_in host) → report_after host ≡ Some report
     → RunsTo net input report (run_text host report) (run_trace input host)
 runs_to net input host report ended sound hosted master slaves reported =
-    let whole = ended.run.whole in
-    let rounds : HasRounds host = record { sound = sound; hosted = hosted; count = suc whole.count; rounds = whole_rounds host whole; master = master; slaves = slaves } in
+    let rounds = rounds_of host sound hosted ended.run.whole master slaves in
     record { host = host; ended = ended; sound = sound; master = master; slaves = slaves; reported = reported; shows = shown host sound (of_master host hosted master) report reported; text_is = refl; trace_is = refl; in_step = in_step host rounds report reported; reasons = fails_for_reason host rounds report reported; complete = complete_if_timely host rounds report reported }
 
 -- what is delivered of a run is what the command says of its text

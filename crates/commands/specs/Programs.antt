@@ -21,6 +21,8 @@ use Rattle.commands.specs.SaysRun.{NetTold, RunsTo}
 use Rattle.commands.specs.SaysSoak.{SoaksTo, rows_after}
 use Rattle.commands.specs.Statuses.{judgement_of_report, status_after, status_code}
 use Rattle.completeness_laws.specs.Timely.{Roomy, Timely}
+use Rattle.quiet_laws.specs.Quiet.{IsQuietPlan}
+use Rattle.quiet_laws.specs.Rounded.{IsPatient}
 
 -- an object that has had no fault before
 abbrev pub change_of : Option (List ℕ) → Option (List ℕ) → ℕ → RunChange
@@ -44,7 +46,7 @@ ExitsWith words left rest held holds kept keeps code =
     × (code ≡ status_code status) × Outcome words (change_of left rest read_faults) (change_of held holds write_faults) (change_of kept keeps trace_faults) (sure_change told) status
     × ToldInMemory told
 
--- The input that was taken is a scenario, of which there is a run over a network in memory. Its text was written to the one writer and its trace to the other, and the status is that of its report. It keeps to the lockstep of the scenario's reference, and prints the rows of that. The cause of a failure has its reason. Where the scenario leaves time and nothing was lost or late, the text is what the reference gives.
+-- The input that was taken is a scenario, of which there is a run over a network in memory. Its text was written to the one writer and its trace to the other, and the status is that of its report. It keeps to the lockstep of the scenario's reference, and prints the rows of that. The cause of a failure has its reason. Where the scenario leaves time and nothing was lost or late, the text is what the reference gives; so it is where its plan does nothing to the messages and its master is patient.
 pub record RunsInStep (left rest held holds kept keeps : Option (List ℕ)) (code : ℕ) : Type 0 where
   pub input : List ℕ
   pub net : NetTold
@@ -60,6 +62,7 @@ pub record RunsInStep (left rest held holds kept keeps : Option (List ℕ)) (cod
   pub in_step : (other : SlaveDesc) → KeepsInStep run.host.scenario other run.host.log report text
   pub reasons : (other : SlaveDesc) → FailsForReason run.host.scenario other run.host.log report
   pub complete : Roomy run.host.scenario → Timely (setup_from run.host.scenario) (reverse run.host.log) → GivesItsReference run.host.scenario report text
+  pub quiet : IsQuietPlan run.host.scenario.net → IsPatient run.host.scenario.limits → Roomy run.host.scenario → GivesItsReference run.host.scenario report text
 
 -- There is a run of the scenario of this number over a network in memory. The reader and the writer of the trace are as they were, the line of its report and the sum of its rows were written to the other writer, and the status is that of its report. It keeps to the lockstep of the scenario's reference, whose rows it sums, and the sum that is written is the whole number that it is.
 pub record SoaksInStep (number : ℕ) (left rest held holds kept keeps : Option (List ℕ)) (code : ℕ) : Type 0 where

@@ -37,4 +37,5 @@ pub mod Refused
 pub mod Entries
 pub mod StepJobs
 pub mod Reaching
+pub mod Replying
 pub mod InputsSent

@@ -36,7 +36,7 @@ pub record AreInputsMissing (sc : Scenario) (other : SlaveDesc) (log : List LogE
 --   Stuck                  the steps of the slave last, with two turns more, as long as the limit for a state
 --   Faulted, code 35       the slave had as many turns in a row as its heartbeat without taking a request
 --   Faulted, other codes   the reference ends with this fault of this slave, at what the phase is for
---   InputsMissing, step k  over a wire to the slave the data that it wants for step k had been sent before any refusal of the step came, and had not come when the slave got the request that it refused last
+--   InputsMissing, step k  over a wire to the slave the data that it wants for step k had been sent before any refusal of the step came, and had not come when the slave sent the last refusal
 abbrev pub HasHonestReason : (sc : Scenario) (other : SlaveDesc) (log sofar : List LogEntry) → LogEntry → (s phase : ℕ) → Cause → Type 0
 HasHonestReason sc other log sofar e s phase (causes.Unexpected q y t) = ⊥
 HasHonestReason sc other log sofar e s phase (causes.NoAnswer q) = IsUnheard (parties sc other) s q sofar

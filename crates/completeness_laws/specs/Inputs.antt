@@ -12,6 +12,8 @@ use Rattle.master_spec.specs.declared.links.DataLink.{DataLink}
 use Rattle.master_spec.specs.declared.requests.Answer.TheVariants.{Nack}
 use Rattle.master_spec.specs.declared.setups.Slave.{Slave}
 use Rattle.master_spec.specs.Links.{is_wired_pair}
+use Rattle.master_spec.specs.Marks.{is_missing}
+use Rattle.master_spec.specs.News.{Answers, news_of}
 use Rattle.master_spec.specs.Setup.{setup_from}
 use Rattle.master_spec.specs.Requests.{Asking, is_step}
 use Rattle.master_spec.specs.Exchanged.{IsDecided, entry_at}
@@ -19,7 +21,6 @@ use Rattle.master_spec.specs.Shown.{Shown}
 use Rattle.slave_laws.specs.Wiring.Links.{data_link_of}
 use Rattle.run_laws.specs.Laws.{parties}
 use Rattle.completeness_laws.specs.StepPhases.{phase_of_step}
-use Rattle.completeness_laws.specs.Unheard.{GetsRequest}
 
 -- a wire of the scenario goes from a slave to slave s, and this is the link that the plan has for the two
 pub record IsLinkTo (sc : Scenario) (other : SlaveDesc) (s : ℕ) (link : DataLink) : Type 0 where
@@ -43,15 +44,15 @@ pub record WasSentOver (w : Parties) (s : ℕ) (link : DataLink) (o : ℕ) (log 
   pub number : note.number ≡ o % 65536
   pub ordinal : length (values_sent w link.id (Sent (w.slave link.from) (w.slave s) bytes ∷ earlier)) ≡ o + 1
 
--- slave s gets the request with this number at this place
-pub record GetsAt (w : Parties) (s q : ℕ) (log : List LogEntry) (place : ℕ) : Type 0 where
-  pub note : Note
-  pub number : note.number ≡ q
-  pub entry : LogEntry
-  pub is : entry_at log place ≡ Some entry
-  pub gets : GetsRequest w s note entry
+-- at this place slave s sends the master the answer that inputs are missing, to the request with this number
+pub record RefusesAt (w : Parties) (s q : ℕ) (log : List LogEntry) (place : ℕ) : Type 0 where
+  pub bytes : List ℕ
+  pub code : ℕ
+  pub is : entry_at log place ≡ Some (Sent (w.slave s) w.master bytes)
+  pub read : news_of bytes ≡ Answers q s (Nack code)
+  pub missing : IsTrue (is_missing code)
 
--- The phase is for step k of a run. A slave from which a wire goes to this one had sent it the data that the step wants before any refusal of the step came, and that had not come when the slave got the request that it refused last.
+-- The phase is for step k of a run. A slave from which a wire goes to this one had sent it the data that the step wants before any refusal of the step came, and that had not come when the slave sent the last refusal.
 pub record InputsWereSent (sc : Scenario) (other : SlaveDesc) (log : List LogEntry) (slave : Slave) (p q k : ℕ) (s : Shown (setup_from sc) log slave p (causes.InputsMissing q k)) : Type 0 where
   pub run : ℕ
   pub first : 1 ≤ run
@@ -62,7 +63,7 @@ pub record InputsWereSent (sc : Scenario) (other : SlaveDesc) (log : List LogEnt
   pub wire : IsLinkTo sc other slave.id link
   pub sent : WasSentOver (parties sc other) slave.id link (ordinal_wanted sc.steps link.every run k) log
   pub before : (i : ℕ) (a : Asking) (place code : ℕ) → slice_get (s.request ∷ s.earlier) i ≡ Some a → IsTrue (is_step a) → IsDecided a place (Nack code) → length sent.earlier < place
-  pub taken : ℕ
-  pub asked : s.request.first ≤ taken
-  pub gets : GetsAt (parties sc other) slave.id q log taken
-  pub missing : (j : ℕ) → length sent.earlier < j → j ≤ taken → entry_at log j ≡ Some (Got ((parties sc other).slave slave.id) ((parties sc other).slave link.from) sent.bytes) → ⊥
+  pub refused : ℕ
+  pub asked : s.request.first < refused
+  pub refuses : RefusesAt (parties sc other) slave.id q log refused
+  pub missing : (j : ℕ) → length sent.earlier < j → j < refused → entry_at log j ≡ Some (Got ((parties sc other).slave slave.id) ((parties sc other).slave link.from) sent.bytes) → ⊥

@@ -1,6 +1,7 @@
 -- Ends that ran in rounds, with a wait before each, until they were done.
-use Rattle.std.specs.Prelude.{◌≡◌, ◌⊎◌, ℕ, ◌+◌, true, List, Option, None, Some, IfSome, All}
+use Rattle.std.specs.Prelude.{◌≡◌, ◌⊎◌, ℕ, ◌+◌, zero, suc, true, false, List, Option, None, Some, IfSome, All}
 use Rattle.dcp_io.specs.Faults.{Rose}
+use Rattle.dcp_ends.specs.Events.{Rules}
 use Rattle.dcp_ends.specs.declared.entries.LogEntry.{LogEntry}
 use Rattle.rounds.specs.Rounds.{Rounds}
 use Rattle.rounds.specs.Told.{Follows}
@@ -16,10 +17,21 @@ CountsWaits before None n = Unit {0}
 CountsWaits None (Some now) n = ⊥
 CountsWaits (Some before) (Some now) n = now ≡ before + n
 
--- The log is whole rounds, as many as waits answered Ready, and after the last of them the ends are done.
+-- the ends were done after none of these rounds
+abbrev pub AllGoing : (master : Option Rules) (slaves : List Rules) (count : ℕ) (log : List LogEntry) → Rounds master slaves count log → Type 0
+AllGoing master slaves zero log none = Unit {0}
+AllGoing master slaves (suc n) log (before, part, split, rounds, round) = (is_done master slaves log ≡ false) × AllGoing master slaves n before rounds
+
+-- nor were they after any but the last of these
+abbrev pub GoesToLast : (master : Option Rules) (slaves : List Rules) (count : ℕ) (log : List LogEntry) → Rounds master slaves count log → Type 0
+GoesToLast master slaves zero log none = Unit {0}
+GoesToLast master slaves (suc n) log (before, part, split, rounds, round) = AllGoing master slaves n before rounds
+
+-- The log is whole rounds, as many as waits answered Ready. After the last of them the ends are done, and after none before it.
 pub record HasRun (before now : Option ℕ) (host : HostView) : Type 0 where
   pub count : ℕ
   pub rounds : Rounds (master_in host) (slaves_in host) count host.log
+  pub going : GoesToLast (master_in host) (slaves_in host) count host.log rounds
   pub waited : CountsWaits before now count
   pub done : is_done (master_in host) (slaves_in host) host.log ≡ true
   pub fault : host.fault ≡ None

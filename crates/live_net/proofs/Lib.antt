@@ -1,3 +1,7 @@
-mod Sockets
-mod Finding
+mod Bits
+mod Ends
+mod Flushing
 mod Gathering
+mod Hearing
+mod Leaving
+mod Places

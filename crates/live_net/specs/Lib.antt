@@ -1,6 +1,11 @@
 pub mod Addresses
+pub mod Answers
+pub mod Connections
+pub mod Departures
+pub mod Doors
 pub mod Failures
 pub mod Intakes
 pub mod Live
 pub mod Motions
+pub mod Receivers
 pub mod Waits

@@ -1,26 +1,40 @@
 //! What comes to one end over TCP.
 
-ghost use Rattle.std.specs.Prelude.{◌≡◌, ◌<◌, ◌≤◌, length, take, vec_len, IfSome};
+ghost use Rattle.std.specs.Prelude.{◌≡◌, ◌<◌, ◌≤◌, ◌++◌, ◌∷◌, [], ⊤, None, Some, false, map, length, not, position, take, vec_len, IfOk, IfErr, IfSome, MatchOption};
+ghost use Rattle.std.specs.declared.net.socket_addr.SocketAddr.{SocketAddr};
 ghost use Rattle.dcp_net.specs.Nets.{IsWithinRoom};
+ghost use Rattle.live_net.specs.Addresses.{address_in};
+ghost use Rattle.live_net.specs.Connections.{HandedOut, Visits, gives_way, inlet_of, is_full, turn_of, with_room};
+ghost use Rattle.live_net.specs.Doors.{Admits, Given, MeansKnock};
+ghost use Rattle.live_net.specs.declared.connections.Connection.{Connection};
 
 use crate::addresses::socket_of;
+use crate::connections::{Connection, Heard};
 use crate::failures::is_own;
-use crate::intakes::{Intake, Taking};
 use crate::refusals::Refused;
-use crate::streams::Stream;
-use crate::wakes::WAKE;
+use crate::sockets::{Bound, listener_at, watched};
 use dcp_net::Taken;
 use dcp_types::{Address, OutOfMemory};
+use mio::Registry;
 use mio::net::{TcpListener, TcpStream};
-use mio::{Interest, Registry};
 use std::alloc::Global;
-use std::net::Net;
+use std::io;
+use std::net::{Net, SocketAddr};
 
 /// The most connections to one end that are kept.
 pub const MOST_INWARD: usize = 32;
 
 /// The most connections that one take lets in.
 const MOST_LET_IN: u32 = 8;
+
+/// Who waits at the listener.
+#[derive(Drop)]
+enum Knock {
+    Came(TcpStream),
+    Nobody,
+    /// The listener itself failed.
+    Failed,
+}
 
 /// What became of the question who waits at the listener.
 #[derive(Clone, Copy, PartialEq, Eq)]
@@ -33,21 +47,13 @@ enum Door {
     OutOfMemory,
 }
 
-/// A connection from some sender.
-#[derive(Drop)]
-struct Inward {
-    intake: Intake<Stream<TcpStream>>,
-    /// It has brought a message from one of the ends.
-    is_known: bool,
-}
-
 /// The connections to one end, in the order in which they came, and whose turn it is.
 #[derive(Drop)]
 pub(crate) struct Arrivals {
-    listener: TcpListener,
-    inward: Vec<Inward>,
+    listener: Bound<TcpListener>,
+    connections: Vec<Connection>,
     next: usize,
-    ghost few: { vec_len inward ≤ 32 },
+    ghost few: { vec_len connections ≤ 32 },
 }
 
 impl Arrivals {
@@ -57,12 +63,15 @@ impl Arrivals {
         registry: &Registry,
         alloc: Global,
         place: Address,
-    ) -> Result<Arrivals, Refused> {
-        let mut listener = TcpListener::bind(net, socket_of(place))?;
-        registry.register(&mut listener, WAKE, Interest::READABLE)?;
+    ) -> Result<Arrivals, Refused>
+        ensures refused { IfErr result (λ refused. refused ≡ Refused.System) }
+        ensures bound { IfOk result (λ made. address_in made.listener.at ≡ Some place) }
+        ensures fresh { IfOk result (λ made. made.connections.items ≡ []) }
+    {
+        let listener = listener_at(net, registry, socket_of(place))?;
         Ok(Arrivals {
             listener,
-            inward: Vec::new(alloc),
+            connections: Vec::new(alloc),
             next: 0,
         })
     }
@@ -76,7 +85,8 @@ impl Arrivals {
         all: &[Address],
         room: &mut [u8; 1025],
     ) -> Taken
-        ensures { IsWithinRoom result }
+        ensures len { IsWithinRoom result }
+        ensures handed { Given result (map inlet_of self.new.connections.items) room.new }
     {
         for _ in 0..MOST_LET_IN {
             let door = self.open_door(registry, alloc);
@@ -97,21 +107,19 @@ impl Arrivals {
 
     /// Lets in who waits at the listener, if there is one.
     fn open_door(&mut self, registry: &Registry, alloc: Global) -> Door {
-        match self.listener.accept() {
-            Ok((stream, _)) => match self.let_in(registry, alloc, stream) {
-                Ok(()) => Door::Passed,
-                Err(_) => Door::OutOfMemory,
-            },
-            Err(error) if is_own(&error) => Door::Failed,
-            Err(_) => Door::Nobody,
+        match knock_of(self.listener.socket.accept()) {
+            Knock::Came(stream) => self.admit(alloc, watched(registry, stream)),
+            Knock::Nobody => Door::Nobody,
+            Knock::Failed => Door::Failed,
         }
     }
 
     /// Asks each connection once at most, until one has a message.
     fn ask_all(&mut self, all: &[Address], room: &mut [u8; 1025]) -> Option<(Address, usize)>
-        ensures { IfSome result (λ gram. gram.1 ≤ 1025) }
+        ensures len { IfSome result (λ gram. gram.1 ≤ 1025) }
+        ensures handed { IfSome result (λ gram. HandedOut (map inlet_of self.new.connections.items) gram.0 (take gram.1 room.new)) }
     {
-        for _ in 0..self.inward.len() {
+        for _ in 0..self.connections.len() {
             if let Some(gram) = self.visit(all, room) {
                 return Some(gram);
             }
@@ -119,67 +127,126 @@ impl Arrivals {
         None
     }
 
+    /// Keeps a connection that the system watches. One that it does not watch is closed.
+    fn admit(&mut self, alloc: Global, watched: Option<TcpStream>) -> Door
+        ensures { Admits self.old.connections.items self.new.connections.items watched result }
+    {
+        match watched {
+            None => Door::Passed,
+            Some(stream) => match self.let_in(alloc, stream) {
+                Ok(()) => Door::Passed,
+                Err(OutOfMemory) => Door::OutOfMemory,
+            },
+        }
+    }
+
     /// Lets a connection in, for which another gives way where there are too many.
-    fn let_in(
-        &mut self,
-        registry: &Registry,
-        alloc: Global,
-        mut stream: TcpStream,
-    ) -> Result<(), OutOfMemory> {
-        if registry
-            .register(&mut stream, WAKE, Interest::READABLE)
-            .is_err()
-        {
-            return Ok(());
-        }
-        let intake = Intake::new(alloc, Stream::new(stream))?;
-        if self.inward.len() == MOST_INWARD {
-            let first = self.gives_way();
-            drop(self.inward.remove(first));
-        }
-        self.inward.push(Inward {
-            intake,
-            is_known: false,
-        })?;
+    fn let_in(&mut self, alloc: Global, stream: TcpStream) -> Result<(), OutOfMemory>
+        ensures { IfOk result (λ _. (came : Connection) × (came.intake.source.inner ≡ stream) × (came.is_known ≡ false)
+            × (self.new.connections.items ≡ with_room self.old.connections.items ++ came ∷ [])) }
+    {
+        let came = Connection::new(alloc, stream)?;
+        self.make_room();
+        self.connections.push(came)?;
         Ok(())
+    }
+
+    /// Closes the connection that gives way, where as many are kept as may be.
+    fn make_room(&mut self)
+        ensures connections { self.new.connections.items ≡ with_room self.old.connections.items }
+        ensures room { vec_len self.new.connections < 32 }
+    {
+        if self.is_full() {
+            let first = self.gives_way();
+            drop(self.connections.remove(first));
+        }
+    }
+
+    /// Whether as many connections are kept as may be.
+    fn is_full(&self) -> bool
+        ensures { result ≡ is_full self.now.connections.items }
+    {
+        self.connections.len() == MOST_INWARD
     }
 
     /// Which connection gives way to another: the oldest of those that brought no message from one of the
     /// ends, and where there is none, the oldest.
     fn gives_way(&self) -> usize
-        requires { 0 < vec_len self.now.inward }
-        ensures { result < vec_len self.now.inward }
+        requires { 0 < vec_len self.now.connections }
+        ensures place { result ≡ gives_way self.now.connections.items }
+        ensures within { result < vec_len self.now.connections }
     {
-        for (i, inward) in self.inward.iter().enumerate() {
-            if !inward.is_known {
-                return i;
-            }
+        match self.oldest_unknown() {
+            Some(i) => i,
+            None => 0,
         }
-        0
     }
 
-    /// Asks the connection whose turn it is for a message. One that is over or bad is closed.
-    fn visit(&mut self, all: &[Address], room: &mut [u8; 1025]) -> Option<(Address, usize)>
-        ensures { IfSome result (λ gram. gram.1 ≤ 1025) }
+    /// The oldest of the connections that brought no message from one of the ends.
+    fn oldest_unknown(&self) -> Option<usize>
+        ensures place { result ≡ position (λ c. not c.is_known) self.now.connections.items }
+        ensures within { IfSome result (λ i. i < vec_len self.now.connections) }
     {
-        if self.next >= self.inward.len() {
-            self.next = 0;
+        self.connections
+            .iter()
+            .position(|connection| connection.is_unknown())
+    }
+
+    /// Whose turn it is.
+    fn turn(&self) -> usize
+        ensures turn { result ≡ turn_of (vec_len self.now.connections) self.now.next }
+        ensures within { 0 < vec_len self.now.connections → result < vec_len self.now.connections }
+    {
+        if self.next < self.connections.len() {
+            self.next
+        } else {
+            0
         }
-        let inward = self.inward.get_mut(self.next)?;
-        match inward.intake.next() {
-            Taking::Gram { from } => {
-                inward.is_known = inward.is_known || all.contains(&from);
-                let len = put_front(room, inward.intake.gram());
-                self.next += 1;
+    }
+
+    /// Asks the connection whose turn it is for a message. One that is over is closed.
+    fn visit(&mut self, all: &[Address], room: &mut [u8; 1025]) -> Option<(Address, usize)>
+        ensures none { vec_len self.old.connections ≡ 0 → (result ≡ None) × (self.new ≡ self.old) }
+        ensures visits { 0 < vec_len self.old.connections
+            → Visits (turn_of (vec_len self.old.connections) self.old.next) all.now self.old.connections.items self.new.connections.items result room.new }
+        ensures len { IfSome result (λ gram. gram.1 ≤ 1025) }
+        ensures handed { IfSome result (λ gram. HandedOut (map inlet_of self.new.connections.items) gram.0 (take gram.1 room.new)) }
+    {
+        if self.connections.is_empty() {
+            return None;
+        }
+        let turn = self.turn();
+        let connection = &mut self.connections[turn];
+        match connection.hear(all) {
+            Heard::Gram { from } => {
+                let len = put_front(room, connection.message());
+                self.next = turn + 1;
                 Some((from, len))
             }
-            Taking::NotYet if !inward.intake.source().is_over() => {
-                self.next += 1;
+            Heard::Later => {
+                self.next = turn + 1;
                 None
             }
-            Taking::NotYet | Taking::Bad => {
-                drop(self.inward.remove(self.next));
+            Heard::Over => {
+                drop(self.connections.remove(turn));
+                self.next = turn;
                 None
+            }
+        }
+    }
+}
+
+/// Who waits at the listener by the system's answer.
+fn knock_of(answer: io::Result<(TcpStream, SocketAddr)>) -> Knock
+    ensures { MeansKnock result answer }
+{
+    match answer {
+        Ok((stream, _)) => Knock::Came(stream),
+        Err(error) => {
+            if is_own(&error) {
+                Knock::Failed
+            } else {
+                Knock::Nobody
             }
         }
     }

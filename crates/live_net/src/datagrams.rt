@@ -1,23 +1,24 @@
 //! One end over UDP.
 
-ghost use Rattle.std.specs.Prelude.{◌≡◌, IfOk};
+ghost use Rattle.std.specs.Prelude.{◌≡◌, Some, IfOk, IfErr};
 ghost use Rattle.dcp_net.specs.Nets.{IsWithinRoom};
+ghost use Rattle.live_net.specs.Addresses.{address_in};
 
-use crate::addresses::{address_of, socket_of};
-use crate::failures::is_own;
+use crate::addresses::socket_of;
+use crate::answers::{done_of, taken_of};
 use crate::refusals::Refused;
-use crate::wakes::WAKE;
+use crate::sockets::{Bound, datagrams_at};
 use dcp_net::{Done, Taken};
 use dcp_types::Address;
+use mio::Registry;
 use mio::net::UdpSocket;
-use mio::{Interest, Registry};
 use std::net::Net;
 
 /// An end with a socket of its own.
 #[derive(Drop)]
 pub(crate) struct UdpEnd {
     place: Address,
-    socket: UdpSocket,
+    socket: Bound<UdpSocket>,
 }
 
 impl UdpEnd {
@@ -27,10 +28,11 @@ impl UdpEnd {
         registry: &Registry,
         place: Address,
     ) -> Result<UdpEnd, Refused>
-        ensures { IfOk result (λ end. end.place ≡ place) }
+        ensures place { IfOk result (λ end. end.place ≡ place) }
+        ensures bound { IfOk result (λ end. address_in end.socket.at ≡ Some place) }
+        ensures refused { IfErr result (λ refused. refused ≡ Refused.System) }
     {
-        let mut socket = UdpSocket::bind(net, socket_of(place))?;
-        registry.register(&mut socket, WAKE, Interest::READABLE)?;
+        let socket = datagrams_at(net, registry, socket_of(place))?;
         Ok(UdpEnd { place, socket })
     }
 
@@ -43,23 +45,13 @@ impl UdpEnd {
 
     /// Sends a datagram. What the network or the peer refuses is lost.
     pub(crate) fn send(&self, to: Address, bytes: &[u8]) -> Done {
-        match self.socket.send_to(bytes, socket_of(to)) {
-            Err(error) if is_own(&error) => Done::Failed,
-            Ok(_) | Err(_) => Done::Ok,
-        }
+        done_of(&self.socket.socket.send_to(bytes, socket_of(to)))
     }
 
     /// Takes the next datagram, if one is there. The system cuts what is longer than the room.
     pub(crate) fn take(&self, room: &mut [u8; 1025]) -> Taken
         ensures { IsWithinRoom result }
     {
-        match self.socket.recv_from(room) {
-            Ok((len, socket)) => match address_of(socket) {
-                Some(from) => Taken::Gram { from, len },
-                None => Taken::Nothing,
-            },
-            Err(error) if is_own(&error) => Taken::Failed,
-            Err(_) => Taken::Nothing,
-        }
+        taken_of(&self.socket.socket.recv_from(room))
     }
 }

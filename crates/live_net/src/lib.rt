@@ -7,7 +7,9 @@
 #![tactic(auto)]
 
 mod addresses;
+mod answers;
 mod arrivals;
+mod connections;
 mod datagrams;
 mod departures;
 mod failures;
@@ -16,6 +18,7 @@ mod live_ends;
 mod live_nets;
 mod motions;
 mod refusals;
+mod sockets;
 mod streams;
 mod tcp_ends;
 mod waits;

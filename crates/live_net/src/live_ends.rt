@@ -1,8 +1,8 @@
 //! One hosted end over sockets.
 
-ghost use Rattle.std.specs.Prelude.{◌≡◌, ◌≤◌, length, IfOk};
+ghost use Rattle.std.specs.Prelude.{◌≡◌, ◌≤◌, length, IfOk, IfErr};
 ghost use Rattle.dcp_net.specs.Nets.{IsWithinRoom};
-ghost use Rattle.live_net.specs.Live.{socket_place};
+ghost use Rattle.live_net.specs.Live.{SendsBy, TakesBy, hosted_of, opened_as};
 
 use crate::datagrams::UdpEnd;
 use crate::refusals::Refused;
@@ -30,7 +30,8 @@ impl LiveEnd {
         place: Address,
         all: &[Address],
     ) -> Result<LiveEnd, Refused>
-        ensures { IfOk result (λ end. socket_place end ≡ place) }
+        ensures opened { IfOk result (λ end. hosted_of end ≡ opened_as protocol all.now place) }
+        ensures refused { protocol ≡ Protocol.Udp → IfErr result (λ refused. refused ≡ Refused.System) }
     {
         match protocol {
             Protocol::Udp => Ok(LiveEnd::Udp(UdpEnd::open(net, registry, place)?)),
@@ -43,7 +44,7 @@ impl LiveEnd {
 
     /// Where it is.
     pub(crate) fn place(&self) -> Address
-        ensures { result ≡ socket_place self.now }
+        ensures { result ≡ (hosted_of self.now).place }
     {
         match self {
             LiveEnd::Udp(end) => end.place(),
@@ -62,7 +63,7 @@ impl LiveEnd {
     ) -> Done
         requires low { 1 ≤ length bytes.now }
         requires high { length bytes.now ≤ 1024 }
-        ensures { socket_place self.new ≡ socket_place self.old }
+        ensures { SendsBy to bytes.now result (hosted_of self.old) (hosted_of self.new) }
     {
         match self {
             LiveEnd::Udp(end) => end.send(to, bytes),
@@ -78,7 +79,7 @@ impl LiveEnd {
         all: &[Address],
         room: &mut [u8; 1025],
     ) -> Taken
-        ensures place { socket_place self.new ≡ socket_place self.old }
+        ensures takes { TakesBy result room.new (hosted_of self.old) (hosted_of self.new) }
         ensures len { IsWithinRoom result }
     {
         match self {

@@ -1,14 +1,17 @@
 //! The network over sockets.
 
-ghost use Rattle.std.specs.Prelude.{◌≡◌, ◌≤◌, ◌<◌, ⊤, [], false, true, length, IfOk, IsTrue, MatchOption};
+ghost use Rattle.std.specs.Prelude.{◌≡◌, ◌≢◌, ◌≤◌, ◌<◌, ⊤, [], false, true, length, map, position, IfOk, IfSome, IsTrue, OnErr};
+ghost use Rattle.dcp_io.specs.Faults.{one_more};
+ghost use Rattle.dcp_ends.specs.Logs.{same_address};
 ghost use Rattle.dcp_net.specs.Nets.{HasCause, IsWithinRoom};
-ghost use Rattle.live_net.specs.Live.{has_socket};
+ghost use Rattle.live_net.specs.Live.{SendsFrom, TakesAt, has_socket, hosted, hosted_of, opened_as, place_of};
 
+use crate::answers::begun_of;
 use crate::live_ends::LiveEnd;
 use crate::refusals::Refused;
 use crate::waits::MioReady;
 use dcp_net::{Done, Net, Opening, Taken};
-use dcp_types::Address;
+use dcp_types::{Address, Protocol};
 use mio::Registry;
 use std::alloc::Global;
 use std::marker::Model;
@@ -30,11 +33,11 @@ pub struct LiveNet<H: net::Net + Clone + Drop> {
 
 impl<H: net::Net + Clone + Drop> Model for LiveNet<H> {
     ghost use Rattle.std.specs.Prelude.{map};
-    ghost use Rattle.live_net.specs.Live.{Live, socket_place};
+    ghost use Rattle.live_net.specs.Live.{Live, hosted_of};
 
     ghost Value = { Live };
 
-    ghost view = { λ s. record { hosted = map socket_place s.ends.items; faults = s.faults } };
+    ghost view = { λ s. record { ends = map hosted_of s.ends.items; faults = s.faults } };
 }
 
 impl<H: net::Net + Clone + Drop> LiveNet<H> {
@@ -42,7 +45,7 @@ impl<H: net::Net + Clone + Drop> LiveNet<H> {
     ///
     /// System where the system does not share that set of sockets.
     pub fn new(rt: &H, alloc: Global, ready: &MioReady<H>) -> Result<LiveNet<H>, Refused>
-        ensures { IfOk result (λ made. made ≡ record { hosted = []; faults = 0 }) }
+        ensures { IfOk result (λ made. made ≡ record { ends = []; faults = 0 }) }
     {
         let net = rt.clone()?;
         let registry = ready.registry().try_clone()?;
@@ -58,45 +61,37 @@ impl<H: net::Net + Clone + Drop> LiveNet<H> {
 
     /// Opens a socket for each of the ends that are hosted. Where one cannot be had, none stays open.
     fn open(&mut self, plan: &Opening) -> Result<(), Refused>
-        ensures hosted { IfOk result (λ _. self.new.hosted ≡ plan.now.ends) }
+        ensures opened { IfOk result (λ _. self.new.ends ≡ map (opened_as plan.now.protocol plan.now.all) plan.now.ends) }
+        ensures closed { OnErr result (self.new.ends ≡ []) }
         ensures faults { self.new.faults ≡ self.old.faults }
     {
         self.ends = Vec::new(self.alloc);
         self.all = plan.all.as_slice().to_vec(self.alloc)?;
-        let mut ends = Vec::new(self.alloc);
-        for place in plan.ends.as_slice() {
-            let end = LiveEnd::open(
-                &self.net,
-                &self.registry,
-                self.alloc,
-                plan.protocol,
-                *place,
-                &self.all,
-            )?;
-            ends.push(end)?;
-        }
-        self.ends = ends;
+        self.ends = open_all(
+            &self.net,
+            &self.registry,
+            self.alloc,
+            plan.protocol,
+            plan.ends.as_slice(),
+            &self.all,
+        )?;
         Ok(())
     }
 
     /// The place of the hosted end at this address.
     fn find(&self, at: Address) -> Option<usize>
-        ensures { MatchOption result (has_socket self.now at ≡ false) (λ i. (i < length self.now.hosted) × (has_socket self.now at ≡ true)) }
+        ensures place { result ≡ place_of at self.now.ends }
+        ensures within { IfSome result (λ i. i < length self.now.ends) }
     {
-        for (i, end) in self.ends.iter().enumerate() {
-            if end.place() == at {
-                return Some(i);
-            }
-        }
-        None
+        place_in(&self.ends, at)
     }
 
     /// Sends by the socket of the sending end, where it has one.
     fn send_by(&mut self, from: Address, to: Address, bytes: &[u8]) -> Done
         requires low { 1 ≤ length bytes.now }
         requires high { length bytes.now ≤ 1024 }
-        ensures same { self.new ≡ self.old }
-        ensures elsewhere { has_socket self.old from ≡ false → result ≡ Done.Ok }
+        ensures sends { SendsFrom from to bytes.now result self.old self.new }
+        ensures faults { self.new.faults ≡ self.old.faults }
     {
         match self.find(from) {
             Some(i) => self.ends[i].send(&self.net, &self.registry, self.alloc, to, bytes),
@@ -106,15 +101,42 @@ impl<H: net::Net + Clone + Drop> LiveNet<H> {
 
     /// Takes by the socket of this end, where it has one.
     fn take_at(&mut self, at: Address, room: &mut [u8; 1025]) -> Taken
-        ensures same { self.new ≡ self.old }
+        ensures takes { TakesAt at result room.new self.old self.new }
+        ensures faults { self.new.faults ≡ self.old.faults }
         ensures len { IsWithinRoom result }
-        ensures elsewhere { has_socket self.old at ≡ false → result ≡ Taken.Nothing }
     {
         match self.find(at) {
             Some(i) => self.ends[i].take(&self.registry, self.alloc, &self.all, room),
             None => Taken::Nothing,
         }
     }
+}
+
+/// The place among these of the end at this address.
+fn place_in(ends: &[LiveEnd], at: Address) -> Option<usize>
+    ensures place { result ≡ position (λ e. same_address (hosted_of e).place at) ends.now }
+    ensures within { IfSome result (λ i. i < length ends.now) }
+{
+    ends.iter().position(|end| end.place() == at)
+}
+
+/// An end with its sockets at each of these places. `all` are the ends that it may send to.
+fn open_all<H: net::Net>(
+    net: &H,
+    registry: &Registry,
+    alloc: Global,
+    protocol: Protocol,
+    places: &[Address],
+    all: &[Address],
+) -> Result<Vec<LiveEnd>, Refused>
+    ensures { IfOk result (λ ends. map hosted_of ends.items ≡ map (opened_as protocol all.now) places.now) }
+{
+    let mut ends = Vec::new(alloc);
+    for place in places {
+        let end = LiveEnd::open(net, registry, alloc, protocol, *place, all)?;
+        ends.push(end)?;
+    }
+    Ok(ends)
 }
 
 impl<H: net::Net + Clone + Drop> Net for LiveNet<H> {
@@ -135,16 +157,16 @@ impl<H: net::Net + Clone + Drop> Net for LiveNet<H> {
         ensures empty { result ≡ Done.Ok → ⊤ }
         ensures plan { result ≡ Done.Ok → ⊤ }
         ensures cause { HasCause self.old.faults self.new.faults (result ≡ Done.Failed) }
-        ensures hosted { result ≡ Done.Ok → self.new.hosted ≡ plan.now.ends }
+        ensures once { result ≡ Done.Failed → self.new.faults ≡ one_more self.old.faults }
+        ensures hosted { result ≡ Done.Ok → hosted self.new ≡ plan.now.ends }
+        ensures ends { result ≡ Done.Ok → self.new.ends ≡ map (opened_as plan.now.protocol plan.now.all) plan.now.ends }
+        ensures closed { result ≢ Done.Ok → self.new.ends ≡ [] }
     {
-        match self.open(plan) {
-            Ok(()) => Done::Ok,
-            Err(Refused::OutOfMemory) => Done::OutOfMemory,
-            Err(Refused::System) => {
-                self.faults = self.faults.saturating_add(1);
-                Done::Failed
-            }
+        let begun = begun_of(&self.open(plan));
+        if begun == Done::Failed {
+            self.faults = self.faults.saturating_add(1);
         }
+        begun
     }
 
     /// Sends by the socket of the sending end. The message of an end that has none is lost.
@@ -156,8 +178,10 @@ impl<H: net::Net + Clone + Drop> Net for LiveNet<H> {
         ensures calls { Unit {0} }
         ensures opening { Unit {0} }
         ensures cause { HasCause self.old.faults self.new.faults (result ≡ Done.Failed) }
-        ensures hosted { self.new.hosted ≡ self.old.hosted }
+        ensures once { result ≡ Done.Failed → self.new.faults ≡ one_more self.old.faults }
+        ensures hosted { hosted self.new ≡ hosted self.old }
         ensures elsewhere { has_socket self.old from ≡ false → result ≡ Done.Ok }
+        ensures sends { SendsFrom from to bytes.now result self.old self.new }
     {
         let sent = self.send_by(from, to, bytes);
         if sent == Done::Failed {
@@ -174,8 +198,10 @@ impl<H: net::Net + Clone + Drop> Net for LiveNet<H> {
         ensures calls { Unit {0} }
         ensures opening { Unit {0} }
         ensures cause { HasCause self.old.faults self.new.faults (result ≡ Taken.Failed) }
-        ensures hosted { self.new.hosted ≡ self.old.hosted }
+        ensures once { result ≡ Taken.Failed → self.new.faults ≡ one_more self.old.faults }
+        ensures hosted { hosted self.new ≡ hosted self.old }
         ensures elsewhere { has_socket self.old at ≡ false → result ≡ Taken.Nothing }
+        ensures takes { TakesAt at result room.new self.old self.new }
     {
         let taken = self.take_at(at, room);
         if taken == Taken::Failed {

@@ -1,7 +1,9 @@
 //! What a call on a stream that does not wait came to.
 
-ghost use Rattle.live_net.specs.Motions.{MeansMotion};
+ghost use Rattle.std.specs.Prelude.{◌≡◌};
+ghost use Rattle.live_net.specs.Motions.{MeansMotion, read_as, written_as};
 
+use dcp_io::{Read, Written};
 use std::io;
 use std::io::ErrorKind;
 
@@ -29,5 +31,26 @@ pub fn motion_of(called: &io::Result<usize>) -> Motion
             ErrorKind::WouldBlock | ErrorKind::Interrupted => Motion::Later,
             _ => Motion::Broken,
         },
+    }
+}
+
+/// What a read is that came to this. The end is no failure.
+pub(crate) fn read_of(motion: Motion) -> Read
+    ensures { result ≡ read_as motion }
+{
+    match motion {
+        Motion::Moved(count) => Read::Bytes(count),
+        Motion::Ended => Read::End,
+        Motion::Later | Motion::Broken => Read::Failed,
+    }
+}
+
+/// What a write is that came to this. A stream that takes nothing has failed.
+pub(crate) fn written_of(motion: Motion) -> Written
+    ensures { result ≡ written_as motion }
+{
+    match motion {
+        Motion::Moved(count) => Written::Wrote(count),
+        Motion::Ended | Motion::Later | Motion::Broken => Written::Failed,
     }
 }

@@ -1,9 +1,11 @@
 //! A stream that does not wait, as a source and as a sink.
 
-ghost use Rattle.std.specs.Prelude.{◌≡◌, ◌||◌, false};
-ghost use Rattle.live_net.specs.Motions.{is_last_motion};
+ghost use Rattle.std.specs.Prelude.{◌≡◌, ◌<◌, ◌||◌, false, length};
+ghost use Rattle.dcp_io.specs.Calls.{ReadFits, ReadTakes, ReadCause, WriteFits, WriteAdds, WriteCause};
+ghost use Rattle.live_net.specs.Motions.{is_last_motion, read_as, written_as, faults_read, faults_written};
+ghost use Rattle.live_net.specs.declared.motions.Motion.{Motion};
 
-use crate::motions::{Motion, motion_of};
+use crate::motions::{Motion, motion_of, read_of, written_of};
 use dcp_io::{Read, Sink, Source, Written};
 use std::io;
 
@@ -55,16 +57,21 @@ impl<T: io::Write> Sink for Stream<T> {
 
     ghost faults = { λ s. s.faults };
 
-    fn write(&mut self, piece: &[u8]) -> Written {
+    fn write(&mut self, piece: &[u8]) -> Written
+        requires { 0 < length piece.now }
+        ensures fits { WriteFits result piece.now }
+        ensures bytes { WriteAdds (T.contents self.old.inner) (T.contents self.new.inner) result piece.now }
+        ensures cause { WriteCause self.old.faults self.new.faults result }
+        ensures once { self.new.faults ≡ faults_written self.old.faults result }
+        ensures meaning { (motion : Motion) × (result ≡ written_as motion) × (self.new.is_over ≡ (self.old.is_over || is_last_motion motion)) }
+    {
         let motion = motion_of(&self.inner.write(piece));
         self.note(motion);
-        match motion {
-            Motion::Moved(count) => Written::Wrote(count),
-            Motion::Ended | Motion::Later | Motion::Broken => {
-                self.faults = self.faults.saturating_add(1);
-                Written::Failed
-            }
+        let written = written_of(motion);
+        if written == Written::Failed {
+            self.faults = self.faults.saturating_add(1);
         }
+        written
     }
 }
 
@@ -73,16 +80,20 @@ impl<T: io::Read> Source for Stream<T> {
 
     ghost faults = { λ s. s.faults };
 
-    fn read(&mut self, room: &mut [u8]) -> Read {
+    fn read(&mut self, room: &mut [u8]) -> Read
+        requires { 0 < length room.old }
+        ensures fits { ReadFits result room.new }
+        ensures bytes { ReadTakes (T.remaining self.old.inner) (T.remaining self.new.inner) result room.new }
+        ensures cause { ReadCause self.old.faults self.new.faults result }
+        ensures once { self.new.faults ≡ faults_read self.old.faults result }
+        ensures meaning { (motion : Motion) × (result ≡ read_as motion) × (self.new.is_over ≡ (self.old.is_over || is_last_motion motion)) }
+    {
         let motion = motion_of(&self.inner.read(room));
         self.note(motion);
-        match motion {
-            Motion::Moved(count) => Read::Bytes(count),
-            Motion::Ended => Read::End,
-            Motion::Later | Motion::Broken => {
-                self.faults = self.faults.saturating_add(1);
-                Read::Failed
-            }
+        let read = read_of(motion);
+        if read == Read::Failed {
+            self.faults = self.faults.saturating_add(1);
         }
+        read
     }
 }

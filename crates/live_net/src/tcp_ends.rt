@@ -1,7 +1,11 @@
 //! One end over TCP.
 
-ghost use Rattle.std.specs.Prelude.{◌≡◌, ◌≤◌, length, IfOk};
+ghost use Rattle.std.specs.Prelude.{◌≡◌, ◌≤◌, [], map, length, IfOk};
 ghost use Rattle.dcp_net.specs.Nets.{IsWithinRoom};
+ghost use Rattle.live_net.specs.Connections.{inlet_of};
+ghost use Rattle.live_net.specs.Departures.{FlushesAll, leaving_of, unconnected};
+ghost use Rattle.live_net.specs.Doors.{Given};
+ghost use Rattle.live_net.specs.Receivers.{DepartsIf};
 
 use crate::arrivals::Arrivals;
 use crate::departures::Departures;
@@ -15,7 +19,6 @@ use std::net::Net;
 /// An end with a listener of its own, and its connections both ways.
 #[derive(Drop)]
 pub(crate) struct TcpEnd {
-    place: Address,
     arrivals: Arrivals,
     departures: Departures,
 }
@@ -29,12 +32,13 @@ impl TcpEnd {
         place: Address,
         all: &[Address],
     ) -> Result<TcpEnd, Refused>
-        ensures { IfOk result (λ end. end.place ≡ place) }
+        ensures place { IfOk result (λ end. end.departures.from ≡ place) }
+        ensures arrivals { IfOk result (λ end. end.arrivals.connections.items ≡ []) }
+        ensures leads { IfOk result (λ end. map leaving_of end.departures.outward.items ≡ map unconnected all.now) }
     {
         let arrivals = Arrivals::open(net, registry, alloc, place)?;
         let departures = Departures::new(alloc, place, all)?;
         Ok(TcpEnd {
-            place,
             arrivals,
             departures,
         })
@@ -42,9 +46,9 @@ impl TcpEnd {
 
     /// Where it is.
     pub(crate) fn place(&self) -> Address
-        ensures { result ≡ self.now.place }
+        ensures { result ≡ self.now.departures.from }
     {
-        self.place
+        self.departures.from()
     }
 
     /// Sends a message over the connection to its receiver.
@@ -58,7 +62,9 @@ impl TcpEnd {
     ) -> Done
         requires low { 1 ≤ length bytes.now }
         requires high { length bytes.now ≤ 1024 }
-        ensures { self.new.place ≡ self.old.place }
+        ensures arrivals { self.new.arrivals ≡ self.old.arrivals }
+        ensures from { self.new.departures.from ≡ self.old.departures.from }
+        ensures departs { DepartsIf result self.old.departures.from to bytes.now self.old.departures.outward.items self.new.departures.outward.items }
     {
         match self.departures.send(net, registry, alloc, to, bytes) {
             Ok(()) => Done::Ok,
@@ -74,8 +80,10 @@ impl TcpEnd {
         all: &[Address],
         room: &mut [u8; 1025],
     ) -> Taken
-        ensures place { self.new.place ≡ self.old.place }
+        ensures from { self.new.departures.from ≡ self.old.departures.from }
+        ensures flushes { FlushesAll self.old.departures.outward.items self.new.departures.outward.items }
         ensures len { IsWithinRoom result }
+        ensures handed { Given result (map inlet_of self.new.arrivals.connections.items) room.new }
     {
         self.departures.flush();
         self.arrivals.take(registry, alloc, all, room)

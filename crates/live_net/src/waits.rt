@@ -1,10 +1,13 @@
 //! The wait for something to take from sockets.
 
 ghost use Rattle.std.specs.Prelude.{◌≡◌, IfOk};
+ghost use Rattle.std.specs.Duration.{as_nanos};
+ghost use Rattle.dcp_io.specs.Faults.{one_more};
 ghost use Rattle.dcp_net.specs.Nets.{HasCause};
 ghost use Rattle.dcp_net.specs.Waits.{TellsWaits};
-ghost use Rattle.live_net.specs.Waits.{told_waits};
+ghost use Rattle.live_net.specs.Waits.{told_waits, longest_nanos};
 
+use crate::answers::waited_of;
 use crate::refusals::Refused;
 use dcp_net::{Ready, Waited};
 use mio::{Events, Poll, Registry};
@@ -74,13 +77,20 @@ impl<H: Net + Clone + Drop> Ready for MioReady<H> {
     fn wait(&mut self) -> Waited
         ensures waits { TellsWaits (told_waits self.old.waits) (told_waits self.new.waits) result }
         ensures cause { HasCause self.old.faults self.new.faults (result ≡ Waited.Failed) }
+        ensures once { result ≡ Waited.Failed → self.new.faults ≡ one_more self.old.faults }
     {
-        let longest = Duration::from_millis(LONGEST_WAIT);
-        if self.poll.poll(&mut self.events, Some(longest)).is_err() {
-            self.faults = self.faults.saturating_add(1);
-            return Waited::Failed;
+        let waited = waited_of(&self.poll.poll(&mut self.events, Some(longest_wait())));
+        match waited {
+            Waited::Ready => self.waits = self.waits.saturating_add(1),
+            Waited::Failed => self.faults = self.faults.saturating_add(1),
         }
-        self.waits = self.waits.saturating_add(1);
-        Waited::Ready
+        waited
     }
+}
+
+/// How long a wait lasts at most.
+fn longest_wait() -> Duration
+    ensures { as_nanos result ≡ longest_nanos }
+{
+    Duration::from_millis(LONGEST_WAIT)
 }

@@ -79,6 +79,7 @@ module _ (sc : Scenario) (other : SlaveDesc) (ok : IsScenario sc) where
     abbrev M : transport.Machine Plant
     M = machine (slave_setup_of sc other s)
 
+    -- notices are no data
     else_none : (ps : List Send) → AreElse W ps → NoneData (map post ps)
     else_none [] h = tt
     else_none (p ∷ ps) h = (subst IsNoData (sym h.0) tt, else_none ps h.1)
@@ -87,6 +88,7 @@ module _ (sc : Scenario) (other : SlaveDesc) (ok : IsScenario sc) where
       abbrev x : transport.SlaveState Plant
       x = (at M W s log).slave
 
+      -- what answers a request is no data
       asked_none : (r : req.SlaveRequest) → spec.heard bytes ≡ spec.Asks r → (f : Fate) → NoneData (map post (transport.request_sends M x from r f))
       asked_none r e Dropped = tt
       asked_none r e (Refused code) = (subst IsNoData (sym (((reads_back sc other ok s it).sends log).refusal bytes r e from code)) tt, tt)
@@ -99,16 +101,19 @@ module _ (sc : Scenario) (other : SlaveDesc) (ok : IsScenario sc) where
           let k = ((reads_back sc other ok s it).sends log).answer bytes r e from in
           (subst IsNoData (sym k.0) tt, else_none (transport.notice_sends from r.receiver (M.answers r.asked x.inner).notices) k.1)
 
+      -- what is sent for a datagram is no data
       heard_none : (h : spec.Heard) → spec.heard bytes ≡ h → NoneData (map post (transport.heard_sends M x from h))
       heard_none (spec.Asks r) e = asked_none r e (transport.fate M x from r)
       heard_none (spec.Brings number id payload) e = tt
       heard_none spec.Nothing e = tt
 
+      -- so the slave owes none behind a datagram that it got
       got_none : NoneData (at M W s (Got (W.slave s) from bytes ∷ log)).desk.owed
       got_none =
           let P : Bool → Type 0 = λ c. NoneData (if c then got M W s from bytes (at M W s log) else at M W s log).desk.owed in
           subst P (sym (same_self (W.slave s))) (heard_none (spec.heard bytes) refl)
 
+    -- it owes none when it has sent of it
     sent_none : (mv : Move) (y : Both Plant) → NoneData y.desk.owed → NoneData (sent_next M W s mv y).desk.owed
     sent_none (Tells to bytes) y h = by y.desk.owed h
       where
@@ -123,6 +128,7 @@ module _ (sc : Scenario) (other : SlaveDesc) (ok : IsScenario sc) where
     sent_none Rests y h = h
     sent_none Other y h = h
 
+    -- nor when it has sent several
     sents_none : (a : Address) (sents base : List LogEntry) → AllSent a sents → NoneData (at M W s base).desk.owed → NoneData (at M W s (sents ++ base)).desk.owed
     sents_none a [] base h k = k
     sents_none a (Sent from to bytes ∷ sents) base h k = sent_none (move W s (Sent from to bytes)) (at M W s (sents ++ base)) (sents_none a sents base h.1 k)
@@ -130,6 +136,7 @@ module _ (sc : Scenario) (other : SlaveDesc) (ok : IsScenario sc) where
     sents_none a (Idle at' ∷ sents) base h k = absurd h
     sents_none a (Turn at' ∷ sents) base h k = absurd h
 
+    -- so the first that it owes is no data
     first_none : (ps : List Post) (to : Address) (bytes : List ℕ) (id : ℕ) (n : Note) → NoneData ps → IsFirstPost ps to bytes → role_heard W bytes ≡ Value id n → ⊥
     first_none [] to bytes id n h f e = f
     first_none (p ∷ ps) to bytes id n h f e = subst IsNoData (ap (role_heard W) f.1 ∙ e) h.0

@@ -57,18 +57,22 @@ use Rattle.completeness_laws.proofs.Delivery.Over.{is_over_asking, end_is_last, 
 use Rattle.completeness_laws.proofs.Delivery.Sessions.{is_over_exchange}
 use Rattle.quiet_laws.proofs.Late.{shut_late}
 
+-- none is not some
 none_some : {A : Type 0} (x : A) → None ≡ Some x → ⊥
 none_some x z = cc
 
+-- true is not false
 clash : true ≡ false → ⊥
 clash z = cc
 
+-- a choice holds where its right side does
 or_right : (a b : Bool) → b ≡ true → (a || b) ≡ true
 or_right true b h = refl
 or_right false b h = h
 
 -- ---- where a request is open, no end of the session was acknowledged
 module _ (limits : Limits) (js : List Job) (last : (p : ℕ) (a b : Job) → slice_get js p ≡ Some a → slice_get js (p + 1) ≡ Some b → is_by_end a.task ≡ false) where
+  -- to give up is not to wait
   not_wait : (cause : Cause) → GiveUp cause ≡ Wait → ⊥
   not_wait cause z = cc
 
@@ -90,6 +94,7 @@ module _ (limits : Limits) (js : List Job) (last : (p : ℕ) (a b : Job) → sli
       by (Brought n p) l k o h f = f k o h
       by (Turned t) l k o h f = f k o h
 
+  -- whether it has ended or not
   pub open_no_end : (xs : List Placed) → AreLegal limits js (marks_of xs) → ((cause : Cause) → cause_of (marks_of xs) ≡ Some cause → Shut limits cause xs) → (r : Request) → open_request (marks_of xs) ≡ Some r → list_any is_over_asking (askings_told xs) ≡ true → ⊥
   open_no_end xs l shut r o h = by (cause_of (marks_of xs)) refl
     where
@@ -98,18 +103,18 @@ module _ (limits : Limits) (js : List Job) (last : (p : ℕ) (a b : Job) → sli
       by (Some cause) e = shut_no_end cause xs l (shut cause e) r o h
 
 -- ---- an exchange that ends the session is a request that does
-acked_by : Option Decision → Bool
-acked_by o = is_acked_by o
-
+-- for one request and its exchange
 over_one : (id : ℕ) (b : Asking) (d : Decision) (e : DecidedRequest) → b.decision ≡ Some d → e.request ≡ note_of id b → IsAnswerAs id e.answer d.answer → is_over_exchange e ≡ is_over_asking b
 over_one id b d e q r a =
     ap (λ (n : Note). (n.message.code == 2) && is_acknowledged e.answer) r
     ∙ ap (λ (t : Bool). (b.code == 2) && t) (same_ack e.answer.number id e.answer.message.code e.answer.message.values d.answer a ∙ ap (λ (o : Option Decision). is_acked_by o) (sym q))
 
+-- a choice that holds is kept, part by part
 or_same : (a b c d : Bool) → a ≡ c → (b ≡ true → d ≡ true) → (a || b) ≡ true → (c || d) ≡ true
 or_same true b c d e f h = ap (λ (t : Bool). t || d) (sym e)
 or_same false b c d e f h = or_right c d (f h)
 
+-- for all of them
 pub over_all : (id : ℕ) (bs : List Asking) (ds : List DecidedRequest) → AreDecisions id bs ds → list_any is_over_exchange ds ≡ true → list_any is_over_asking bs ≡ true
 over_all id [] ds e h = absurd (clash (sym (sym (ap (list_any is_over_exchange) e) ∙ h)))
 over_all id (b ∷ bs) ds e h = by b.decision refl e h (λ es k z. over_all id bs es k z)
@@ -150,10 +155,12 @@ module _ (sc : Scenario) (other : SlaveDesc) (ok : IsScenario sc) (s : ℕ) (it 
     pub dated : Dated S L log until xs
     pub quiet : (report : Report) → (course_at S log).report ≡ Some report → is_quiet (talk_with L (marks_of xs)) ≡ true
 
+  -- a newest request that is not decided is open
   head_open : (o : Option Request) (n : ℕ) (c : Asking) (cs : List Asking) → IsHeadRequest o n (c ∷ cs) → c.decision ≡ None → (r : Request) × (o ≡ Some r)
   head_open None n c cs h e = let z : false ≡ true = sym (ap (λ (d : Option Decision). is_some d) e) ∙ h.1 in absurd (clash (sym z))
   head_open (Some r) n c cs h e = (r, refl)
 
+  -- before the report
   by_course : (log : List LogEntry) → IsRun S log → (b : Asking) (bs : List Asking) → asks S.address L log ≡ b ∷ bs → b.decision ≡ None → (course_at S log).report ≡ None → IsOpenTalk log b bs
   by_course log run b bs told free r =
       let t = talk_facts sc other ok s it log run r in
@@ -175,6 +182,7 @@ module _ (sc : Scenario) (other : SlaveDesc) (ok : IsScenario sc) (s : ℕ) (it 
         quiet = λ report z. absurd (none_some report (sym r ∙ z));
       }
 
+  -- once there is a report
   by_report : (log : List LogEntry) → IsRun S log → (b : Asking) (bs : List Asking) → asks S.address L log ≡ b ∷ bs → b.decision ≡ None → (report : Report) → (course_at S log).report ≡ Some report → IsOpenTalk log b bs
   by_report log run b bs told free report r = by (askings_told z.xs) refl late
     where
@@ -209,6 +217,7 @@ module _ (sc : Scenario) (other : SlaveDesc) (ok : IsScenario sc) (s : ℕ) (it 
           still None y l = y
           still (Some d) y l = absurd (none_some d (sym free ∙ l.kept d y))
 
+  -- at any moment
   pub open_talk : (log : List LogEntry) → IsRun S log → (b : Asking) (bs : List Asking) → asks S.address L log ≡ b ∷ bs → b.decision ≡ None → IsOpenTalk log b bs
   open_talk log run b bs told free = by (course_at S log).report refl
     where

@@ -15,6 +15,13 @@ pub mod Again
 pub mod Requests
 pub mod Late
 pub mod Once
+pub mod Soon
+pub mod Going
+pub mod Open
+pub mod Young
+pub mod Looked
+pub mod Data
+pub mod Timely
 pub mod Sums
 pub mod Counts
 pub mod Before
@@ -23,10 +30,4 @@ pub mod Along
 pub mod Mild
 pub mod Passing
 pub mod Brings
-pub mod Soon
-pub mod Going
-pub mod Open
-pub mod Young
-pub mod Looked
-pub mod Data
-pub mod Timely
+pub mod Patient

@@ -21,6 +21,7 @@ pub record IsAfterGot (from : Address) (front : List LogEntry) : Type 0 where
   pub is : front ≡ before ++ Got from sender bytes ∷ sents
   pub own : AllSent from sents
 
+-- with more entries in front
 behind : (from : Address) (p q : List LogEntry) → IsAfterGot from q → IsAfterGot from (p ++ q)
 behind from p q g = record { before = p ++ g.before; sender = g.sender; bytes = g.bytes; sents = g.sents; is = ap (λ (z : List LogEntry). p ++ z) g.is ∙ sym (append_assoc p g.before (Got from g.sender g.bytes ∷ g.sents)); own = g.own }
 
@@ -29,6 +30,7 @@ pub data Stands (a b p : List LogEntry) (x : LogEntry) (q : List LogEntry) : Typ
   InFirst : (more : List LogEntry) → a ≡ p ++ x ∷ more → q ≡ more ++ b → Stands a b p x q
   InSecond : (more : List LogEntry) → p ≡ a ++ more → b ≡ more ++ x ∷ q → Stands a b p x q
 
+-- it stands in the first or in the second
 pub stands : (a b p : List LogEntry) (x : LogEntry) (q : List LogEntry) → a ++ b ≡ p ++ x ∷ q → Stands a b p x q
 stands a b p x q e = by (splits a b p (x ∷ q) e)
   where
@@ -47,6 +49,7 @@ module _ (from to : Address) (bytes : List ℕ) where
   abbrev x : LogEntry
   x = Sent from to bytes
 
+  -- among the sends of an end, each is one of it
   sents_split : (a : Address) (p q : List LogEntry) → AllSent a (p ++ x ∷ q) → AllSent a p × (from ≡ a)
   sents_split a [] q h = (tt, h.0)
   sents_split a (Sent f t b ∷ p) q h = let k = sents_split a p q h.1 in ((h.0, k.0), k.1)
@@ -54,6 +57,7 @@ module _ (from to : Address) (bytes : List ℕ) where
   sents_split a (Idle at ∷ p) q h = absurd h
   sents_split a (Turn at ∷ p) q h = absurd h
 
+  -- a message that is sent behind a datagram that was got
   got_sent : (a : Address) (part p q : List LogEntry) → IsGot a part → part ≡ p ++ x ∷ q → IsAfterGot from p
   got_sent a part [] q g e = absurd (off (sym g.form ∙ e))
     where
@@ -68,6 +72,7 @@ module _ (from to : Address) (bytes : List ℕ) where
       let Q : Address → Type 0 = λ w. AllSent w p in
       record { before = []; sender = g.from; bytes = g.bytes; sents = p; is = ap (λ (w : LogEntry). w ∷ p) (sym first) ∙ ap (λ (w : Address). Got w g.from g.bytes ∷ p) (sym k.1); own = subst Q (sym k.1) k.0 }
 
+  -- behind one of several of them
   gots_sent : (a : Address) (n : ℕ) (part p q : List LogEntry) → Gots a n part → part ≡ p ++ x ∷ q → IsAfterGot from p
   gots_sent a zero part p q g e = absurd (off p (sym g ∙ e))
     where
@@ -83,6 +88,7 @@ module _ (from to : Address) (bytes : List ℕ) where
       by (InFirst more f later) rec = rec more f
       by (InSecond more f h) rec = subst P (sym f) (behind from g.0 more (got_sent a g.1 more q g.4 h))
 
+  -- in a look
   look_sent : (a : Address) (part p q : List LogEntry) → IsLook a part → part ≡ p ++ x ∷ q → IsAfterGot from p
   look_sent a part p q l e = by (most l.count l.most)
     where
@@ -102,6 +108,7 @@ module _ (from to : Address) (bytes : List ℕ) where
       by (inl h) = gots_sent a l.count l.gots p q l.form (sym (l.full h) ∙ e)
       by (inr h) = two (stands l.gots (Idle a ∷ []) p x q (sym (l.idle h) ∙ e))
 
+  -- in one of the looks at several ends
   each_look_sent : (places : List Address) (part p q : List LogEntry) → EachEnd IsLook places part → part ≡ p ++ x ∷ q → IsAfterGot from p
   each_look_sent [] part p q h e = absurd (off p (sym h ∙ e))
     where
@@ -117,6 +124,7 @@ module _ (from to : Address) (bytes : List ℕ) where
       by (InFirst more f later) rec = look_sent a h.0 p more h.3 f
       by (InSecond more f g) rec = subst P (sym f) (behind from h.0 more (rec more g))
 
+  -- in the looks of a round
   looks_sent : (r : Rules) (rs : List Rules) (part p q : List LogEntry) → IsLooks (Some r) rs part → part ≡ p ++ x ∷ q → IsAfterGot from p
   looks_sent r rs part p q l e = by (stands l.first l.rest p x q (sym l.form ∙ e))
     where
@@ -127,6 +135,7 @@ module _ (from to : Address) (bytes : List ℕ) where
       by (InFirst more f later) = look_sent r.place l.first p more l.own f
       by (InSecond more f g) = subst P (sym f) (behind from l.first more (each_look_sent (places_of rs) l.rest more q l.others g))
 
+  -- in a turn it is the end's own
   turn_sent : (a : Address) (part p q : List LogEntry) → IsTurn a part → part ≡ p ++ x ∷ q → from ≡ a
   turn_sent a part [] q g e = absurd (off (sym g.form ∙ e))
     where
@@ -151,6 +160,7 @@ module _ (from to : Address) (bytes : List ℕ) where
 
 -- ---- the round in which there is a report
 module _ (r : Rules) (rs : List Rules) (away : AreAway r.place (places_of rs)) where
+  -- two addresses differ either way
   apart : (a : Address) → same_address a r.place ≡ false → same_address r.place a ≡ false
   apart a e = by (same_address r.place a) refl
     where
@@ -161,6 +171,7 @@ module _ (r : Rules) (rs : List Rules) (away : AreAway r.place (places_of rs)) w
           off z = cc
       by false z = refl
 
+  -- sends are no events
   sents_still : (b : Address) (part : List LogEntry) → AllSent b part → events_at r.place part ≡ []
   sents_still b [] h = refl
   sents_still b (Sent from to bytes ∷ part) h = sents_still b part h.1
@@ -168,10 +179,12 @@ module _ (r : Rules) (rs : List Rules) (away : AreAway r.place (places_of rs)) w
   sents_still b (Idle at ∷ part) h = absurd h
   sents_still b (Turn at ∷ part) h = absurd h
 
+  -- a turn of another end is no event of the master
   turn_still : (b : Address) (part : List LogEntry) → same_address b r.place ≡ false → IsTurn b part → events_at r.place part ≡ []
   turn_still b part e t =
       ap (events_at r.place) t.form ∙ ap (λ (c : Bool). (if c then Tick ∷ [] else []) ++ events_at r.place t.sents) (apart b e) ∙ sents_still b t.sents t.own
 
+  -- nor are the turns of several others
   each_still : (places : List Address) (part : List LogEntry) → AreAway r.place places → EachEnd IsTurn places part → events_at r.place part ≡ []
   each_still [] part w h = ap (events_at r.place) h
   each_still (b ∷ places) part w h =

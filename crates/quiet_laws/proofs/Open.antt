@@ -62,6 +62,35 @@ use Rattle.quiet_laws.proofs.Fronts.{address_is, address_self}
 use Rattle.quiet_laws.proofs.Going.{goes_on}
 use Rattle.quiet_laws.proofs.Soon.{CameSoon}
 
+-- ---- lists put together in another order
+-- a front of what follows is behind what stood before
+pub after_front : (all later log u v : List LogEntry) → all ≡ later ++ log → log ≡ u ++ v → all ≡ (later ++ u) ++ v
+after_front all later log u v e f = e ∙ ap (λ (z : List LogEntry). later ++ z) f ∙ sym (append_assoc later u v)
+
+-- the last part goes with the second of two
+pub joined : (log part x y base : List LogEntry) (t : LogEntry) → log ≡ part ++ base → part ≡ x ++ t ∷ y → log ≡ x ++ t ∷ (y ++ base)
+joined log part x y base t e f = e ∙ ap (λ (z : List LogEntry). z ++ base) f ∙ append_assoc x (t ∷ y) base
+
+-- split once more, at a later entry
+pub outer : (log q y x z base : List LogEntry) (t u : LogEntry) → log ≡ q ++ t ∷ (y ++ base) → y ≡ x ++ u ∷ z → log ≡ (q ++ t ∷ x) ++ u ∷ (z ++ base)
+outer log q y x z base t u e f = after_front log q (t ∷ (y ++ base)) (t ∷ x) (u ∷ (z ++ base)) e (ap (λ (w : List LogEntry). t ∷ w) (joined (y ++ base) y x z base u refl f))
+
+-- split at an entry of the last of three
+inner : (log q y x z after before base : List LogEntry) (t u : LogEntry) → log ≡ q ++ t ∷ (y ++ base) → y ≡ x ++ t ∷ z → z ≡ after ++ u ∷ before → log ≡ q ++ t ∷ ((x ++ t ∷ after) ++ u ∷ (before ++ base))
+inner log q y x z after before base t u e f g =
+    e ∙ ap (λ (w : List LogEntry). q ++ t ∷ w) (joined (y ++ base) y (x ++ t ∷ after) before base u refl (f ∙ ap (λ (w : List LogEntry). x ++ t ∷ w) g ∙ sym (append_assoc x (t ∷ after) (u ∷ before))))
+
+-- two entries alone, each behind its part
+moved : (log x y b a base : List LogEntry) (t : LogEntry) → log ≡ x ++ t ∷ (y ++ base) → y ≡ b ++ t ∷ a → log ≡ (x ++ t ∷ []) ++ (((b ++ t ∷ []) ++ a) ++ base)
+moved log x y b a base t e f =
+    after_front log x (t ∷ (y ++ base)) (t ∷ []) (((b ++ t ∷ []) ++ a) ++ base) e (ap (λ (z : List LogEntry). t ∷ (z ++ base)) (f ∙ sym (append_assoc b (t ∷ []) a)))
+
+-- an entry of the first two parts, and all behind it
+regrouped : (log later b a u rest x y base : List LogEntry) (t g : LogEntry) → log ≡ later ++ ((b ++ a) ++ base) → a ≡ u ++ t ∷ rest → b ++ u ≡ x ++ g ∷ y → log ≡ (later ++ x) ++ (g ∷ (y ++ t ∷ rest) ++ base)
+regrouped log later b a u rest x y base t g e f h =
+    after_front log later ((b ++ a) ++ base) x (g ∷ (y ++ t ∷ rest) ++ base) e
+    (joined ((b ++ a) ++ base) (b ++ a) x (y ++ t ∷ rest) base g refl (joined (b ++ a) (b ++ u) x y (t ∷ rest) g (ap (λ (z : List LogEntry). b ++ z) f ∙ sym (append_assoc b u (t ∷ rest))) h))
+
 -- ---- a request that came, and whose answers came
 module _ (sc : Scenario) (other : SlaveDesc) (ok : IsScenario sc) (s : ℕ) (it : IsSlaveOf (parties sc other) s) (n : Note) (ns : List Note) (log : List LogEntry) (all : Behaves (parties sc other) (slaves_asked sc other) log) (run : IsRun (setup_from sc) log)
     (asked_now : requests_sent (parties sc other) s log ≡ n ∷ ns) (decided_now : length (decided_exchanges (parties sc other) s log) ≡ length ns) (not_over : list_any is_over_exchange (decided_exchanges (parties sc other) s log) ≡ true → ⊥) (sent : FirstSent sc other ok s it log n ns) where
@@ -80,6 +109,7 @@ module _ (sc : Scenario) (other : SlaveDesc) (ok : IsScenario sc) (s : ℕ) (it 
   abbrev Facts : List LogEntry → Type 0
   Facts z = MidFacts sc other ok s it n ns log all run asked_now decided_now not_over sent z
 
+  -- what is known at each moment since it was first sent
   facts : (later mid : List LogEntry) → log ≡ later ++ (mid ++ First) → Facts (mid ++ First)
   facts later mid e = mid_facts sc other ok s it n ns log all run asked_now decided_now not_over sent later mid e
 
@@ -146,10 +176,7 @@ module _ (sc : Scenario) (other : SlaveDesc) (ok : IsScenario sc) (s : ℕ) (it 
           let parts : a ≡ u.after ++ Sent (W.slave s) W.master v.bytes ∷ rest = v.is ∙ ap (λ (z : List LogEntry). z ++ v.entry ∷ v.before) u.is ∙ append_assoc u.after (Sent (W.slave s) W.master v.bytes ∷ u.before) (v.entry ∷ v.before) in
           let c = answers u.after rest v.bytes parts in
           let tail = Sent (W.slave s) W.master v.bytes ∷ rest in
-          let g : LogEntry = Got W.master (W.slave s) v.bytes in
-          let whole : b ++ a ≡ c.before ++ (g ∷ (c.after ++ tail)) = ap (λ (z : List LogEntry). b ++ z) parts ∙ sym (append_assoc b u.after tail) ∙ ap (λ (z : List LogEntry). z ++ tail) c.is ∙ append_assoc c.before (g ∷ c.after) tail in
-          let last : log ≡ (later ++ c.before) ++ (g ∷ (c.after ++ tail) ++ First) = split ∙ ap (λ (z : List LogEntry). later ++ (z ++ First)) whole ∙ ap (λ (z : List LogEntry). later ++ z) (append_assoc c.before (g ∷ (c.after ++ tail)) First) ∙ sym (append_assoc later c.before (g ∷ (c.after ++ tail) ++ First)) in
-          never_came (later ++ c.before) (c.after ++ tail) v.bytes v.answer v.read v.number last
+          never_came (later ++ c.before) (c.after ++ tail) v.bytes v.answer v.read v.number (regrouped log later b a u.after rest c.before c.after First (Sent (W.slave s) W.master v.bytes) (Got W.master (W.slave s) v.bytes) split parts c.is)
 
 -- ---- turns in a part
 -- a part with more turns than so many, split at the one after them
@@ -159,6 +186,7 @@ pub record IsTurnAfter (m : Address) (k : ℕ) (part : List LogEntry) : Type 0 w
   pub is : part ≡ after ++ Turn m ∷ before
   pub as_many : turns_of m before ≡ k
 
+-- such a turn is there where the part has more turns
 pub turn_after : (m : Address) (k : ℕ) (part : List LogEntry) → k < turns_of m part → IsTurnAfter m k part
 turn_after m k [] h = absurd (omega (arith, h))
 turn_after m k (e ∷ part) h = by e h (λ z. turn_after m k part z)
@@ -183,6 +211,14 @@ turn_after m k (e ∷ part) h = by e h (λ z. turn_after m k part z)
     by (Idle at') l f = on (Idle at') (f (omega (arith, l)))
     by (Turn at') l f = here at' (same_address at' m) refl l f
 
+-- what stands before an entry of a part has no more turns than the part
+pub turns_within : (m : Address) (part x y : List LogEntry) (g : LogEntry) → part ≡ x ++ g ∷ y → turns_of m y ≤ turns_of m part
+turns_within m part x y g e =
+    let a = ap (turns_of m) e ∙ turns_append m x (g ∷ y) in
+    let b = turns_append m (g ∷ []) y in
+    omega (arith, a, b)
+
+-- the turns of a part, counted in two ways
 turns_counted : (m : Address) (p : List LogEntry) → count_by (is_turn_of m) p ≡ turns_of m p
 turns_counted m [] = refl
 turns_counted m (e ∷ p) = let h = turns_counted m p in let k = sum_by-cons (λ (z : LogEntry). if is_turn_of m z then 1 else 0) e p in omega (arith, h, k)
@@ -219,6 +255,7 @@ module _ (sc : Scenario) (other : SlaveDesc) (ok : IsScenario sc) (whole : List 
   pub behaves_at : (later log : List LogEntry) → reverse whole ≡ later ++ log → Behaves V (slaves_asked sc other) log
   behaves_at later log split = drop_later V (slaves_asked sc other) (are_slaves sc other ok) later log (so_far sc other ok whole (rounds_are_runs sc other ok whole r) later log split)
 
+  -- the master goes by its rules in it
   pub runs_at : (later log : List LogEntry) → reverse whole ≡ later ++ log → IsRun S log
   runs_at later log split = let P : List LogEntry → Type 0 = λ z. IsRun S z in run_front S later log (subst P split (entry_by_entry sc whole r.master))
 
@@ -233,30 +270,38 @@ module _ (sc : Scenario) (other : SlaveDesc) (ok : IsScenario sc) (whole : List 
     abbrev ns : List Note
     ns = map (note_of s) bs
 
+    -- all ends behave up to here
     all : Behaves V (slaves_asked sc other) log
     all = behaves_at later log split
 
+    -- the master goes by its rules up to here
     run : IsRun S log
     run = runs_at later log split
 
+    -- the newest request that was sent is this one
     asked_now : requests_sent V s log ≡ n ∷ ns
     asked_now = are_asked S heard V (are_parties sc other ok) log run s it L (party sc other ok s it) ∙ ap (map (note_of s)) told
 
+    -- the exchanges are those of the requests before it
     decisions : AreDecisions s bs (decided_exchanges V s log)
     decisions =
         let P : List Asking → Type 0 = λ x. AreDecisions s x (decided_exchanges V s log) in
         let Q : Option Decision → Type 0 = λ o. IsDecision s b o (AreDecisions s bs) (decided_exchanges V s log) in
         subst Q free (subst P told (are_told S heard V (are_parties sc other ok) log run s it L (party sc other ok s it)))
 
+    -- the requests go one by one
     order : AreOneByOne (b ∷ bs)
     order = let P : List Asking → Type 0 = λ x. AreOneByOne x in subst P told (one_by_one S heard log run (s - 1) L (numbered_at sc other ok s it))
 
+    -- so all requests before it are decided, and it is not
     decided_now : length (decided_exchanges V s log) ≡ length ns
     decided_now = decided_length s bs (decided_exchanges V s log) (order.1).0 decisions ∙ sym (length-map bs (note_of s))
 
+    -- no exchange has ended the session
     not_over : list_any is_over_exchange (decided_exchanges V s log) ≡ true → ⊥
     not_over = goes_on sc other ok s it log run b bs told free
 
+    -- its first sending
     sent : FirstSent sc other ok s it log n ns
     sent = first_sent sc other ok s it log n ns asked_now
 
@@ -267,6 +312,7 @@ module _ (sc : Scenario) (other : SlaveDesc) (ok : IsScenario sc) (whole : List 
     there : log ≡ (sent.since ++ Sent m (V.slave s) sent.bytes ∷ []) ++ sent.earlier
     there = sent.split ∙ sym (append_assoc sent.since (Sent m (V.slave s) sent.bytes ∷ []) sent.earlier)
 
+    -- at its first sending those before it had been asked
     asked_before : length (asks S.address L sent.earlier) ≡ length bs
     asked_before =
         let P : List LogEntry → Type 0 = λ z. IsRun S z in
@@ -276,6 +322,7 @@ module _ (sc : Scenario) (other : SlaveDesc) (ok : IsScenario sc) (whole : List 
         let h = length-map bs (note_of s) in
         omega (arith, e, f, g, h)
 
+    -- so its place is not before that sending
     place : length sent.earlier ≤ b.first
     place = by g.new g.high (sym (ap (λ (z : List LogEntry). firsts (asks S.address L z)) there ∙ g.is) ∙ ap firsts told)
       where
@@ -296,35 +343,33 @@ module _ (sc : Scenario) (other : SlaveDesc) (ok : IsScenario sc) (whole : List 
 
     -- three turns of the master since would have brought an answer
     module _ (x y : List LogEntry) (one_is : sent.since ≡ x ++ Turn m ∷ y) (b' a : List LogEntry) (two_is : y ≡ b' ++ Turn m ∷ a) (a_turn : turns_of m a ≡ 1) (q : List LogEntry) (old_is : old ≡ q ++ Turn m ∷ (y ++ Asked)) where
-      y_is : y ++ Asked ≡ b' ++ Turn m ∷ (a ++ Asked)
-      y_is = ap (λ (z : List LogEntry). z ++ Asked) two_is ∙ append_assoc b' (Turn m ∷ a) Asked
-
+      -- the request came to the slave before the earlier of the two turns
       came : ComesIn (V.slave s) m sent.bytes a
-      came = soon (q ++ Turn m ∷ b') a sent.earlier m (V.slave s) sent.bytes (old_is ∙ ap (λ (z : List LogEntry). q ++ Turn m ∷ z) y_is ∙ sym (append_assoc q (Turn m ∷ b') (Turn m ∷ (a ++ Asked)))) (omega (arith, a_turn))
+      came = soon (q ++ Turn m ∷ b') a sent.earlier m (V.slave s) sent.bytes (outer old q y b' a Asked (Turn m) (Turn m) old_is two_is) (omega (arith, a_turn))
 
+      -- each answer that the slave sent before that turn came before the later one
       answers : (after before : List LogEntry) (bytes : List ℕ) → a ≡ after ++ Sent (V.slave s) m bytes ∷ before → ComesIn m (V.slave s) bytes ((b' ++ Turn m ∷ []) ++ after)
       answers after before bytes e =
-          let Sent' = Sent (V.slave s) m bytes in
-          let f : y ++ Asked ≡ (b' ++ Turn m ∷ after) ++ Sent' ∷ (before ++ Asked) = y_is ∙ ap (λ (z : List LogEntry). b' ++ Turn m ∷ (z ++ Asked)) e ∙ ap (λ (z : List LogEntry). b' ++ Turn m ∷ z) (append_assoc after (Sent' ∷ before) Asked) ∙ sym (append_assoc b' (Turn m ∷ after) (Sent' ∷ (before ++ Asked))) in
           let many = turns_append m b' (Turn m ∷ after) in
           let own = ap (λ (t : Bool). (if t then 1 else 0) + turns_of m after) (address_self m) in
           let P : List LogEntry → Type 0 = λ z. ComesIn m (V.slave s) bytes z in
-          subst P (sym (append_assoc b' (Turn m ∷ []) after)) (soon q (b' ++ Turn m ∷ after) (before ++ Asked) (V.slave s) m bytes (old_is ∙ ap (λ (z : List LogEntry). q ++ Turn m ∷ z) f) (omega (arith, many, own)))
+          subst P (sym (append_assoc b' (Turn m ∷ []) after)) (soon q (b' ++ Turn m ∷ after) (before ++ Asked) (V.slave s) m bytes (inner old q y b' a after before Asked (Turn m) (Sent (V.slave s) m bytes) old_is two_is e) (omega (arith, many, own)))
 
-      log_is : log ≡ x ++ Turn m ∷ (b' ++ Turn m ∷ (a ++ Asked))
-      log_is = sent.split ∙ ap (λ (z : List LogEntry). z ++ Asked) one_is ∙ append_assoc x (Turn m ∷ y) Asked ∙ ap (λ (z : List LogEntry). x ++ Turn m ∷ z) y_is
+      -- the two turns stand in the log
+      log_is : log ≡ x ++ Turn m ∷ (y ++ Asked)
+      log_is = joined log sent.since x y Asked (Turn m) sent.split one_is
 
+      -- the slave had sent all at the earlier of the two turns
+      sent_all : (at (machine (slave_setup_of sc other s)) V s (a ++ Asked)).desk.owed ≡ []
+      sent_all = nothing_owed sc other ok whole r s it (later ++ (x ++ Turn m ∷ b')) (a ++ Asked) (Turn m) (after_front (reverse whole) later log (x ++ Turn m ∷ b') (Turn m ∷ (a ++ Asked)) split (outer log x y b' a Asked (Turn m) (Turn m) log_is two_is)) tt
+
+      -- so it is decided
       off : ⊥
-      off =
-          let part : log ≡ (x ++ Turn m ∷ []) ++ (((b' ++ Turn m ∷ []) ++ a) ++ Asked) =
-          log_is ∙ sym (append_assoc x (Turn m ∷ []) (b' ++ Turn m ∷ (a ++ Asked))) ∙ ap (λ (z : List LogEntry). (x ++ Turn m ∷ []) ++ z) (sym (append_assoc b' (Turn m ∷ []) (a ++ Asked)) ∙ sym (append_assoc (b' ++ Turn m ∷ []) a Asked)) in
-          let front : reverse whole ≡ (later ++ (x ++ Turn m ∷ b')) ++ Turn m ∷ (a ++ Asked) =
-          split ∙ ap (λ (z : List LogEntry). later ++ z) (log_is ∙ sym (append_assoc x (Turn m ∷ b') (Turn m ∷ (a ++ Asked)))) ∙ sym (append_assoc later (x ++ Turn m ∷ b') (Turn m ∷ (a ++ Asked))) in
-          let free' = nothing_owed sc other ok whole r s it (later ++ (x ++ Turn m ∷ b')) (a ++ Asked) (Turn m) front tt in
-          not_both sc other ok s it n ns log all run asked_now decided_now not_over sent (x ++ Turn m ∷ []) (b' ++ Turn m ∷ []) a part free' came answers
+      off = not_both sc other ok s it n ns log all run asked_now decided_now not_over sent (x ++ Turn m ∷ []) (b' ++ Turn m ∷ []) a (moved log x y b' a Asked (Turn m) log_is two_is) sent_all came answers
 
+    -- four turns since are too many, since one of them at most is new
     too_many : 4 ≤ turns_of m sent.since → ⊥
-    too_many h = by (splits new old t.after (Turn m ∷ (t.before ++ Asked)) (sym parts ∙ sent.split ∙ ap (λ (z : List LogEntry). z ++ Asked) t.is ∙ append_assoc t.after (Turn m ∷ t.before) Asked))
+    too_many h = by (splits new old t.after (Turn m ∷ (t.before ++ Asked)) (sym parts ∙ joined log sent.since t.after t.before Asked (Turn m) sent.split t.is))
       where
         t : IsTurnAfter m 2 sent.since
         t = turn_after m 2 sent.since (omega (arith, h))
@@ -358,6 +403,7 @@ module _ (sc : Scenario) (other : SlaveDesc) (ok : IsScenario sc) (whole : List 
         by (Within q f g) = found q g
         by (Beyond q f g) = beyond q f g
 
+    -- three turns since at most
     few : turns_of m sent.since ≤ 3
     few = by (either (turns_of m sent.since))
       where

@@ -63,6 +63,7 @@ came_soon m log soon after between earlier from to bytes e h =
 
 -- ---- the turns of the master in a round
 module _ (m : Address) where
+  -- sends are no turns
   sents_none : (b : Address) (part : List LogEntry) → AllSent b part → turns_of m part ≡ 0
   sents_none b [] h = refl
   sents_none b (Sent from to bytes ∷ part) h = let i = sents_none b part h.1 in omega (arith, i)
@@ -70,12 +71,14 @@ module _ (m : Address) where
   sents_none b (Idle at ∷ part) h = absurd h
   sents_none b (Turn at ∷ part) h = absurd h
 
+  -- a datagram that was got, and its answers, are no turns
   got_none : (b : Address) (part : List LogEntry) → IsGot b part → turns_of m part ≡ 0
   got_none b part g =
       let h : turns_of m part ≡ 0 + turns_of m g.sents = ap (turns_of m) g.form in
       let i = sents_none b g.sents g.own in
       omega (arith, h, i)
 
+  -- nor are several of them
   gots_none : (b : Address) (n : ℕ) (part : List LogEntry) → Gots b n part → turns_of m part ≡ 0
   gots_none b zero part g = ap (turns_of m) g
   gots_none b (suc n) part g =
@@ -84,6 +87,7 @@ module _ (m : Address) where
       let j = got_none b g.1 g.4 in
       omega (arith, h, i, j)
 
+  -- a look has no turn
   look_none : (b : Address) (part : List LogEntry) → IsLook b part → turns_of m part ≡ 0
   look_none b part l = by (most l.count l.most)
     where
@@ -97,6 +101,7 @@ module _ (m : Address) where
           let j = gots_none b l.count l.gots l.form in
           omega (arith, i, j)
 
+  -- nor have the looks at several ends
   each_look_none : (places : List Address) (part : List LogEntry) → EachEnd IsLook places part → turns_of m part ≡ 0
   each_look_none [] part h = ap (turns_of m) h
   each_look_none (b ∷ places) part h =
@@ -105,6 +110,7 @@ module _ (m : Address) where
       let k = each_look_none places h.1 h.4 in
       omega (arith, i, j, k)
 
+  -- the looks of a round have no turn
   pub looks_none : (r : Rules) (rs : List Rules) (part : List LogEntry) → IsLooks (Some r) rs part → turns_of m part ≡ 0
   looks_none r rs part l =
       let h = ap (turns_of m) l.form ∙ turns_append m l.first l.rest in
@@ -117,12 +123,14 @@ module _ (m : Address) where
   AreAway [] = Unit {0}
   AreAway (a ∷ places) = (same_address a m ≡ false) × AreAway places
 
+  -- a turn of an end is one of the master where the end is the master's
   turn_is : (b : Address) (part : List LogEntry) (t : Bool) → same_address b m ≡ t → IsTurn b part → turns_of m part ≡ (if t then 1 else 0)
   turn_is b part t e g =
       let h = sents_none b g.sents g.own in
       let i : turns_of m part ≡ (if t then 1 else 0) + turns_of m g.sents = ap (turns_of m) g.form ∙ ap (λ (z : Bool). (if z then 1 else 0) + turns_of m g.sents) e in
       omega (arith, h, i)
 
+  -- the turns of other ends are none of the master
   each_turn_none : (places : List Address) (part : List LogEntry) → AreAway places → EachEnd IsTurn places part → turns_of m part ≡ 0
   each_turn_none [] part w h = ap (turns_of m) h
   each_turn_none (b ∷ places) part w h =
@@ -132,6 +140,7 @@ module _ (m : Address) where
       omega (arith, i, j, k)
 
   module _ (r : Rules) (rs : List Rules) (own : r.place ≡ m) (away : AreAway (places_of rs)) where
+    -- behind the turn of the master there is none of it
     rest_none : (log part : List LogEntry) (t : IsTurns (Some r) rs log part) → turns_of m t.rest ≡ 0
     rest_none log part t = by (has_report (Some r) (log ++ t.first)) t.others
       where
@@ -139,6 +148,7 @@ module _ (m : Address) where
         by true e = ap (turns_of m) e
         by false e = each_turn_none (places_of rs) t.rest away e
 
+    -- the turns of a round have one of the master
     pub turns_one : (log part : List LogEntry) → IsTurns (Some r) rs log part → turns_of m part ≡ 1
     turns_one log part t =
         let a = ap (turns_of m) t.form ∙ turns_append m t.first t.rest in
@@ -160,9 +170,11 @@ module _ (m : Address) where
       pub is : more ≡ looks ++ rest
       pub none : turns_of m more ≡ 0
 
+    -- a turn of the master counts
     is_turn : (x : LogEntry) (q : List LogEntry) → Turn m ≡ x → turns_of m (x ∷ q) ≡ 1 + turns_of m q
     is_turn x q e = ap (λ (y : LogEntry). turns_of m (y ∷ q)) (sym e) ∙ ap (λ (b : Bool). (if b then 1 else 0) + turns_of m q) (address_self m)
 
+    -- what stands before it has all looks of the round
     pub before_turn : (before part more after : List LogEntry) (k : IsRound (Some r) rs before part) → part ≡ more ++ Turn m ∷ after → IsBeforeTurn k.looks more
     before_turn before part more after k e = by (splits k.looks k.turns more (Turn m ∷ after) (sym k.form ∙ e))
       where
@@ -196,6 +208,7 @@ slaves_away sc (d ∷ ds) f = (by (same_address d.address sc.master) refl, slave
     by false e = refl
 
 module _ (sc : Scenario) (other : SlaveDesc) (ok : IsScenario sc) where
+  -- a slave of the scenario is a party under its number
   numbered : (i : ℕ) (d : SlaveDesc) → slice_get sc.slaves i ≡ Some d → IsSlaveOf (parties sc other) (i + 1) × (d.address ≡ (parties sc other).slave (i + 1))
   numbered i d e =
       let lt = slice_get_within sc.slaves i d e in
@@ -243,6 +256,7 @@ module _ (sc : Scenario) (other : SlaveDesc) (ok : IsScenario sc) where
         by (Within q f g) = absurd (later q g)
         by (Beyond q f g) = earlier_on q f g
 
+    -- so it holds with one round more
     pub one_more : ComesSoon m (before ++ part)
     one_more earlier between after from to bytes e h = by (splits before part (earlier ++ Sent from to bytes ∷ between) (Turn m ∷ after) (e ∙ sym (append_assoc earlier (Sent from to bytes ∷ between) (Turn m ∷ after))))
       where
@@ -256,10 +270,12 @@ module _ (sc : Scenario) (other : SlaveDesc) (ok : IsScenario sc) where
         by (Within q f g) = in_round earlier between after q from to bytes f g h
         by (Beyond q f g) = beyond q f g
 
+  -- nothing stands in an empty list
   not_there : (p : List LogEntry) (x : LogEntry) (q : List LogEntry) → [] ≡ p ++ x ∷ q → ⊥
   not_there [] x q z = cc
   not_there (y ∷ p) x q z = cc
 
+  -- where all rounds bring what they have to, it holds of all
   pub comes_soon : (n : ℕ) (log : List LogEntry) (rounds : Rounds (Some (master_rules sc)) (rules_of_slaves sc) n log) → BringAll sc n log rounds → ComesSoon sc.master log
   comes_soon zero log none bring = λ earlier between after from to bytes e h. absurd (not_there earlier (Sent from to bytes) (between ++ Turn sc.master ∷ after) (sym none ∙ e))
   comes_soon (suc n) log (before, part, split, rounds, round) bring =

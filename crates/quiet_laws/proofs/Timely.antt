@@ -39,8 +39,8 @@ use Rattle.run_laws.specs.Laws.{parties, rules_of_slaves, IsRunInRounds}
 use Rattle.run_laws.proofs.Runs.{are_parties}
 use Rattle.completeness_laws.specs.Timely.{IsGotAfter, IsAnsweredInTime, ComesInTime, Timely}
 use Rattle.completeness_laws.proofs.Delivery.Ended.{numbered_at}
-use Rattle.completeness_laws.proofs.Delivery.InputsSent.{entry_there}
-use Rattle.completeness_laws.proofs.Delivery.Turning.{turns_of, turns_append}
+use Rattle.completeness_laws.proofs.Delivery.Entries.{entry_there}
+use Rattle.completeness_laws.proofs.Delivery.Turning.{turns_of}
 use Rattle.completeness_laws.proofs.Timely.Firsts.{firsts, sent_before}
 use Rattle.completeness_laws.proofs.Timely.Prompt.{turns_later}
 use Rattle.quiet_laws.specs.Quiet.{ComesIn, NoneAgain}
@@ -48,7 +48,7 @@ use Rattle.quiet_laws.specs.Rounded.{IsPatient, BringAll, RoundsBringAll, QuietI
 use Rattle.quiet_laws.proofs.Data.{HasGot, sents_back, no_data}
 use Rattle.quiet_laws.proofs.Going.{open_late}
 use Rattle.quiet_laws.proofs.Looked.{IsAfterGot, Stands, InFirst, InSecond, stands, round_sent, last_round}
-use Rattle.quiet_laws.proofs.Open.{IsTurnAfter, turn_after, turns_split, behaves_at, runs_at, young}
+use Rattle.quiet_laws.proofs.Open.{after_front, joined, outer, IsTurnAfter, turn_after, turns_within, turns_split, behaves_at, runs_at, young}
 use Rattle.quiet_laws.proofs.Soon.{CameSoon, came_soon, comes_soon, comes_before, comes_back, turned_at, away}
 use Rattle.quiet_laws.proofs.Young.{none_in}
 
@@ -59,6 +59,7 @@ record IsAt (log : List LogEntry) (i : ℕ) (e : LogEntry) : Type 0 where
   pub is : log ≡ part ++ e ∷ base
   pub place : length base ≡ i
 
+-- the entry at a place within a log
 within : (log : List LogEntry) (i : ℕ) (e : LogEntry) → i < length log → entry_at log i ≡ Some e → IsAt log i e
 within [] i e l h = absurd (omega (arith, l))
 within (c ∷ log) i e l h = by (either i (length log)) (λ z k. within log i e z k)
@@ -76,6 +77,7 @@ within (c ∷ log) i e l h = by (either i (length log)) (λ z k. within log i e 
         let q : c ≡ e = some_same (sym (entry_now c log) ∙ ap (entry_at (c ∷ log)) same ∙ h) in
         record { part = []; base = log; is = ap (λ (z : LogEntry). z ∷ log) q; place = same }
 
+-- the entry at a place
 at_place : (log : List LogEntry) (i : ℕ) (e : LogEntry) → entry_at log i ≡ Some e → IsAt log i e
 at_place log i e h =
     let l = slice_get_within (reverse log) i e h in
@@ -100,6 +102,7 @@ abbrev NotDecided : Option Asking → Type 0
 NotDecided None = Unit {0}
 NotDecided (Some a) = a.decision ≡ None
 
+-- by its fields
 new_with : (place code : ℕ) (vs : List FieldValue) → NotDecided (asking_with place code vs)
 new_with place code (Number number ∷ Number receiver ∷ more) = by (is_request code)
   where
@@ -108,10 +111,12 @@ new_with place code (Number number ∷ Number receiver ∷ more) = by (is_reques
     by false = tt
 new_with place code _ = tt
 
+-- by its message
 new_in : (place : ℕ) (o : Option Message) → NotDecided (asking_in place o)
 new_in place None = tt
 new_in place (Some m) = new_with place m.code m.values
 
+-- none is not some
 none_some : {A : Type 0} (x : A) → None ≡ Some x → ⊥
 none_some x z = cc
 
@@ -124,6 +129,7 @@ module _ (m : Address) (log : List LogEntry) where
   AreSoon [] = Unit {0}
   AreSoon (a ∷ bs) = IsSoon a × AreSoon bs
 
+  -- a new request leaves it so
   asked_soon : (o : Option Asking) (bs : List Asking) → NotDecided o → AreSoon bs → AreSoon (with_asking o bs)
   asked_soon None bs n h = h
   asked_soon (Some a) [] n h = ((λ d e. absurd (none_some d (sym n ∙ e))), tt)
@@ -138,6 +144,7 @@ module _ (m : Address) (log : List LogEntry) where
   HeadIsSoon place [] = Unit {0}
   HeadIsSoon place (b ∷ bs) = b.decision ≡ None → turns_before m log place < turns_before m log b.first + 4
 
+  -- an answer leaves it so
   told_soon : (id place : ℕ) (w : News) (bs : List Asking) → HeadIsSoon place bs → AreSoon bs → AreSoon (with_news id place w bs)
   told_soon id place (Answers number sender answer) [] f h = tt
   told_soon id place (Answers number sender answer) (b ∷ bs) f h = by ((sender == id) && (number == b.number))
@@ -159,6 +166,7 @@ module _ (m : Address) (log : List LogEntry) where
   told_soon id place (Brings number data_id payload) bs f h = h
   told_soon id place Nothing bs f h = h
 
+  -- each of them was decided so
   soon_get : (bs : List Asking) (n : ℕ) (a : Asking) → AreSoon bs → slice_get bs n ≡ Some a → IsSoon a
   soon_get [] n a h e = absurd (off n e)
     where
@@ -168,6 +176,7 @@ module _ (m : Address) (log : List LogEntry) where
   soon_get (b ∷ bs) zero a h e = let z : b ≡ a = cc in subst IsSoon z h.0
   soon_get (b ∷ bs) (suc n) a h e = soon_get bs n a h.1 e
 
+-- each of the decided requests is decided
 decided_get : (bs : List Asking) (n : ℕ) (a : Asking) → AreDecided bs → slice_get bs n ≡ Some a → is_some a.decision ≡ true
 decided_get [] n a h e = absurd (off n e)
   where
@@ -177,6 +186,7 @@ decided_get [] n a h e = absurd (off n e)
 decided_get (b ∷ bs) zero a h e = let z : b ≡ a = cc in ap (λ (x : Asking). is_some x.decision) (sym z) ∙ h.0
 decided_get (b ∷ bs) (suc n) a h e = decided_get bs n a h.1 e
 
+-- less than four is less than the lesser of two that are at least four
 some_least : (x a b : ℕ) → x < 4 → 4 ≤ a → 4 ≤ b → x < min a b
 some_least x a b h f g = grind (arith, h, f, g)
 
@@ -191,18 +201,21 @@ module _ (sc : Scenario) (other : SlaveDesc) (ok : IsScenario sc) (patient : IsP
   abbrev R : List LogEntry
   R = reverse whole
 
+  -- what two turns of the master follow came before the second
   soon_all : CameSoon W.master R
   soon_all = came_soon W.master whole (comes_soon sc other ok r.count whole r.rounds bring)
 
+  -- also up to each moment
   soon_at : (later log : List LogEntry) → R ≡ later ++ log → CameSoon W.master log
   soon_at later log split after between earlier from to bytes e h =
-      soon_all (later ++ after) between earlier from to bytes (split ∙ ap (λ (z : List LogEntry). later ++ z) e ∙ sym (append_assoc later after (Turn W.master ∷ (between ++ Sent from to bytes ∷ earlier)))) h
+      soon_all (later ++ after) between earlier from to bytes (after_front R later log after (Turn W.master ∷ (between ++ Sent from to bytes ∷ earlier)) split e) h
 
   -- ---- the requests to one slave
   module _ (s : ℕ) (it : IsSlaveOf W s) where
     abbrev L : Slave
     L = slave_of sc s (slave_numbered sc other s)
 
+    -- the newest request, while it is not decided, was asked before four turns had passed
     open_soon : (later log : List LogEntry) → R ≡ later ++ log → (b : Asking) (bs : List Asking) → asks S.address L log ≡ b ∷ bs → b.decision ≡ None → turns_before W.master R (length log) < turns_before W.master R b.first + 4
     open_soon later log split b bs e free =
         let y = young sc other ok whole r s it later log split [] log refl (omega arith) (soon_at later log split) b bs e free in
@@ -215,6 +228,7 @@ module _ (sc : Scenario) (other : SlaveDesc) (ok : IsScenario sc) (patient : IsP
         here : (i : ℕ) → i ≤ length log → turns_before W.master R i ≡ turns_before W.master log i
         here i l = ap (λ (z : List LogEntry). turns_before W.master z i) split ∙ turns_later W.master later log i l
 
+    -- so what is answered was
     head_soon : (later log : List LogEntry) → R ≡ later ++ log → HeadIsSoon W.master R (length log) (asks S.address L log)
     head_soon later log split = by (asks S.address L log) refl
       where
@@ -222,6 +236,7 @@ module _ (sc : Scenario) (other : SlaveDesc) (ok : IsScenario sc) (patient : IsP
         by [] e = tt
         by (b ∷ bs) e = λ free. open_soon later log split b bs e free
 
+    -- so each request was decided before four turns had passed
     soon_by : (log later : List LogEntry) → R ≡ later ++ log → AreSoon W.master R (asks S.address L log)
     soon_by [] later split = tt
     soon_by (e ∷ log) later split = by e (head_soon (later ++ e ∷ []) log before) (soon_by log (later ++ e ∷ []) before)
@@ -243,6 +258,7 @@ module _ (sc : Scenario) (other : SlaveDesc) (ok : IsScenario sc) (patient : IsP
         by (Idle at) f h = h
         by (Turn at) f h = h
 
+    -- none was sent again
     none : NoneAgain (asks S.address L R)
     none = none_in sc other ok patient whole r s it r.count whole r.rounds bring [] (sym (append-nil whole))
 
@@ -263,6 +279,7 @@ module _ (sc : Scenario) (other : SlaveDesc) (ok : IsScenario sc) (patient : IsP
                 let four = patient.answers in
                 absurd (omega (arith, late, last, few, four))
 
+    -- so each was answered in time
     answered : (n : ℕ) (a : Asking) → slice_get (asks S.address L R) n ≡ Some a → IsAnsweredInTime S R a
     answered n a e = by a.decision refl (decided_get (asks S.address L R) n a all_decided e) (soon_get W.master R (asks S.address L R) n a (soon_by R [] refl) e)
       where
@@ -273,6 +290,7 @@ module _ (sc : Scenario) (other : SlaveDesc) (ok : IsScenario sc) (patient : IsP
         by None q h f = let z : false ≡ true = sym (ap (λ (x : Option Decision). is_some x) q) ∙ h in absurd cc
         by (Some d) q h f = record { answer = d; told = q; soon = less (turns_before S.address R d.place) (turns_before S.address R a.first) S.limits.turn_limit (f d q) patient.answers }
 
+  -- the same for each slave of the setup
   answers : (slave : Slave) → IsIn S slave → (n : ℕ) (a : Asking) → slice_get (asks S.address slave R) n ≡ Some a → IsAnsweredInTime S R a
   answers slave is n a e =
       let it = ((are_parties sc other ok).all slave is).0 in
@@ -292,6 +310,7 @@ module _ (sc : Scenario) (other : SlaveDesc) (ok : IsScenario sc) (patient : IsP
     pub got : IsGotAfter R i from to bytes
     pub few : turns_between S.address R i got.place ≤ 1
 
+  -- a message that is got so many turns after its sending
   come : (i : ℕ) (from to : Address) (bytes : List ℕ) (part between base : List LogEntry) → R ≡ part ++ Got to from bytes ∷ (between ++ Sent from to bytes ∷ base) → length base ≡ i → turns_of W.master between ≤ 1 → HasCome i from to bytes
   come i from to bytes part between base e place few =
       let old = between ++ Sent from to bytes ∷ base in
@@ -311,15 +330,12 @@ module _ (sc : Scenario) (other : SlaveDesc) (ok : IsScenario sc) (patient : IsP
       let t : IsTurnAfter W.master 1 k.part = turn_after W.master 1 k.part (omega (arith, h)) in
       let one = t.as_many in
       let x = Sent from to bytes ∷ k.base in
-      let split : R ≡ t.after ++ Turn W.master ∷ (t.before ++ x) = k.is ∙ ap (λ (z : List LogEntry). z ++ x) t.is ∙ append_assoc t.after (Turn W.master ∷ t.before) x in
+      let split = joined R k.part t.after t.before x (Turn W.master) k.is t.is in
       let c = soon_all t.after t.before k.base from to bytes split (omega (arith, one)) in
-      let g = Got to from bytes in
-      let before : t.before ++ x ≡ c.before ++ g ∷ (c.after ++ x) = ap (λ (z : List LogEntry). z ++ x) c.is ∙ append_assoc c.before (g ∷ c.after) x in
-      let all : R ≡ (t.after ++ Turn W.master ∷ c.before) ++ g ∷ (c.after ++ x) = split ∙ ap (λ (z : List LogEntry). t.after ++ Turn W.master ∷ z) before ∙ sym (append_assoc t.after (Turn W.master ∷ c.before) (g ∷ (c.after ++ x))) in
-      let n = ap (turns_of W.master) c.is ∙ turns_append W.master c.before (g ∷ c.after) in
-      let o : turns_of W.master (g ∷ c.after) ≡ 0 + turns_of W.master c.after = refl in
-      come i from to bytes (t.after ++ Turn W.master ∷ c.before) c.after k.base all k.place (omega (arith, one, n, o))
+      let few = turns_within W.master t.before c.before c.after (Got to from bytes) c.is in
+      come i from to bytes (t.after ++ Turn W.master ∷ c.before) c.after k.base (outer R t.after t.before c.before c.after x (Turn W.master) (Got to from bytes) split c.is) k.place (omega (arith, one, few))
 
+  -- the turns after a place are those of what stands behind it
   since : (i : ℕ) (e : LogEntry) (k : IsAt R i e) → turns_after S.address R i ≤ turns_of W.master k.part + turns_of W.master (e ∷ [])
   since i e k =
       let t = turns_split W.master k.part e k.base in
@@ -328,6 +344,7 @@ module _ (sc : Scenario) (other : SlaveDesc) (ok : IsScenario sc) (patient : IsP
       let v = ap (turns_before W.master R) k.place in
       omega (arith, u, v)
 
+  -- all comes that two turns follow
   all : (i : ℕ) (from to : Address) (bytes : List ℕ) → entry_at R i ≡ Some (Sent from to bytes) → 2 ≤ turns_after S.address R i → IsGotAfter R i from to bytes
   all i from to bytes e h =
       let k = at_place R i (Sent from to bytes) e in
@@ -347,20 +364,22 @@ module _ (sc : Scenario) (other : SlaveDesc) (ok : IsScenario sc) (patient : IsP
     abbrev x : LogEntry
     x = Sent from to bytes
 
+    -- data is not sent in the last round
     not_last : (before part more later : List LogEntry) (round : IsRound (Some (master_rules sc)) (rules_of_slaves sc) before part) → whole ≡ before ++ part → part ≡ more ++ x ∷ later → ⊥
     not_last before part more later round e f =
         let P : List LogEntry → Type 0 = λ z. has_report (Some (master_rules sc)) z ≡ true in
         let none = last_round (master_rules sc) (rules_of_slaves sc) (away sc other ok) before part round (subst P e has_it) in
-        let split : R ≡ reverse later ++ x ∷ reverse (before ++ more) = ap reverse (e ∙ ap (λ (z : List LogEntry). before ++ z) f ∙ sym (append_assoc before more (x ∷ later))) ∙ turned_at (before ++ more) later x in
+        let split : R ≡ reverse later ++ x ∷ reverse (before ++ more) = ap reverse (after_front whole before part more (x ∷ later) e f) ∙ turned_at (before ++ more) later x in
         let b = behaves_at sc other ok whole r 1 first_slave (reverse later) (x ∷ reverse (before ++ more)) split in
         no_data sc other ok from to bytes (reverse (before ++ more)) b (by (round_sent from to bytes (master_rules sc) (rules_of_slaves sc) before part more later round none f)) number id payload values
       where
         by : (from ≡ W.master) ⊎ IsAfterGot from more → (from ≡ W.master) ⊎ HasGot from (reverse (before ++ more))
         by (inl k) = inl k
         by (inr g) =
-            let q : before ++ more ≡ (before ++ g.before) ++ Got from g.sender g.bytes ∷ g.sents = ap (λ (z : List LogEntry). before ++ z) g.is ∙ sym (append_assoc before g.before (Got from g.sender g.bytes ∷ g.sents)) in
+            let q = after_front (before ++ more) before more g.before (Got from g.sender g.bytes ∷ g.sents) refl g.is in
             inr (record { sents = reverse g.sents; base = reverse (before ++ g.before); sender = g.sender; heard = g.bytes; is = ap reverse q ∙ turned_at (before ++ g.before) g.sents (Got from g.sender g.bytes); own = sents_back from g.sents g.own })
 
+    -- so a later round brought it
     data_comes : (n : ℕ) (rounds : Rounds (Some (master_rules sc)) (rules_of_slaves sc) n whole) → BringAll sc n whole rounds → (first later : List LogEntry) → whole ≡ first ++ x ∷ later → ComesIn to from bytes later
     data_comes zero none bring first later e = absurd (off first (sym none ∙ e))
       where
@@ -377,6 +396,7 @@ module _ (sc : Scenario) (other : SlaveDesc) (ok : IsScenario sc) (patient : IsP
             subst P (sym whole_is) (comes_before to from bytes (more ++ round.looks) round.turns c)
         by (InSecond more f g) = absurd (not_last before part more later round is g)
 
+    -- with one turn between at most
     data_came : (i : ℕ) → IsAt R i x → HasCome i from to bytes
     data_came i k = by (either (turns_of W.master k.part))
       where
@@ -390,20 +410,21 @@ module _ (sc : Scenario) (other : SlaveDesc) (ok : IsScenario sc) (patient : IsP
         by (inl h) = came i from to bytes k h
         by (inr h) =
             let c = comes_back to from bytes k.part (data_comes r.count r.rounds bring (reverse k.base) (reverse k.part) whole_is) in
-            let g = Got to from bytes in
-            let n = ap (turns_of W.master) c.is ∙ turns_append W.master c.before (g ∷ c.after) in
-            let o : turns_of W.master (g ∷ c.after) ≡ 0 + turns_of W.master c.after = refl in
-            come i from to bytes c.before c.after k.base (k.is ∙ ap (λ (z : List LogEntry). z ++ x ∷ k.base) c.is ∙ append_assoc c.before (g ∷ c.after) (x ∷ k.base)) k.place (omega (arith, h, n, o))
+            let few = turns_within W.master k.part c.before c.after (Got to from bytes) c.is in
+            come i from to bytes c.before c.after k.base (joined R k.part c.before c.after (x ∷ k.base) (Got to from bytes) k.is c.is) k.place (omega (arith, h, few))
 
+  -- data comes in time
   values : (i : ℕ) (from to : Address) (bytes : List ℕ) → entry_at R i ≡ Some (Sent from to bytes) → (number id : ℕ) (payload : List ℕ) → news_of bytes ≡ Brings number id payload → ComesInTime S R i from to bytes
   values i from to bytes e number id payload v =
       let c = data_came from to bytes number id payload v i (at_place R i (Sent from to bytes) e) in
       let few = c.few in
       record { came = c.got; soon = some_least (turns_between S.address R i c.got.place) S.limits.retry_turns S.limits.data_turns (omega (arith, few)) patient.retries patient.values }
 
+  -- so the log is timely
   pub is_timely : Timely S R
   is_timely = record { report = report; reported = reported; answers = answers; values = values; all = all }
 
 module _ (bring_all : RoundsBringAll) where
+  -- which is what is wanted
   pub quiet_is_timely : QuietIsTimely
   quiet_is_timely sc other ok patient log run o quiet given report reported = is_timely sc other ok patient log run (bring_all sc other ok patient log run o quiet given) report reported

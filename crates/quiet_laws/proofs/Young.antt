@@ -83,6 +83,7 @@ module _ (sc : Scenario) (other : SlaveDesc) (ok : IsScenario sc) (patient : IsP
           less : (x y k : ℕ) → x < y + 4 → 4 ≤ k → x < y + k
           less x y k h g = omega (arith, h, g)
 
+  -- the limit is at least one turn
   one : 1 ≤ S.limits.turn_limit
   one = let h = patient.answers in omega (arith, h)
 
@@ -106,6 +107,7 @@ module _ (sc : Scenario) (other : SlaveDesc) (ok : IsScenario sc) (patient : IsP
       let head = young_head (later ++ e ∷ []) (new ++ old) before new old refl fewer soon none in
       entry_none S.address L e (new ++ old) (λ bytes z. sent_on later e (new ++ old) split head none bytes z) none
 
+  -- in a whole round
   in_round : (n : ℕ) (before part : List LogEntry) (rounds : Rounds (Some (master_rules sc)) (rules_of_slaves sc) n before) → IsRound (Some (master_rules sc)) (rules_of_slaves sc) before part → BringAll sc n before rounds → NoneAgain (asks S.address L (reverse before))
       → (after : List LogEntry) → whole ≡ (before ++ part) ++ after → NoneAgain (asks S.address L (reverse (before ++ part)))
   in_round n before part rounds round bring none after split =
@@ -123,8 +125,10 @@ module _ (sc : Scenario) (other : SlaveDesc) (ok : IsScenario sc) (patient : IsP
       let e : whole ≡ (before ++ part) ++ after = split ∙ ap (λ (z : List LogEntry). z ++ after) is in
       subst P (sym is) (in_round n before part rounds round bring.0 (none_in n before rounds bring.0 (part ++ after) (e ∙ append_assoc before part after)) after e)
 
+  -- and one round more
   pub none_after : (n : ℕ) (before part : List LogEntry) (rounds : Rounds (Some (master_rules sc)) (rules_of_slaves sc) n before) → IsRound (Some (master_rules sc)) (rules_of_slaves sc) before part → BringAll sc n before rounds → whole ≡ before ++ part → NoneAgain (asks S.address L (reverse (before ++ part)))
   none_after n before part rounds round bring split = in_round n before part rounds round bring (none_in n before rounds bring part split) [] (split ∙ sym (append-nil (before ++ part)))
 
+-- which is what is wanted
 pub none_asked_again : NoneAskedAgain
 none_asked_again sc other ok patient n before part rounds round bring run s it = none_after sc other ok patient (before ++ part) run s it n before part rounds round bring refl

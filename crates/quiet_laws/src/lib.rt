@@ -1,11 +1,11 @@
-//! A network in memory whose plan does nothing to the messages: what waits in it, and how little is sent in one event.
+//! Runs in rounds over a network in memory whose plan does nothing to the messages: nothing is lost, and nothing is late.
 //!
-//! No code stands here; each function is a law. They are the first part of what is wanted for the law that nothing is
-//! lost or late over such a network, which is not proved yet.
+//! No code stands here; each function is a law. The last is what the others are for: wherever the log of a patient master
+//! has its report, it is timely.
 #![tactic(auto)]
 
 ghost use Rattle.quiet_laws.specs.Quiet.{OneRequestWaits, QuietLooksTakeAll, QuietNetsLoseNothing, SlavesSendLittle};
-ghost use Rattle.quiet_laws.specs.Rounded.{NoneAskedAgain};
+ghost use Rattle.quiet_laws.specs.Rounded.{NoneAskedAgain, QuietIsTimely, RoundsBringAll};
 
 /// A look at an end of a quiet network takes all that waits for it, where that is no more than 64 messages of the
 /// last 32,767.
@@ -32,4 +32,14 @@ pub fn one_request_waits()
 /// Where each round brings all that was sent before it, a patient master sends no request again.
 pub fn none_is_asked_again()
     ensures { NoneAskedAgain }
+{}
+
+/// Over a quiet network each round of a patient master's run brings all that was sent before it.
+pub fn rounds_bring_all()
+    ensures { RoundsBringAll }
+{}
+
+/// Over a quiet network the log of a patient master is timely wherever it has its report.
+pub fn quiet_logs_are_timely()
+    ensures { QuietIsTimely }
 {}

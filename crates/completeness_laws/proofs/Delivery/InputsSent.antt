@@ -7,15 +7,17 @@ use Rattle.dcp_types.specs.declared.addresses.Address.{Address}
 use Rattle.dcp_ends.specs.declared.entries.LogEntry.{LogEntry}
 use Rattle.dcp_ends.specs.declared.entries.LogEntry.TheVariants.{Sent, Got}
 use Rattle.pdu_layout.specs.Fields.{FieldValue}
+use Rattle.pdu_layout.specs.Message.{Message}
+use Rattle.pdu_layout.specs.Reading.{message_in}
 use Rattle.pdu_layout.specs.Fields.FieldValue.{Number, Signed, Bytes}
 use Rattle.slave_desc.specs.declared.descriptions.SlaveDesc.{SlaveDesc}
 use Rattle.scenario.specs.declared.scenarios.Scenario.{Scenario}
 use Rattle.scenario.specs.Sound.{IsScenario}
 use Rattle.lockstep.specs.Lockstep.{row_index}
-use Rattle.log_spec.specs.Messages.{Note, Request, Value}
+use Rattle.log_spec.specs.Messages.{Note, Request, Value, answer_in}
 use Rattle.log_spec.specs.Log.{Parties, IsSlaveOf, role_heard, values_sent, DecidedRequest}
-use Rattle.log_spec.specs.Moves.{decided_exchanges}
 use Rattle.log_spec.specs.Honest.{MayStandNewest}
+use Rattle.log_spec.specs.Moves.{move, decided_exchanges}
 use Rattle.lockstep_laws.specs.Cast.{ConversingSlaves}
 use Rattle.lockstep_laws.specs.Runs.{Behaves}
 use Rattle.lockstep_laws.specs.Steps.{Step, reply_with, reply_of, told_by, told_of, Told, BenchProgress, place_after, events_counted, view_after, view, Nothing, Accepted, AtRest, Otherwise, is_on_its_way}
@@ -23,6 +25,7 @@ use Rattle.lockstep_laws.specs.Models.Ordinals.{ordinal_at}
 use Rattle.lockstep_laws.specs.Models.Scenarios.{slave_numbered}
 use Rattle.lockstep_laws.proofs.Conversation.{drop_later}
 use Rattle.lockstep_laws.proofs.Models.EachQth.{ordinal_is}
+use Rattle.lockstep_laws.proofs.Models.Scenarios.{has_parties}
 use Rattle.master_spec.specs.declared.causes.Cause.TheVariants as causes
 use Rattle.master_spec.specs.declared.links.DataLink.{DataLink}
 use Rattle.master_spec.specs.declared.requests.Answer.{Answer as Answered}
@@ -32,6 +35,7 @@ use Rattle.master_spec.specs.declared.setups.Slave.{Slave}
 use Rattle.master_spec.specs.declared.setups.Setup.{Setup}
 use Rattle.master_spec.specs.Setup.{setup_from, slave_of, jobs_of}
 use Rattle.master_spec.specs.Jobs.{Job}
+use Rattle.master_spec.specs.News.{Answers, news_in, news_of}
 use Rattle.master_spec.specs.Exchanged.{IsIn, IsDecided, entry_at}
 use Rattle.master_spec.specs.Requests.{Asking, Decision, asks, acked, is_main, is_step, phase_at, phase_reached, of_phase}
 use Rattle.master_spec.specs.Shown.{Shown, IsMissing}
@@ -40,6 +44,7 @@ use Rattle.master_log_laws.specs.Index.Runs.{course_at, IsRun}
 use Rattle.master_log_laws.proofs.Index.ByEntry.{entry_by_entry}
 use Rattle.master_log_laws.proofs.Scenarios.Heard.{setups_heard}
 use Rattle.master_laws.specs.Hears.Laws.{IsAnswerAs}
+use Rattle.master_laws.proofs.Hears.Reading.{answers_heard}
 use Rattle.master_laws.specs.Rows.Laws.{progress_after, progress}
 use Rattle.master_laws.proofs.Rows.Views.{progress_told}
 use Rattle.master_laws.specs.Barrier.Laws.{row_event_in, events_before, StandsInPhase}
@@ -51,10 +56,11 @@ use Rattle.slave_laws.proofs.Data.Feeding.{some_interval}
 use Rattle.run_laws.specs.Laws.{parties, IsRunInRounds}
 use Rattle.run_laws.proofs.Runs.{party, are_parties}
 use Rattle.run_laws.proofs.Rounded.{rounds_are_runs}
+use Rattle.run_laws.proofs.Collecting.Heard.{same_is as one_address}
 use Rattle.run_laws.proofs.Headline.Behaving.{are_slaves}
 use Rattle.run_laws.proofs.Headline.Moments.{so_far}
-use Rattle.completeness_laws.specs.Inputs.{IsLinkTo, ordinal_wanted, WasSentOver, GetsAt, InputsWereSent}
-use Rattle.completeness_laws.proofs.Delivery.Askings.{DecidedAt, AreAt, are_at, at_one, same_ack}
+use Rattle.completeness_laws.specs.Inputs.{IsLinkTo, ordinal_wanted, WasSentOver, RefusesAt, InputsWereSent}
+use Rattle.completeness_laws.proofs.Delivery.Askings.{IsHeard, DecidedAt, AreAt, are_at, at_one, same_ack}
 use Rattle.completeness_laws.proofs.Delivery.Ended.{numbered_at, run_front}
 use Rattle.completeness_laws.proofs.Delivery.Entries.{some_same, entry_there, within, ends_with}
 use Rattle.completeness_laws.proofs.Delivery.Fronts.{values_grow}
@@ -65,9 +71,11 @@ use Rattle.completeness_laws.proofs.Delivery.Ordinals.{ordinal_rises}
 use Rattle.completeness_laws.proofs.Delivery.Phases.{before_rises, not_more}
 use Rattle.completeness_laws.proofs.Delivery.Reaching.{reached_most, IsOfPhase, of_phase_at}
 use Rattle.completeness_laws.proofs.Delivery.Refused.{WasDecided, was_decided}
+use Rattle.completeness_laws.proofs.Delivery.Replying.{answer_role, OwesAnswer, takes_owing, AreTo, to_sender, IsQuiet, got_behind, answered_before}
 use Rattle.completeness_laws.proofs.Delivery.Sessions.{comes_of_master}
 use Rattle.completeness_laws.proofs.Delivery.StepJobs.{IsStepJob, step_job}
 use Rattle.completeness_laws.proofs.Delivery.Values.{SentValue, OwnSending}
+use Rattle.completeness_laws.proofs.Delivery.Whole.{IsEventEntry}
 use Rattle.completeness_laws.proofs.Delivery.Wires.{IsWiredTo}
 
 clash : true ≡ false → ⊥
@@ -130,11 +138,20 @@ abbrev nack_by : Option Decision → ℕ
 nack_by None = 0
 nack_by (Some d) = nack_in d.answer
 
+-- lists that are the same begin with the same
+head_same : {A : Type 0} {y z : A} {ys zs : List A} → y ∷ ys ≡ z ∷ zs → y ≡ z
+head_same q = cc
+
+-- what a datagram tells is what its message tells
+news_by_message : (bytes : List ℕ) (m : Message) → message_in bytes ≡ Some m → news_of bytes ≡ news_in (Some m)
+unfolding news_of
+news_by_message bytes m e = ap news_in e
+
 -- a request for a step is one of the spine
 step_main : (a : Asking) → a.code ≡ 7 → is_main a ≡ true
 step_main a e = ap (λ (m : ℕ). (nat_le 1 m && nat_le m 10) || (nat_le 32 m && nat_le m 43)) e
 
--- what holds of each that is kept of a list holds of each request for a step in it
+-- where each step among these requests was refused for missing inputs, so was one that stands at a place
 kept_missing : (xs : List Asking) → ((j : ℕ) (b : Asking) → slice_get (filter is_step xs) j ≡ Some b → IsMissing b) → (i : ℕ) (a : Asking) → slice_get xs i ≡ Some a → IsTrue (is_step a) → IsMissing a
 kept_missing [] each i a h s = absurd (none i h)
   where
@@ -165,9 +182,11 @@ odd_place d m low high odd = by (cases_lt d (2 * m + 2))
 pinned : (before after all counted done row one : ℕ) → before ≤ all → all ≤ counted → counted ≤ after → after ≡ before + one → one ≡ 1 → all ≡ done → before ≡ 2 * row + 1 → (done % 2 ≡ 0 → ⊥) → done ≡ 2 * row + 1
 pinned before after all counted done row one a b c d e f g odd = odd_place done row (omega (arith, a, f, g)) (omega (arith, b, c, d, e, f, g)) odd
 
+-- halves, rounded down, rise
 halves : (m n : ℕ) → m ≤ n → m / 2 ≤ n / 2
 halves m n h = omega (arith, h)
 
+-- half of an odd number, rounded down
 half_odd : (d m : ℕ) → d ≡ 2 * m + 1 → d / 2 ≡ m
 half_odd d m h = omega (arith, h)
 
@@ -214,17 +233,23 @@ module _ (sc : Scenario) (other : SlaveDesc) (ok : IsScenario sc) (log : List Lo
     pub note : Note
     pub entry_is : entry ≡ Got (W.slave s) from bytes
     pub read : role_heard W bytes ≡ Request receiver note
-    pub of_master : from ≡ W.master
-    pub number_is : note.number ≡ who.number
+    pub owes : OwesAnswer W is.x (X.desk s (entry ∷ there))
+    pub to_master : AreTo W.master (X.desk s (entry ∷ there)).owed
 
-  head_same : {A : Type 0} {y z : A} {ys zs : List A} → y ∷ ys ≡ z ∷ zs → y ≡ z
-  head_same q = cc
+  -- with an entry with which the slave takes a request, it comes to owe the answer
+  owing : (there : List LogEntry) (e : LogEntry) (x : DecidedRequest) (es : List DecidedRequest) → Behaves W X (e ∷ there) → (X.desk s (e ∷ there)).served ≡ x ∷ es → (X.desk s there).served ≡ es → OwesAnswer W x (X.desk s (e ∷ there))
+  owing there e x es b now before =
+      let may = (b.slaves s it).0 in
+      takes_owing W (X.accepts s) (move W s e) (X.desk s there) (X.desk s (e ∷ there)) x (((are_slaves sc other ok).each s it).goes e there may) (now ∙ ap (λ (l : List DecidedRequest). x ∷ l) (sym before))
 
-  -- a request that the slave gets is of the master
-  comes_from : (there : List LogEntry) (e : LogEntry) → Behaves W X there → Behaves W X (e ∷ there) → IsRun S (e ∷ there) → (from : Address) (bytes : List ℕ) (receiver : ℕ) (n : Note) → e ≡ Got (W.slave s) from bytes → role_heard W bytes ≡ Request receiver n → from ≡ W.master
-  comes_from there e b c run from bytes receiver n is read =
+  -- and all that it owes then goes to the master
+  telling : (there : List LogEntry) (e : LogEntry) → Behaves W X there → Behaves W X (e ∷ there) → IsRun S (e ∷ there) → (from : Address) (bytes : List ℕ) (receiver : ℕ) (n : Note) → e ≡ Got (W.slave s) from bytes → role_heard W bytes ≡ Request receiver n → AreTo W.master (X.desk s (e ∷ there)).owed
+  telling there e b c run from bytes receiver n is read =
       let P : LogEntry → Type 0 = λ x. MayStandNewest W x there in
-      (comes_of_master sc other ok s it there b run.1 from bytes receiver n (subst P is c.honest.0) read).from_is
+      let m : from ≡ W.master = (comes_of_master sc other ok s it there b run.1 from bytes receiver n (subst P is c.honest.0) read).from_is in
+      let Q : LogEntry → Type 0 = λ x. AreTo W.master (X.desk s (x ∷ there)).owed in
+      let R : Address → Type 0 = λ a. AreTo a (X.desk s (Got (W.slave s) from bytes ∷ there)).owed in
+      subst Q (sym is) (subst R m (to_sender sc other s there from bytes))
 
   refused_step : (later now : List LogEntry) → F ≡ later ++ now → (who : Asking) (tail : List Asking) (place code : ℕ) → asks S.address L now ≡ who ∷ tail → IsDecided who place (Nack code) → (code == 8) ≡ true → who.code ≡ 7 → RefusedStep now who tail
   refused_step later now f who tail place code a d e c =
@@ -259,8 +284,8 @@ module _ (sc : Scenario) (other : SlaveDesc) (ok : IsScenario sc) (log : List Lo
         note = (t.takes).note;
         entry_is = (t.takes).is;
         read = (t.takes).read;
-        of_master = comes_from (t.before ++ base) t.entry step.behaves (behaves_at (later ++ t.after) (t.entry ∷ (t.before ++ base)) all) (run_at (later ++ t.after) (t.entry ∷ (t.before ++ base)) all) (t.takes).from (t.takes).bytes (t.takes).receiver (t.takes).note (t.takes).is (t.takes).read;
-        number_is = ap (λ (y : Note). y.number) (sym (ap (λ (y : DecidedRequest). y.request) (head_same (sym t.newest ∙ (t.takes).served))) ∙ w.request_is);
+        owes = owing (t.before ++ base) t.entry w.x w.es (behaves_at (later ++ t.after) (t.entry ∷ (t.before ++ base)) all) t.newest t.rest;
+        to_master = telling (t.before ++ base) t.entry step.behaves (behaves_at (later ++ t.after) (t.entry ∷ (t.before ++ base)) all) (run_at (later ++ t.after) (t.entry ∷ (t.before ++ base)) all) (t.takes).from (t.takes).bytes (t.takes).receiver (t.takes).note (t.takes).is (t.takes).read;
       }
 
   request_value : {receiver id : ℕ} {n m : Note} → Request receiver n ≡ Value id m → ⊥
@@ -268,6 +293,9 @@ module _ (sc : Scenario) (other : SlaveDesc) (ok : IsScenario sc) (log : List Lo
 
   got_same : (a b : Address) (us vs : List ℕ) → Got (W.slave s) a us ≡ Got (W.slave s) b vs → us ≡ vs
   got_same a b us vs z = cc
+
+  got_at : (a b c d : Address) (us vs : List ℕ) → Got a c us ≡ Got b d vs → a ≡ b
+  got_at a b c d us vs z = cc
 
   same_nack : (a : Asking) (p q c d : ℕ) → IsDecided a p (Nack c) → IsDecided a q (Nack d) → c ≡ d
   same_nack a p q c d h k = ap nack_by (sym h ∙ k)
@@ -278,13 +306,18 @@ module _ (sc : Scenario) (other : SlaveDesc) (ok : IsScenario sc) (log : List Lo
   abbrev js : List Job
   js = jobs_of S L
 
+  -- what the exchanges tell of the row events, the requests tell
   told : (part base : List LogEntry) → F ≡ part ++ base → view (decided_exchanges W s base) ≡ progress (asks S.address L base)
   told part base e = progress_told S heard W (are_parties sc other ok) base (run_at part base e) s it L (party sc other ok s it)
 
   -- a request for a step among those to the slave, which was refused for missing inputs
   record WasRefused (a : Asking) (rest : List Asking) (place : ℕ) : Type 0 where
     pub part : List LogEntry
+    pub came : LogEntry
+    pub base : List LogEntry
     pub now : List LogEntry
+    pub now_is : now ≡ came ∷ base
+    pub heard : IsHeard S.address L came
     pub is : F ≡ part ++ now
     pub long : length now ≡ place + 1
     pub who : Asking
@@ -299,7 +332,11 @@ module _ (sc : Scenario) (other : SlaveDesc) (ok : IsScenario sc) (log : List Lo
   was_refused : (front : List Asking) (a : Asking) (rest : List Asking) → asks S.address L F ≡ front ++ a ∷ rest → IsTrue (is_step a) → (place code : ℕ) → IsDecided a place (Nack code) → (code == 8) ≡ true → WasRefused a rest place
   was_refused front a rest all is place code d eight = record {
     part = decided.part;
+    came = decided.entry;
+    base = decided.base;
     now = decided.entry ∷ decided.base;
+    now_is = refl;
+    heard = decided.heard;
     is = decided.is;
     long = (let p = decided.place in omega (arith, p));
     who = decided.who;
@@ -358,6 +395,7 @@ module _ (sc : Scenario) (other : SlaveDesc) (ok : IsScenario sc) (log : List Lo
     done = (view (step.is).es).done
 
     -- ---- the step of the phase
+    -- no more row events are done at the end than when the last step was asked
     done_whole : (view (decided_exchanges W s F)).done ≡ done
     done_whole =
         let same : progress (newest.who ∷ tail) ≡ progress (request ∷ tail) =
@@ -373,9 +411,11 @@ module _ (sc : Scenario) (other : SlaveDesc) (ok : IsScenario sc) (log : List Lo
     phase_one : phase ≡ phase - 1 + 1
     phase_one = let b = (sh.last).begun in omega (arith, b)
 
+    -- the row events that are done are those before the phase, and at most the one of the phase
     stands : StandsInPhase js (phase - 1) (view (decided_exchanges W s F))
     stands = progress_by_phase S heard W (are_parties sc other ok) F (run_at [] F refl) s it L (party sc other ok s it) (phase - 1) (phase_now ∙ phase_one)
 
+    -- the phase is for step k of a run
     at : IsStepJob S.steps S.runs (phase - 1) (events_before js (phase - 1)) k
     at = step_job S.steps S.runs L.script heard.runs (phase - 1) job job_in k (sh.shown.1).step
 
@@ -385,6 +425,7 @@ module _ (sc : Scenario) (other : SlaveDesc) (ok : IsScenario sc) (log : List Lo
     one_event : events_of job ≡ 1
     one_event = ap (λ (t : Task). if is_some (row_event_in t) then 1 else 0) (sh.shown.1).step
 
+    -- the slave stands at the row before the step
     done_is : done ≡ 2 * row + 1
     done_is =
         pinned (events_before js (phase - 1)) (events_before js (phase - 1 + 1)) (view (decided_exchanges W s F)).done (events_counted (view (decided_exchanges W s F))) done row (events_of job)
@@ -403,6 +444,7 @@ module _ (sc : Scenario) (other : SlaveDesc) (ok : IsScenario sc) (log : List Lo
     abbrev link : DataLink
     link = wired.link
 
+    -- and the ordinal of its place is the one that the step wants
     j_is : j ≡ ordinal_wanted sc.steps link.every at.run k
     j_is =
         let place : place_after done ≡ row = half_odd done row done_is in
@@ -440,6 +482,7 @@ module _ (sc : Scenario) (other : SlaveDesc) (ok : IsScenario sc) (log : List Lo
     own : OwnSending sc other ok sending.from sending.to sending.bytes id j sending.note old
     own = missed.own sc other ok s it there done step.at_step
 
+    -- it went over a wire to the slave
     link_to : IsLinkTo sc other s link
     link_to = record {
       sender = (let P : ℕ → Type 0 = λ n. IsSlaveOf W n in subst P (sym (missed.from_link sc other ok s it there done step.at_step)) (missed.sender sc other ok s it there done step.at_step));
@@ -467,15 +510,6 @@ module _ (sc : Scenario) (other : SlaveDesc) (ok : IsScenario sc) (log : List Lo
     }
 
     -- ---- it had not come
-    gets_last : GetsAt W s q F (length there)
-    gets_last = record {
-      note = step.note;
-      number = step.number_is ∙ newest.named ∙ sh.shown.0;
-      entry = step.entry;
-      is = ap (λ (l : List LogEntry). entry_at l (length there)) whole ∙ entry_there outer there step.entry;
-      gets = record { bytes = step.bytes; receiver = step.receiver; is = step.entry_is ∙ ap (λ (a : Address). Got (W.slave s) a step.bytes) step.of_master; read = step.read };
-    }
-
     not_there : (i : ℕ) → length old < i → i ≤ length there → entry_at F i ≡ Some (Got (W.slave s) sending.from sending.bytes) → ⊥
     not_there i lt few h = by (cases_lt i (length there))
       where
@@ -499,6 +533,88 @@ module _ (sc : Scenario) (other : SlaveDesc) (ok : IsScenario sc) (log : List Lo
             let all : sending.later ++ sent' ∷ old ≡ (a.front ++ got ∷ b.front) ++ sent' ∷ old = sym sending.split ∙ a.is ∙ ap (λ (z : List LogEntry). a.front ++ got ∷ z) b.is ∙ sym (append_assoc a.front (got ∷ b.front) (sent' ∷ old)) in
             missed.not_come sc other ok s it there done step.at_step a.front b.front (append_cancel_right sending.later (a.front ++ got ∷ b.front) (sent' ∷ old) all)
 
+    -- ---- the last refusal
+    abbrev answer : Note
+    answer = (step.is).x.answer
+
+    abbrev asked_at : List LogEntry
+    asked_at = step.entry ∷ there
+
+    -- the slave sends its answer, and nothing is got between the request and that
+    record IsRefused : Type 0 where
+      pub later : List LogEntry
+      pub quiet : List LogEntry
+      pub bytes : List ℕ
+      pub is : F ≡ later ++ Sent (W.slave s) W.master bytes ∷ (quiet ++ asked_at)
+      pub none : IsQuiet quiet
+      pub read : answer_in (role_heard W bytes) ≡ Some answer
+
+    -- what the slave gets is not what the master gets
+    not_master : step.entry ≡ newest.came → ⊥
+    not_master e =
+        let same : Got (W.slave s) step.from step.bytes ≡ Got (newest.heard).at (newest.heard).from (newest.heard).bytes = sym step.entry_is ∙ e ∙ (newest.heard).is in
+        (has_parties sc other ok message_in).apart.master s it (got_at (W.slave s) (newest.heard).at step.from (newest.heard).from step.bytes (newest.heard).bytes same ∙ one_address (newest.heard).at W.master (newest.heard).own)
+
+    is_refused : IsRefused
+    is_refused = by step.after (step.whole)
+      where
+        by : (after : List LogEntry) → newest.now ≡ after ++ asked_at → IsRefused
+        by [] e = absurd (not_master (head_same (sym e ∙ newest.now_is)))
+        by (c ∷ part) e =
+            let all : F ≡ newest.part ++ c ∷ (part ++ asked_at) = newest.is ∙ ap (λ (z : List LogEntry). newest.part ++ z) e in
+            let same : newest.came ≡ c = head_same (sym newest.now_is ∙ e) in
+            let E : LogEntry → Type 0 = λ z. IsEventEntry sc other ok log r s it z in
+            let event : IsEventEntry sc other ok log r s it c = subst E same (subst E (sym (newest.heard).is) tt) in
+            let k = answered_before sc other ok log r s it behaves_at asked_at answer (step.owes).owes step.to_master part newest.part c all event in
+            let sent = Sent (W.slave s) W.master k.bytes in
+            record {
+              later = (newest.part ++ c ∷ []) ++ k.after;
+              quiet = k.before;
+              bytes = k.bytes;
+              is =
+                  all ∙ ap (λ (z : List LogEntry). newest.part ++ c ∷ (z ++ asked_at)) k.is ∙ ap (λ (z : List LogEntry). newest.part ++ c ∷ z) (append_assoc k.after (sent ∷ k.before) asked_at)
+                  ∙ sym (append_assoc newest.part (c ∷ []) (k.after ++ sent ∷ (k.before ++ asked_at))) ∙ sym (append_assoc (newest.part ++ c ∷ []) k.after (sent ∷ (k.before ++ asked_at)));
+              none = k.quiet;
+              read = k.read;
+            }
+
+    abbrev refused_at : List LogEntry
+    refused_at = is_refused.quiet ++ asked_at
+
+    refused_whole : F ≡ (is_refused.later ++ Sent (W.slave s) W.master is_refused.bytes ∷ []) ++ refused_at
+    refused_whole = is_refused.is ∙ sym (append_assoc is_refused.later (Sent (W.slave s) W.master is_refused.bytes ∷ []) refused_at)
+
+    answer_message : message_in is_refused.bytes ≡ Some answer.message
+    answer_message = let k = answer_role (role_heard W is_refused.bytes) answer is_refused.read in (answers_heard is_refused.bytes k.sender answer k.is).0
+
+    number_is : answer.number ≡ q
+    number_is = (step.owes).number ∙ ap (λ (n : Note). n.number) (step.is).request_is ∙ newest.named ∙ sh.shown.0
+
+    refuses : RefusesAt W s q F (length refused_at)
+    refuses = record {
+      bytes = is_refused.bytes;
+      code = step.code;
+      is = ap (λ (l : List LogEntry). entry_at l (length refused_at)) is_refused.is ∙ entry_there is_refused.later refused_at (Sent (W.slave s) W.master is_refused.bytes);
+      read = news_by_message is_refused.bytes answer.message answer_message ∙ step.answer_is ∙ ap (λ (n : ℕ). Answers n s (Nack step.code)) number_is;
+      missing = step.eight;
+    }
+
+    not_by_then : (i : ℕ) → length old < i → i < length refused_at → entry_at F i ≡ Some (Got (W.slave s) sending.from sending.bytes) → ⊥
+    not_by_then i lt few h = by (cases_lt (length there) i)
+      where
+        got : LogEntry
+        got = Got (W.slave s) sending.from sending.bytes
+
+        by : (length there < i) ⊎ (i ≤ length there) → ⊥
+        by (inr l) = not_there i lt l h
+        by (inl g) =
+            let n = ap length refused_whole in
+            let m = length-append (is_refused.later ++ Sent (W.slave s) W.master is_refused.bytes ∷ []) refused_at in
+            let v = within F i got (omega (arith, n, m, few)) h in
+            let p = v.place in
+            let a = ends_with (is_refused.later ++ Sent (W.slave s) W.master is_refused.bytes ∷ []) refused_at v.part (got ∷ v.base) (sym refused_whole ∙ v.is) (omega (arith, p, few)) in
+            got_behind is_refused.quiet asked_at a.front v.base (W.slave s) sending.from sending.bytes is_refused.none a.is (omega (arith, p, g))
+
     -- ---- before each refusal
     module _ (i : ℕ) (a : Asking) (place code : ℕ) (here : slice_get (request ∷ earlier') i ≡ Some a) (is : IsTrue (is_step a)) (d : IsDecided a place (Nack code)) where
       of : IsOfPhase js phase (asks S.address L F) a
@@ -513,6 +629,7 @@ module _ (sc : Scenario) (other : SlaveDesc) (ok : IsScenario sc) (log : List Lo
       abbrev base : List LogEntry
       base = (was.step).there
 
+      -- the phase had begun then
       phase_least : phase ≤ (course_at S was.now).phase
       phase_least =
           let reached : phase_reached js (asks S.address L was.now) ≡ phase_at js (acked of.rest) =
@@ -521,6 +638,7 @@ module _ (sc : Scenario) (other : SlaveDesc) (ok : IsScenario sc) (log : List Lo
           let most = reached_most S heard (s - 1) L (numbered_at sc other ok s it) was.now (run_at was.part was.now was.is) in
           omega (arith, reached, least, most)
 
+      -- so as many row events were done
       done_least : done ≤ (view ((was.step).is).es).done
       done_least =
           let f = (course_at S was.now).phase - 1 in
@@ -533,6 +651,7 @@ module _ (sc : Scenario) (other : SlaveDesc) (ok : IsScenario sc) (log : List Lo
           let e : done ≡ events_before js (phase - 1) = done_is ∙ sym at.events in
           omega (arith, stand, rise, same, e)
 
+      -- and the message had been sent
       enough : j + 1 ≤ length (values_sent W id base)
       enough =
           let z = ((was.step).at_step).sent id (missed.sender sc other ok s it there done step.at_step) in
@@ -572,10 +691,10 @@ module _ (sc : Scenario) (other : SlaveDesc) (ok : IsScenario sc) (log : List Lo
       wire = link_to;
       sent = sent_over;
       before = sent_before;
-      taken = length there;
-      asked = (let a = ((step.is).first).place in let b = newest.since in let c = step.long in omega (arith, a, b, c));
-      gets = gets_last;
-      missing = λ i lt few h. not_there i lt few (h ∙ ap (λ (a : Address). Some (Got (W.slave s) a sending.bytes)) (sym from_is));
+      refused = length refused_at;
+      asked = (let a = ((step.is).first).place in let b = newest.since in let c = step.long in let n = length-append is_refused.quiet asked_at in omega (arith, a, b, c, n));
+      refuses = refuses;
+      missing = λ i lt few h. not_by_then i lt few (h ∙ ap (λ (a : Address). Some (Got (W.slave s) a sending.bytes)) (sym from_is));
     }
 
 -- of each slave that is reported so, in the phase that has begun

@@ -45,6 +45,7 @@ pub record IsStepJob (steps runs p n k : ℕ) : Type 0 where
   pub phase_is : p + 1 ≡ phase_of_step steps run k
   pub events : n ≡ 2 * row_index steps run (k - 1) + 1
 
+-- where the job is for a step, it stands where that does
 abbrev IsPlaced : (steps runs p n : ℕ) → Job → Type 0
 IsPlaced steps runs p n job = (k : ℕ) → step_in job.task ≡ Some k → IsStepJob steps runs p n k
 
@@ -52,6 +53,7 @@ abbrev ArePlaced : (steps runs p n : ℕ) → List Job → Type 0
 ArePlaced steps runs p n [] = Unit {0}
 ArePlaced steps runs p n (job ∷ js) = IsPlaced steps runs p n job × ArePlaced steps runs (p + 1) (n + events_of job) js
 
+-- what holds of each job in a list holds of one at a place
 get_placed : (steps runs p n : ℕ) (js : List Job) (i : ℕ) (job : Job) → ArePlaced steps runs p n js → slice_get js i ≡ Some job → IsPlaced steps runs (p + i) (n + events_before js i) job
 get_placed steps runs p n [] i job a e = absurd cc
 get_placed steps runs p n (j ∷ js) zero job a e =
@@ -75,6 +77,7 @@ get_placed steps runs p n (j ∷ js) (suc i) job a e =
 no_step : (steps runs p n : ℕ) (job : Job) → step_in job.task ≡ None → IsPlaced steps runs p n job
 no_step steps runs p n job e k h = absurd (clash (sym e ∙ h))
 
+-- the phase of a step that is not the start of a run
 phase_later : (steps r a : ℕ) → 1 ≤ a → phase_of_step steps r a ≡ (r - 1) * (8 + 2 * steps) + (6 + 2 * a)
 phase_later steps r a h = by (a == 0) refl
   where
@@ -150,6 +153,7 @@ module _ (steps runs q : ℕ) (few : q + 1 ≤ runs) where
           (steps_placed r f 0 steps (p + 1 + 1 + 1 + 1 + 1) (n + 0 + 0 + 0 + 1 + 0) (omega arith) (omega (arith, e)) (omega (arith, h)) (stop ∷ js)
           (λ i m x y. (no_step steps runs i m stop refl, k (i + 1) (m + 0) (omega (arith, x)) (omega (arith, y)))) 1 (omega arith))
 
+-- a run, so many more after it, and the end
 from_placed : (steps runs : ℕ) (script : Script) (q more r p n : ℕ) → q + 1 + more ≤ runs → r ≡ q + 1 → p ≡ q * (8 + 2 * steps) + 2 → n ≡ 2 * (q * (steps + 1) + 0) → ArePlaced steps runs p n (jobs_from steps script r more)
 from_placed steps runs script q zero r p n l f e h =
     run_placed steps runs q (omega (arith, l)) r f p n e h (record { task = tasks.Deregister; list = [] } ∷ []) (λ i m x y. (no_step steps runs i m (record { task = tasks.Deregister; list = [] }) refl, tt))

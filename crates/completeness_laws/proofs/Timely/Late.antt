@@ -104,9 +104,6 @@ outputs_late sc other log later sofar e split s k u =
 at_most : (i j : ℕ) → i < j → i ≤ j
 at_most i j h = omega (arith, h)
 
-up_to : (i j : ℕ) → i < j + 1 → i ≤ j
-up_to i j h = omega (arith, h)
-
 -- inputs for which a step was given up
 pub inputs_late : (sc : Scenario) (other : SlaveDesc) (log : List LogEntry) (slave : Slave) (p q k : ℕ) (s : Shown (setup_from sc) log slave p (causes.InputsMissing q k)) → InputsWereSent sc other log slave p q k s → InputsWereLate (setup_from sc) log slave p q k s
 inputs_late sc other log slave p q k s u =
@@ -124,7 +121,7 @@ inputs_late sc other log slave p q k s u =
       is = ap (λ (l : List LogEntry). entry_at l (length v.earlier)) v.is ∙ entry_there v.later v.earlier (Sent (w.slave (u.link).from) (w.slave slave.id) v.bytes);
       read = n.news;
       before = λ a place code here is d. at_most (length v.earlier) place (u.before (suc 0) a place code here is d);
-      came = u.taken + 1;
-      asked = (let a = u.asked in omega (arith, a));
-      missing = λ j l h g. u.missing j l (up_to j u.taken h) g;
+      came = u.refused;
+      asked = u.asked;
+      missing = u.missing;
     }

@@ -1,7 +1,7 @@
 use Rattle.std.proofs.Common.{◌≡◌, ℕ, None, IsTrue}
 use Rattle.rounds.specs.Rounds.{Rounds}
 use Rattle.host.specs.Views.{master_in, slaves_in, Tells}
-use Rattle.live_commands.specs.Lives.{CountsWaits}
+use Rattle.live_commands.specs.Lives.{AllGoing, CountsWaits}
 use Rattle.live_commands.proofs.hosting.run_live.Given as goal
 
 abbrev pub invariant-rounds : goal.invariant-rounds
@@ -10,7 +10,7 @@ invariant-rounds g l = record {
   hosted : l.host.hosted ≡ l.fn.host.hosted;
   fault : l.host.fault ≡ None;
   is_open : IsTrue (g.N.Net.is_open l.net);
-  run : (n : ℕ) × Rounds (master_in l.host) (slaves_in l.host) n l.host.log × CountsWaits (g.P.Ready.waits l.fn.ready) (g.P.Ready.waits l.ready) n;
+  run : (n : ℕ) × (rounds : Rounds (master_in l.host) (slaves_in l.host) n l.host.log) × AllGoing (master_in l.host) (slaves_in l.host) n l.host.log rounds × CountsWaits (g.P.Ready.waits l.fn.ready) (g.P.Ready.waits l.ready) n;
   told : Tells (g.N.Net.calls l.fn.net) l.fn.host.log → Tells (g.N.Net.calls l.net) l.host.log;
   opening : g.N.Net.opening l.net ≡ g.N.Net.opening l.fn.net;
   still : g.N.Net.count l.net ≡ g.N.Net.count l.fn.net;

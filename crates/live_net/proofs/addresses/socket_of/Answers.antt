@@ -1,5 +1,5 @@
 use Rattle.std.proofs.Common.{refl, arith}
-use Rattle.live_net.proofs.Sockets.{bits_of_bits}
+use Rattle.live_net.proofs.Bits.{bits_of_bits}
 use Rattle.live_net.proofs.addresses.socket_of.Goals as goal
 
 pub returns : goal.returns

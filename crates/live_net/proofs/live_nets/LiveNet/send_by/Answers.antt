@@ -1,11 +1,9 @@
-use Rattle.std.proofs.Common.{◌∙◌, ap}
-use Rattle.std.proofs.Math.Seq.{map-set_same}
-use Rattle.live_net.specs.Live.{socket_place}
+use Rattle.live_net.specs.Live.{SendsBy}
+use Rattle.live_net.proofs.Ends.{at_end, sends_from}
 use Rattle.live_net.proofs.live_nets.LiveNet.send_by.Goals as goal
 
-pub returns-in-Some-clause-same : goal.returns-in-Some-clause-same
-returns-in-Some-clause-same g c =
-    let same = c.send.ensures ∙ ap socket_place c.index_mut.ensures.value in
-    rw (← c.self.view_is)
-    (ap (λ places. record { hosted = places; faults = c.self.inside.faults })
-    (map-set_same socket_place c.self.inside.ends.items c.in-Some.i c.send.new.self c.index_mut.result.now same))
+pub returns-in-Some-clause-sends : goal.returns-in-Some-clause-sends
+returns-in-Some-clause-sends g c =
+    sends_from c.args.from c.args.to c.args.bytes.now c.send.result c.args.self.now _ c.in-Some.i c.in-Some.ensures.place
+    (at_end (SendsBy c.args.to c.args.bytes.now c.send.result) c.args.self.now c.self.inside.ends.items c.in-Some.i c.self.inside.faults c.index_mut.result.now c.send.new.self
+    c.self.view_is c.in-Some.ensures.within c.index_mut.ensures.value c.send.ensures)

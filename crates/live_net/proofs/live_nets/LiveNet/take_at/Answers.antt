@@ -1,11 +1,9 @@
-use Rattle.std.proofs.Common.{◌∙◌, ap}
-use Rattle.std.proofs.Math.Seq.{map-set_same}
-use Rattle.live_net.specs.Live.{socket_place}
+use Rattle.live_net.specs.Live.{TakesBy}
+use Rattle.live_net.proofs.Ends.{at_end, takes_at}
 use Rattle.live_net.proofs.live_nets.LiveNet.take_at.Goals as goal
 
-pub returns-in-Some-clause-same : goal.returns-in-Some-clause-same
-returns-in-Some-clause-same g c =
-    let same = c.take.ensures.place ∙ ap socket_place c.index_mut.ensures.value in
-    rw (← c.self.view_is)
-    (ap (λ places. record { hosted = places; faults = c.self.inside.faults })
-    (map-set_same socket_place c.self.inside.ends.items c.in-Some.i c.take.new.self c.index_mut.result.now same))
+pub returns-in-Some-clause-takes : goal.returns-in-Some-clause-takes
+returns-in-Some-clause-takes g c =
+    takes_at c.args.at c.take.result c.take.new.room c.args.self.now _ c.in-Some.i c.in-Some.ensures.place
+    (at_end (TakesBy c.take.result c.take.new.room) c.args.self.now c.self.inside.ends.items c.in-Some.i c.self.inside.faults c.index_mut.result.now c.take.new.self
+    c.self.view_is c.in-Some.ensures.within c.index_mut.ensures.value c.take.ensures.takes)
