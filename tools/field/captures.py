@@ -19,13 +19,15 @@ def checksum(data: bytes) -> int:
 
 
 def ip_bytes(ip: str) -> bytes:
+    """An ip as packets have it, its first part first."""
     return bytes(int(part) for part in ip.split("."))
 
 
 def packet(sender: tuple, receiver: tuple, data: bytes) -> bytes:
     """A datagram as IPv4 and UDP, without a checksum of UDP."""
     udp = struct.pack(">HHHH", sender[1], receiver[1], UDP_BYTES + len(data), 0) + data
-    head = struct.pack(">BBHHHBBH", 0x45, 0, IP_BYTES + len(udp), 0, 0, 64, UDP, 0) + ip_bytes(sender[0]) + ip_bytes(receiver[0])
+    head = struct.pack(">BBHHHBBH", 0x45, 0, IP_BYTES + len(udp), 0, 0, 64, UDP, 0)
+    head += ip_bytes(sender[0]) + ip_bytes(receiver[0])
     return head[:10] + struct.pack(">H", checksum(head)) + head[12:] + udp
 
 

@@ -48,7 +48,8 @@ def section_of(text: str, title: str) -> str:
 
 def rows_of(text: str) -> list:
     """The rows of all tables in a text, each as its cells. Lines under heads are left out."""
-    rows = [[cell.strip() for cell in line.strip().strip("|").split("|")] for line in text.split("\n") if line.startswith("|")]
+    lines = [line for line in text.split("\n") if line.startswith("|")]
+    rows = [[cell.strip() for cell in line.strip().strip("|").split("|")] for line in lines]
     return [row for row in rows if not set("".join(row)) <= set("-: ")]
 
 
@@ -97,7 +98,8 @@ def _types(text: str) -> dict:
 
 
 def _reasons(text: str) -> dict:
-    return {row[0]: row[1] for row in rows_of(section_of(text, "What the reasons mean")) if re.fullmatch(r"[A-Z_0-9]+", row[0])}
+    rows = rows_of(section_of(text, "What the reasons mean"))
+    return {row[0]: row[1] for row in rows if re.fullmatch(r"[A-Z_0-9]+", row[0])}
 
 
 def line_of(data: bytes, formats: Formats) -> Optional[str]:

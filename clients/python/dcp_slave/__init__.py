@@ -8,4 +8,6 @@ from .scenario import Description, Port, Scenario, ScenarioError, read_scenario
 from .serving import main, serve
 from .slave import ModelFault, Slave
 
-__all__ = ["Description", "ModelFault", "Port", "Scenario", "ScenarioError", "Slave", "Type", "main", "read_scenario", "serve"]
+__all__ = [
+    "Description", "ModelFault", "Port", "Scenario", "ScenarioError", "Slave", "Type", "main", "read_scenario", "serve",
+]

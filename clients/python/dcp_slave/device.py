@@ -49,8 +49,8 @@ def _want(holds: bool, code: Refusal) -> None:
 
 
 class Device:
-    """A slave of a scenario with its model. `on_datagram` and `on_turn` are its events; each gives what is then sent, in
-    order, as pairs of an address and bytes."""
+    """A slave of a scenario with its model. `on_datagram` and `on_turn` are its events; each gives what is then sent,
+    in order, as pairs of an address and bytes."""
 
     def __init__(self, scenario: Scenario, slave: Slave):
         self.scenario, self.description, self.slave = scenario, scenario.description, slave
@@ -100,7 +100,8 @@ class Device:
         self.outgoing.append((self.master, data))
 
     def _before_register(self, sender: Address, request: Message) -> None:
-        """Begins the session with a register that is accepted. All else that is no register with number 0 is dropped."""
+        """Begins the session with a register that is accepted. All else that is no register with number 0 is
+        dropped."""
         number = request["pdu_seq_id"]
         if request.name != "STC_register" or number != 0:
             return

@@ -11,6 +11,7 @@ from .messages import MOST_BYTES, Address, address_bytes, address_of
 GREETING_BYTES = 6
 LENGTH_BYTES = 4
 MOST_WAITING = 1 << 20
+MOST_INWARD = 32
 # What the system says of a connection that is still being made.
 NOT_YET = (errno.ENOTCONN, errno.EINPROGRESS, errno.EALREADY)
 
@@ -33,7 +34,8 @@ class UdpEnd:
         select.select([self.socket], [], [], seconds)
 
     def take(self) -> Optional[tuple]:
-        """The next message as its sender's address and its bytes, or None. One that is longer than 1,025 bytes is cut."""
+        """The next message as its sender's address and its bytes, or None. One that is longer than 1,025 bytes is
+        cut."""
         try:
             data, sender = self.socket.recvfrom(MOST_BYTES + 1)
             return sender, data
@@ -88,7 +90,16 @@ class TcpEnd:
         except (BlockingIOError, ConnectionError):
             return
         connection.setblocking(False)
+        if len(self.inward) == MOST_INWARD:
+            self._give_way()
         self.inward.append(Inward(connection))
+
+    def _give_way(self) -> None:
+        """Closes the oldest connection that has brought no message, and where there is none, the oldest."""
+        strange = [link for link in self.inward if not link.has_brought]
+        link = (strange or self.inward)[0]
+        link.socket.close()
+        self.inward.remove(link)
 
     def send(self, to: Address, data: bytes) -> None:
         """Sends a message. It is lost where no connection can be made, or too much waits already."""
@@ -116,6 +127,7 @@ class Inward:
         self.socket = connection
         self.sender: Optional[Address] = None
         self.pending = b""
+        self.has_brought = False
 
     def read(self, taken: deque) -> bool:
         """Takes the messages that are whole. Whether more can come over this connection."""
@@ -140,6 +152,7 @@ class Inward:
             if len(self.pending) < end:
                 break
             taken.append((self.sender, self.pending[LENGTH_BYTES:end]))
+            self.has_brought = True
             self.pending = self.pending[end:]
         return True
 
@@ -152,7 +165,7 @@ class Outward:
         self.socket.setblocking(False)
         self.socket.setsockopt(socket.IPPROTO_TCP, socket.TCP_NODELAY, 1)
         self.pending = greeting
-        self.socket.connect_ex(to)
+        self.can_begin = self.socket.connect_ex(to) in (0, errno.EINPROGRESS, errno.EWOULDBLOCK)
 
     def is_closed(self) -> bool:
         """Whether the other side has closed it. It sends nothing over this connection, so all that comes is its end."""
@@ -165,6 +178,8 @@ class Outward:
 
     def flush(self) -> bool:
         """Sends on what waits. Whether the connection still stands."""
+        if not self.can_begin:
+            return False
         try:
             while self.pending:
                 self.pending = self.pending[self.socket.send(self.pending):]

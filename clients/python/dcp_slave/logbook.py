@@ -9,8 +9,8 @@ MOST_KEPT = 64
 
 
 class Entry(NamedTuple):
-    """A noted entry: its number in its category, and the code of a state, a refusal or a fault; `steps` are those of the
-    run, as they stand after what the entry tells."""
+    """A noted entry: its number in its category, and the code of a state, a refusal or a fault; `steps` are those of
+    the run, as they stand after what the entry tells."""
     number: int
     category: int
     level: int

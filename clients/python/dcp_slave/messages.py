@@ -132,8 +132,8 @@ class Message:
 def read_message(data: bytes) -> Optional[Message]:
     """The message of these bytes where it is one that a slave hears, else None.
 
-    A `type` is the `Type`, an `ip` its dotted form, a `state_id` the `State`, a `slave_uuid` 16 bytes, a `value` a number
-    and a `payload` bytes; all else are numbers.
+    A `type` is the `Type`, an `ip` its dotted form, a `state_id` the `State`, a `slave_uuid` 16 bytes, a `value` a
+    number and a `payload` bytes; all else are numbers.
     """
     if not 0 < len(data) <= MOST_BYTES or data[0] not in HEARD:
         return None

@@ -1,5 +1,4 @@
 """What a slave takes from the text of a scenario: its own description, and what its master does not tell it."""
-import ipaddress
 import uuid
 from typing import NamedTuple, Optional
 
@@ -17,8 +16,8 @@ class Port(NamedTuple):
 
 
 class Description(NamedTuple):
-    """The block of one slave. `number` counts the slaves of the scenario from 1; `identity` has 16 bytes; `address` is the
-    slave's own; `parameters` are the words behind the kind; `heartbeat` counts turns, 0 for none."""
+    """The block of one slave. `number` counts the slaves of the scenario from 1; `identity` has 16 bytes; `address` is
+    the slave's own; `parameters` are the words behind the kind; `heartbeat` counts turns, 0 for none."""
     name: str
     number: int
     identity: bytes
@@ -45,17 +44,20 @@ class Scenario(NamedTuple):
 def read_scenario(text: bytes, name: str) -> Scenario:
     """The scenario as the slave of this name sees it. ScenarioError where it has no such slave, or the slave's block
     lacks something or does not read. Lines of other slaves and links are not judged."""
-    head, blocks = _sections(text)
+    try:
+        head, blocks = _sections(text.decode("utf-8"))
+    except UnicodeDecodeError:
+        raise ScenarioError("the scenario is not UTF-8") from None
     for number, block in enumerate(blocks, 1):
         if block[0][1][1:] == [name]:
             return Scenario(text, _description(name, number, block), **_limits(head))
     raise ScenarioError(f"the scenario has no slave {name}")
 
 
-def _sections(text: bytes) -> tuple:
+def _sections(text: str) -> tuple:
     """The lines of the head, and those of each slave, as their numbers and words."""
     head, blocks = [], []
-    for number, line in enumerate(text.decode("utf-8").split("\n"), 1):
+    for number, line in enumerate(text.split("\n"), 1):
         words = line.split()
         if not words or words[0].startswith("#"):
             continue
@@ -87,7 +89,8 @@ def _description(name: str, number: int, block: list) -> Description:
     fields = {"inputs": (), "outputs": ()}
     for line, words in block:
         _read_line(line, words, fields)
-    missing = [key for key, field in (("uuid", "identity"), ("address", "address"), ("model", "kind")) if field not in fields]
+    wanted = {"uuid": "identity", "address": "address", "model": "kind"}
+    missing = [key for key, field in wanted.items() if field not in fields]
     if missing or not fields["outputs"]:
         raise ScenarioError(f"the block of {name} has no {(missing or ['output'])[0]}")
     return Description(name, number, **fields)
@@ -111,10 +114,10 @@ def _read_line(line: int, words: list, fields: dict) -> None:
 
 
 def _ip(line: int, words: list) -> str:
-    try:
-        return str(ipaddress.IPv4Address(words[1]))
-    except (IndexError, ValueError):
-        raise ScenarioError(f"line {line}: no address as 127.0.0.1") from None
+    parts = words[1].split(".") if len(words) > 1 else []
+    if len(parts) != 4 or not all(part.isdecimal() and int(part) < 256 for part in parts):
+        raise ScenarioError(f"line {line}: no address as 127.0.0.1")
+    return ".".join(str(int(part)) for part in parts)
 
 
 def _identity(line: int, words: list) -> bytes:

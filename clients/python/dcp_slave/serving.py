@@ -79,11 +79,12 @@ class Host:
 
 
 def main(make: Callable[[Description], Slave], words: Optional[list] = None) -> int:
-    """Runs a slave by the words of a command line, NAME [--trace FILE] [--stay SECONDS] < SCENARIO, and prints the line of
-    a slave as `./dcpctl slave` does. The exit status: 0, 2 for a scenario that does not read, 3 after a fault, 6 where
-    the address cannot be had."""
-    parser = argparse.ArgumentParser(description=make.__doc__, usage="%(prog)s NAME [--trace FILE] [--stay SECONDS] < SCENARIO")
-    parser.add_argument("name", metavar="NAME", help="the name of the slave in the scenario, which is read from standard input")
+    """Runs a slave by the words of a command line, NAME [--trace FILE] [--stay SECONDS] < SCENARIO, and prints the line
+    of a slave as `./dcpctl slave` does. The exit status: 0, 130 after an interrupt, 2 for a scenario that does not
+    read, 3 after a fault, 6 where the address cannot be had."""
+    usage = "%(prog)s NAME [--trace FILE] [--stay SECONDS] < SCENARIO"
+    parser = argparse.ArgumentParser(description=make.__doc__, usage=usage)
+    parser.add_argument("name", metavar="NAME", help="the name of the slave in the scenario on standard input")
     parser.add_argument("--trace", metavar="FILE", type=argparse.FileType("wb"), help="where its trace goes")
     parser.add_argument("--stay", metavar="SECONDS", type=float, help="how long it stays behind its last answer")
     given = parser.parse_args(words)
@@ -96,6 +97,8 @@ def main(make: Callable[[Description], Slave], words: Optional[list] = None) -> 
     except OSError as error:
         print(f"{scenario.description.address}: {error}", file=sys.stderr)
         return 6
+    except KeyboardInterrupt:
+        return 130
     finally:
         if given.trace:
             given.trace.close()

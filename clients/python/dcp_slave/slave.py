@@ -51,8 +51,8 @@ class Slave:
 
 
 def outputs_in_types(outputs: Sequence[int], description: Description) -> list:
-    """The outputs as whole numbers. ModelFault where one lies outside its type; TypeError where they are no whole numbers,
-    or are not as many as the description has."""
+    """The outputs as whole numbers. ModelFault where one lies outside its type; TypeError where they are no whole
+    numbers, or are not as many as the description has."""
     if len(outputs) != len(description.outputs):
         raise TypeError(f"{description.name} gives {len(outputs)} outputs, and has {len(description.outputs)}")
     # (what is computed in floating point is rounded by the model, as it sees fit)

@@ -1,8 +1,8 @@
 #!/usr/bin/env python3
 """An oscillator in floating point, whose position and speed are rounded at the ports.
 
-Its parameters are those of the kind `oscillator`: the position and the speed at first, and the two factors of a step, in
-65,536ths. The kind rounds down at each step, and this slave nowhere but at its ports, so their rows drift apart.
+Its parameters are those of the kind `oscillator`: the position and the speed at first, and the two factors of a step,
+in 65,536ths. The kind rounds down at each step, and this slave nowhere but at its ports, so their rows drift apart.
 """
 import pathlib
 import sys

@@ -7,7 +7,9 @@ from masters import KIT
 from dcp_slave.messages import HEARD, TYPES, Fault, Refusal, State
 
 PAGE = KIT.parent.parent / "docs" / "FORMATS.md"
-WIDTHS = {"u8": "B", "u16": "H", "u32": "I", "u64": "Q", "i64": "q", "state": "B", "type": "B", "uuid": "16s", "ip": "4s"}
+WIDTHS = {
+    "u8": "B", "u16": "H", "u32": "I", "u64": "Q", "i64": "q", "state": "B", "type": "B", "uuid": "16s", "ip": "4s",
+}
 
 
 def rows_of_messages(text):
@@ -39,11 +41,12 @@ class Formats(unittest.TestCase):
         self.assertEqual(heard, requests | {"DAT_input_output"})
 
     def test_codes_are_those_of_the_page(self):
-        states = dict(re.findall(r"\| ([01][0-9a-f]) \| ([A-Z_]+)(?= \|)", self.text.split("| Refusal of")[0].split("| State |")[-1]))
+        before, behind = self.text.split("| Refusal of", 1)
+        states = dict(re.findall(r"\| ([01][0-9a-f]) \| ([A-Z_]+)(?= \|)", before.split("| State |")[-1]))
         self.assertEqual({code: State(int(code, 16)).name for code in states}, states)
         self.assertEqual(len(states), len(State))
-        for code, word in re.findall(r"\| (\d+) \| ([A-Z_]+)(?= \|)", self.text.split("| Refusal of")[1].split("\n\n")[0]):
-            self.assertEqual(Refusal(int(code)).name, word)
+        refusals = dict(re.findall(r"\| (\d+) \| ([A-Z_]+)(?= \|)", behind.split("\n\n")[0]))
+        self.assertEqual({str(int(code)): code.name for code in Refusal}, refusals)
         for code, word in re.findall(r"(\d+) ([A-Z_]+)", re.search(r"Faults of a slave: ([^;]+);", self.text)[1]):
             self.assertEqual(Fault(int(code)).name, word)
 

@@ -10,7 +10,7 @@ import unittest
 from masters import KIT, TEXT, Doubler, data, register, request
 
 from dcp_slave import read_scenario, serve
-from dcp_slave.ends import open_end
+from dcp_slave.ends import MOST_INWARD, open_end
 from dcp_slave.messages import State, address_bytes
 
 WAIT = 20
@@ -30,6 +30,17 @@ def free_ports(count):
     for udp in held:
         udp.close()
     return ports
+
+
+def is_shut(connection):
+    """Whether the other side has closed the connection, or does so within a moment."""
+    connection.settimeout(0.01)
+    try:
+        return connection.recv(1) == b""
+    except socket.timeout:
+        return False
+    except ConnectionError:
+        return True
 
 
 class TestMaster:
@@ -111,7 +122,8 @@ class Sessions(unittest.TestCase):
         for old, new in zip((9000, 9001, 9002), ports):
             text = text.replace(f" {old}\n", f" {new}\n")
         scenario, trace, ended = read_scenario(text.encode(), "amp"), io.BytesIO(), []
-        thread = threading.Thread(target=lambda: ended.append(serve(scenario, Doubler(scenario.description), trace, 1.0)))
+        slave = Doubler(scenario.description)
+        thread = threading.Thread(target=lambda: ended.append(serve(scenario, slave, trace, 1.0)))
         master = TestMaster(protocol, ports)
         thread.start()
         try:
@@ -160,8 +172,41 @@ class Sessions(unittest.TestCase):
             self.assertEqual(stranger.recv(1), b"")
         end.close()
 
+    def test_strangers_make_way(self):
+        port, master = free_ports(1)[0], ("127.0.0.1", 9000)
+        end = open_end("tcp", ("127.0.0.1", port))
+        frame = address_bytes(master) + struct.pack("<IB", 1, 7)
+        with socket.create_connection(("127.0.0.1", port)) as known:
+            known.sendall(frame)
+            while end.take() is None:
+                end.wait(1)
+            strangers = [socket.create_connection(("127.0.0.1", port)) for _ in range(40)]
+            while not is_shut(strangers[8]):
+                end.take()
+            known.sendall(frame[6:])
+            taken = None
+            while taken is None:
+                end.wait(1)
+                taken = end.take()
+            self.assertEqual((taken, len(end.inward)), ((master, b"\x07"), MOST_INWARD))
+            for stranger in strangers:
+                stranger.close()
+        end.close()
+
+    def test_what_cannot_be_reached_is_lost(self):
+        port, nobody = free_ports(2)
+        end = open_end("tcp", ("127.0.0.1", port))
+        for to in (("127.0.0.1", 0), ("127.0.0.1", nobody)):
+            end.send(to, b"\x07")
+            for _ in range(20):
+                end.wait(0.01)
+                end.take()
+        self.assertEqual(end.outward, {})
+        end.close()
+
     def test_the_words_of_an_example(self):
-        done = subprocess.run([sys.executable, KIT / "examples/loop.py", "none"], input=TEXT.encode(), capture_output=True, check=False)
+        words = [sys.executable, KIT / "examples/loop.py", "none"]
+        done = subprocess.run(words, input=TEXT.encode(), capture_output=True, check=False)
         self.assertEqual((done.returncode, done.stderr), (2, b"the scenario has no slave none\n"))
 
 
