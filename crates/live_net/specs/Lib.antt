@@ -1,6 +1,7 @@
 pub mod Addresses
 pub mod Answers
 pub mod Connections
+pub mod Datagrams
 pub mod Departures
 pub mod Doors
 pub mod Failures

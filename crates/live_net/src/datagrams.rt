@@ -3,11 +3,12 @@
 ghost use Rattle.std.specs.Prelude.{◌≡◌, Some, IfOk, IfErr};
 ghost use Rattle.dcp_net.specs.Nets.{IsWithinRoom};
 ghost use Rattle.live_net.specs.Addresses.{address_in};
+ghost use Rattle.live_net.specs.Datagrams.{IsSentTo};
 
 use crate::addresses::socket_of;
 use crate::answers::{done_of, taken_of};
 use crate::refusals::Refused;
-use crate::sockets::{Bound, datagrams_at};
+use crate::sockets::{Bound, Datagrams, datagrams_at};
 use dcp_net::{Done, Taken};
 use dcp_types::Address;
 use mio::Registry;
@@ -16,9 +17,9 @@ use std::net::Net;
 
 /// An end with a socket of its own.
 #[derive(Drop)]
-pub(crate) struct UdpEnd {
+pub(crate) struct UdpEnd<D = Bound<UdpSocket>> {
     place: Address,
-    socket: Bound<UdpSocket>,
+    socket: D,
 }
 
 impl UdpEnd {
@@ -35,7 +36,9 @@ impl UdpEnd {
         let socket = datagrams_at(net, registry, socket_of(place))?;
         Ok(UdpEnd { place, socket })
     }
+}
 
+impl<D: Datagrams> UdpEnd<D> {
     /// Where it is.
     pub(crate) fn place(&self) -> Address
         ensures { result ≡ self.now.place }
@@ -44,14 +47,18 @@ impl UdpEnd {
     }
 
     /// Sends a datagram. What the network or the peer refuses is lost.
-    pub(crate) fn send(&self, to: Address, bytes: &[u8]) -> Done {
-        done_of(&self.socket.socket.send_to(bytes, socket_of(to)))
+    pub(crate) fn send(&mut self, to: Address, bytes: &[u8]) -> Done
+        ensures place { self.new.place ≡ self.old.place }
+        ensures sent { IsSentTo to bytes.now (D.sent self.old.socket) (D.sent self.new.socket) }
+    {
+        done_of(&self.socket.send_to(bytes, socket_of(to)))
     }
 
     /// Takes the next datagram, if one is there. The system cuts what is longer than the room.
-    pub(crate) fn take(&self, room: &mut [u8; 1025]) -> Taken
-        ensures { IsWithinRoom result }
+    pub(crate) fn take(&mut self, room: &mut [u8; 1025]) -> Taken
+        ensures place { self.new.place ≡ self.old.place }
+        ensures len { IsWithinRoom result }
     {
-        taken_of(&self.socket.socket.recv_from(room))
+        taken_of(&self.socket.recv_from(room))
     }
 }

@@ -1,9 +1,9 @@
 //! The network over sockets, by UDP or by TCP, and the wait for something to take.
 //!
-//! What it promises: a network of sockets fails only where its count of faults rose; it takes and sends
-//! only for the ends that it was opened for; over TCP what is handed out of a connection are the messages
-//! whose frames its stream gave, in order and whole, and the connections that are kept at one end are no
-//! more than 32. What the system does with a call is not known: `PROMISES.md` lists each call.
+//! What it promises: a network of sockets fails only where its count of faults rose by one; it takes and
+//! sends only for the ends that it was opened for, and a message goes to its receiver alone; over TCP what is
+//! handed out are the messages whose frames a stream gave, in order and whole, and no more than 32 connections
+//! are kept at one end. What the system does with a call is not known: `PROMISES.md` lists each call.
 #![tactic(auto)]
 
 mod addresses;

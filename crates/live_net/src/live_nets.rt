@@ -20,7 +20,7 @@ use std::net;
 /// A network over sockets, by UDP or TCP as it is opened. It tells neither its calls nor what it was opened
 /// with, since no one knows what a socket does; a plan of what is to be lost or held back it ignores.
 ///
-/// Contracts see the addresses that have a socket of their own, and how often it has failed.
+/// Contracts see the ends that have a socket of their own, with what waits there, and how often it has failed.
 #[derive(Drop)]
 pub struct LiveNet<H: net::Net + Clone + Drop> {
     net: H,

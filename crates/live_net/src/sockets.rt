@@ -1,6 +1,7 @@
 //! Sockets that wake a wait, each with the address that it was asked for.
 
-ghost use Rattle.std.specs.Prelude.{◌≡◌, IfOk, IfSome};
+ghost use Rattle.std.specs.Prelude.{◌≡◌, ◌≤◌, List, None, Option, length, IfOk, IfSome};
+ghost use Rattle.live_net.specs.Datagrams.{Datagram, sent_more};
 
 use crate::wakes::WAKE;
 use mio::net::{TcpListener, TcpStream, UdpSocket};
@@ -63,6 +64,32 @@ pub(crate) fn watched(registry: &Registry, mut stream: TcpStream) -> Option<TcpS
         .register(&mut stream, WAKE, Interest::READABLE)
         .ok()?;
     Some(stream)
+}
+
+/// A socket for datagrams. Where it tells them, `sent` are the datagrams that it was given to send. What
+/// the system does with one is not known, so that a socket of the system tells none.
+pub(crate) trait Datagrams {
+    ghost sent: { Self → Option (List Datagram) };
+
+    fn send_to(&mut self, bytes: &[u8], to: SocketAddr) -> io::Result<usize>
+        ensures { sent self.new ≡ sent_more (sent self.old) to bytes.now };
+
+    /// The number of bytes that stand at the front of the room, and their sender.
+    fn recv_from(&mut self, room: &mut [u8]) -> io::Result<(usize, SocketAddr)>
+        ensures len { IfOk result (λ gram. gram.0 ≤ length room.new) }
+        ensures sent { sent self.new ≡ sent self.old };
+}
+
+impl Datagrams for Bound<UdpSocket> {
+    ghost sent = { λ s. None };
+
+    fn send_to(&mut self, bytes: &[u8], to: SocketAddr) -> io::Result<usize> {
+        self.socket.send_to(bytes, to)
+    }
+
+    fn recv_from(&mut self, room: &mut [u8]) -> io::Result<(usize, SocketAddr)> {
+        self.socket.recv_from(room)
+    }
 }
 
 impl io::Write for Bound<TcpStream> {
