@@ -14,59 +14,59 @@ use Rattle.live_net.specs.declared.live_ends.LiveEnd.{LiveEnd}
 use Rattle.live_net.specs.declared.refusals.Refused.{Refused}
 use Rattle.live_net.specs.declared.refusals.Refused.TheVariants as refused
 use Rattle.live_net.specs.Answers.{begun_as}
-use Rattle.live_net.specs.Live.{At, Hosted, Live, SendsBy, SendsFrom, TakesAt, TakesBy, hosted, hosted_of, opened_as, place_of}
+use Rattle.live_net.specs.Live.{At, SocketEnd, Live, SendsBy, SendsFrom, TakesHere, TakesBy, socket_places, socket_end, opened_as, end_place}
 
-abbrev place_at : Hosted → Address
+abbrev place_at : SocketEnd → Address
 place_at e = e.place
 
-pub at_end : (Change : Hosted → Hosted → Type 0) (old : Live) (ends : List LiveEnd) (place faults : ℕ) (before after : LiveEnd)
-    → record { ends = map hosted_of ends; faults = faults } ≡ old → place < length old.ends → before ≡ get_or ends place before
-    → Change (hosted_of before) (hosted_of after) → At place Change old (record { ends = map hosted_of (set ends place after); faults = faults })
+pub at_end : (Change : SocketEnd → SocketEnd → Type 0) (old : Live) (ends : List LiveEnd) (place faults : ℕ) (before after : LiveEnd)
+    → record { ends = map socket_end ends; faults = faults } ≡ old → place < length old.ends → before ≡ get_or ends place before
+    → Change (socket_end before) (socket_end after) → At place Change old (record { ends = map socket_end (set ends place after); faults = faults })
 at_end Change old ends place faults before after seen within is change =
-    let same : map hosted_of ends ≡ old.ends = ap (λ (l : Live). l.ends) seen in
-    let here : place < length ends = omega (arith, within, ap (λ (es : List Hosted). length es) same, length-map ends hosted_of) in
+    let same : map socket_end ends ≡ old.ends = ap (λ (l : Live). l.ends) seen in
+    let here : place < length ends = omega (arith, within, ap (λ (es : List SocketEnd). length es) same, length-map ends socket_end) in
     record {
-      before = hosted_of before;
-      after = hosted_of after;
-      here = ap (λ (es : List Hosted). slice_get es place) (sym same) ∙ slice_get-map hosted_of ends place
-          ∙ ap (option_map hosted_of) (slice_get_read ends (length ends) place before refl here is);
+      before = socket_end before;
+      after = socket_end after;
+      here = ap (λ (es : List SocketEnd). slice_get es place) (sym same) ∙ slice_get-map socket_end ends place
+          ∙ ap (option_map socket_end) (slice_get_read ends (length ends) place before refl here is);
       change = change;
-      others = map-set hosted_of ends place after ∙ ap (λ (es : List Hosted). set es place (hosted_of after)) same;
+      others = map-set socket_end ends place after ∙ ap (λ (es : List SocketEnd). set es place (socket_end after)) same;
     }
 
-pub sends_from : (from to : Address) (message : List ℕ) (result : Done) (old new : Live) (place : ℕ) → Some place ≡ place_of from old.ends
+pub sends_from : (from to : Address) (message : List ℕ) (result : Done) (old new : Live) (place : ℕ) → Some place ≡ end_place from old.ends
     → At place (SendsBy to message result) old new → SendsFrom from to message result old new
 sends_from from to message result old new place found at =
     let P : Option ℕ → Type 0 = λ o. MatchOption o ((result ≡ done.Ok) × (new.ends ≡ old.ends)) (λ k. At k (SendsBy to message result) old new) in
     subst P found at
 
-pub takes_at : (at : Address) (result : Taken) (room : List ℕ) (old new : Live) (place : ℕ) → Some place ≡ place_of at old.ends
-    → At place (TakesBy result room) old new → TakesAt at result room old new
+pub takes_at : (at : Address) (result : Taken) (room : List ℕ) (old new : Live) (place : ℕ) → Some place ≡ end_place at old.ends
+    → At place (TakesBy result room) old new → TakesHere at result room old new
 takes_at at result room old new place found there =
     let P : Option ℕ → Type 0 = λ o. MatchOption o ((result ≡ taken.Nothing) × (new.ends ≡ old.ends)) (λ k. At k (TakesBy result room) old new) in
     subst P found there
 
-hosted_at : (place : ℕ) (Change : Hosted → Hosted → Type 0) (old new : Live) (there : At place Change old new) → there.after.place ≡ there.before.place
-    → hosted new ≡ hosted old
+hosted_at : (place : ℕ) (Change : SocketEnd → SocketEnd → Type 0) (old new : Live) (there : At place Change old new) → there.after.place ≡ there.before.place
+    → socket_places new ≡ socket_places old
 hosted_at place Change old new there same =
     let before = sym (ap place_at (get_or_from_slice_get old.ends place there.before there.before there.here)) in
-    ap (λ (es : List Hosted). map place_at es) there.others ∙ map-set_same place_at old.ends place there.after there.before (same ∙ before)
+    ap (λ (es : List SocketEnd). map place_at es) there.others ∙ map-set_same place_at old.ends place there.after there.before (same ∙ before)
 
 after_send : (to : Address) (message : List ℕ) (result : Done) (old new : Live) (found : Option ℕ)
-    → MatchOption found ((result ≡ done.Ok) × (new.ends ≡ old.ends)) (λ place. At place (SendsBy to message result) old new) → hosted new ≡ hosted old
-after_send to message result old new None same = ap (λ (es : List Hosted). map place_at es) same.1
+    → MatchOption found ((result ≡ done.Ok) × (new.ends ≡ old.ends)) (λ place. At place (SendsBy to message result) old new) → socket_places new ≡ socket_places old
+after_send to message result old new None same = ap (λ (es : List SocketEnd). map place_at es) same.1
 after_send to message result old new (Some place) there = hosted_at place (SendsBy to message result) old new there there.change.place
 
-pub hosted_after_send : (from to : Address) (message : List ℕ) (result : Done) (old new : Live) → SendsFrom from to message result old new → hosted new ≡ hosted old
-hosted_after_send from to message result old new sends = after_send to message result old new (place_of from old.ends) sends
+pub hosted_after_send : (from to : Address) (message : List ℕ) (result : Done) (old new : Live) → SendsFrom from to message result old new → socket_places new ≡ socket_places old
+hosted_after_send from to message result old new sends = after_send to message result old new (end_place from old.ends) sends
 
 after_take : (result : Taken) (room : List ℕ) (old new : Live) (found : Option ℕ)
-    → MatchOption found ((result ≡ taken.Nothing) × (new.ends ≡ old.ends)) (λ place. At place (TakesBy result room) old new) → hosted new ≡ hosted old
-after_take result room old new None same = ap (λ (es : List Hosted). map place_at es) same.1
+    → MatchOption found ((result ≡ taken.Nothing) × (new.ends ≡ old.ends)) (λ place. At place (TakesBy result room) old new) → socket_places new ≡ socket_places old
+after_take result room old new None same = ap (λ (es : List SocketEnd). map place_at es) same.1
 after_take result room old new (Some place) there = hosted_at place (TakesBy result room) old new there there.change.place
 
-pub hosted_after_take : (at : Address) (result : Taken) (room : List ℕ) (old new : Live) → TakesAt at result room old new → hosted new ≡ hosted old
-hosted_after_take at result room old new takes = after_take result room old new (place_of at old.ends) takes
+pub hosted_after_take : (at : Address) (result : Taken) (room : List ℕ) (old new : Live) → TakesHere at result room old new → socket_places new ≡ socket_places old
+hosted_after_take at result room old new takes = after_take result room old new (end_place at old.ends) takes
 
 opened_place : (protocol : Protocol) (all : List Address) (place : Address) → (opened_as protocol all place).place ≡ place
 opened_place by.Udp all place = refl

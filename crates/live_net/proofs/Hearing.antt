@@ -8,13 +8,13 @@ use Rattle.live_net.specs.declared.intakes.Taking.TheVariants as taking
 use Rattle.live_net.specs.declared.connections.Connection.{Connection}
 use Rattle.live_net.specs.declared.connections.Heard.TheVariants.{Gram, Later, Over}
 use Rattle.live_net.specs.Intakes.{Hands}
-use Rattle.live_net.specs.Connections.{BringsMessage, HandedOut, heard_as, inlet_of}
+use Rattle.live_net.specs.Connections.{BringsMessage, HandedOut, heard_from, inlet_of}
 
 brings_if : (is_over : Bool) (inlet : Arriving) → BringsMessage (if is_over then Over else Later) inlet
 brings_if true inlet = tt
 brings_if false inlet = tt
 
-pub brings : (answer : Taking) (is_over : Bool) (inlet : Arriving) → Hands answer inlet → BringsMessage (heard_as answer is_over) inlet
+pub brings : (answer : Taking) (is_over : Bool) (inlet : Arriving) → Hands answer inlet → BringsMessage (heard_from answer is_over) inlet
 brings (taking.Gram from) is_over inlet hands = hands
 brings taking.NotYet is_over inlet hands = brings_if is_over inlet
 brings taking.Bad is_over inlet hands = tt

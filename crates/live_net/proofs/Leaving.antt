@@ -9,19 +9,19 @@ use Rattle.dcp_net.specs.declared.nets.Done.TheVariants as done
 use Rattle.dcp_types.specs.declared.protocols.Protocol.TheVariants as by
 use Rattle.stream_frame.specs.Greetings.{greeting}
 use Rattle.live_net.specs.declared.departures.Outward.{Outward}
-use Rattle.live_net.specs.Departures.{Wire, wire_waits, leaving_of, with_message, Writes, Flushes, PostsIfAny, Connects, is_lost}
+use Rattle.live_net.specs.Departures.{SendLine, wire_waits, leaving_of, with_message, WritesAs, Flushes, PostsIfAny, Connects, is_lost}
 use Rattle.live_net.specs.Receivers.{SendsAt, Departs, DepartsIf, place_to}
 use Rattle.live_net.specs.Live.{WaitsFor, LeavesAt, LeavesFor, LeavesIf}
 use Rattle.live_net.proofs.Places.{position-map}
 
-left_if : (lost : Bool) (bytes : List ℕ) (before after : Wire) → Writes bytes before after → WaitsFor bytes (wire_waits (if lost then None else Some after))
+left_if : (lost : Bool) (bytes : List ℕ) (before after : SendLine) → WritesAs bytes before after → WaitsFor bytes (wire_waits (if lost then None else Some after))
 left_if true bytes before after w = tt
 left_if false bytes before after w = (w.count, w.rest)
 
-left_of : (bytes : List ℕ) (before : Wire) (now : Option Wire) → Flushes bytes before now → WaitsFor bytes (wire_waits now)
+left_of : (bytes : List ℕ) (before : SendLine) (now : Option SendLine) → Flushes bytes before now → WaitsFor bytes (wire_waits now)
 left_of bytes before now f = rw f.kept (left_if (is_lost f.after) bytes before f.after f.writes)
 
-sent_over : (from to : Address) (message : List ℕ) (link wire now : Option Wire) → Connects from to link wire → PostsIfAny message wire now
+sent_over : (from to : Address) (message : List ℕ) (link wire now : Option SendLine) → Connects from to link wire → PostsIfAny message wire now
     → WaitsFor (with_message (unwrap_or (wire_waits link) (greeting from)) message) (wire_waits now)
 sent_over from to message None None now c p = rw p tt
 sent_over from to message None (Some w) now c p = rw (← c.0) (left_of (with_message w.waits message) w now p)

@@ -33,9 +33,9 @@ MeansTaken taken.Failed answer = FailsOwn answer
 MeansTaken taken.OutOfMemory answer = ⊥
 
 -- a wait fails exactly where the system's does
-abbrev pub is_ready : Waited → Bool
-is_ready waited.Ready = true
-is_ready waited.Failed = false
+abbrev pub means_ready : Waited → Bool
+means_ready waited.Ready = true
+means_ready waited.Failed = false
 
 -- what it means for a network that its sockets were opened, or why they were not
 abbrev pub begun_as : {A : Type 0} → Result A Refused → Done

@@ -20,10 +20,10 @@ known_after known all taking.NotYet = known
 known_after known all taking.Bad = known
 
 -- a connection is over where its stream is, behind its last message, and where it gave a length that no frame has
-abbrev pub heard_as : Taking → Bool → Heard
-heard_as (taking.Gram from) is_over = Gram from
-heard_as taking.NotYet is_over = if is_over then Over else Later
-heard_as taking.Bad is_over = Over
+abbrev pub heard_from : Taking → Bool → Heard
+heard_from (taking.Gram from) is_over = Gram from
+heard_from taking.NotYet is_over = if is_over then Over else Later
+heard_from taking.Bad is_over = Over
 
 -- a message is a frame's, and comes from the sender of the greeting
 abbrev pub BringsMessage : Heard → Arriving → Type 0
@@ -32,15 +32,15 @@ BringsMessage Later inlet = Unit {0}
 BringsMessage Over inlet = Unit {0}
 
 -- a connection was asked for a message
-pub record IsHeard (before asked : Connection) (all : List Address) (heard : Heard) : Type 0 where
+pub record HearsNext (before asked : Connection) (all : List Address) (heard : Heard) : Type 0 where
   pub answer : Taking
   pub hands : Hands answer asked.intake.inlet
   pub known : asked.is_known ≡ known_after before.is_known all answer
-  pub told : heard ≡ heard_as answer asked.intake.source.is_over
+  pub told : heard ≡ heard_from answer asked.intake.source.is_over
 
 -- no more than 32 connections are kept
-abbrev pub is_full : List Connection → Bool
-is_full connections = nat_eq (length connections) 32
+abbrev pub is_crowded : List Connection → Bool
+is_crowded connections = nat_eq (length connections) 32
 
 -- the connection that gives way to another: the oldest that is not known, and where all are known, the oldest
 abbrev pub gives_way : List Connection → ℕ
@@ -48,7 +48,7 @@ gives_way connections = unwrap_or (position (λ c. not c.is_known) connections) 
 
 -- the connections that stay where another comes
 abbrev pub with_room : List Connection → List Connection
-with_room connections = if is_full connections then remove connections (gives_way connections) else connections
+with_room connections = if is_crowded connections then remove connections (gives_way connections) else connections
 
 -- whose turn it is, of so many connections
 abbrev pub turn_of : ℕ → ℕ → ℕ
@@ -67,7 +67,7 @@ pub record Visits (turn : ℕ) (all : List Address) (old new : List Connection) 
   pub asked : Connection
   pub heard : Heard
   pub here : slice_get old turn ≡ Some before
-  pub hears : IsHeard before asked all heard
+  pub hears : HearsNext before asked all heard
   pub heeds : Heeds heard turn asked old new given room
 
 -- a message that one of the connections handed out, from the sender of its greeting

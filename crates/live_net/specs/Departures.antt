@@ -17,10 +17,10 @@ pub record Leaving : Type 0 where
   pub waits : Option (List ℕ)
 
 -- a connection to an end: its stream, and the bytes that wait
-abbrev pub Wire : Type 0
-Wire = LinkOutbox (Stream (Bound TcpStream))
+abbrev pub SendLine : Type 0
+SendLine = LinkOutbox (Stream (Bound TcpStream))
 
-abbrev pub wire_waits : Option Wire → Option (List ℕ)
+abbrev pub wire_waits : Option SendLine → Option (List ℕ)
 wire_waits wire = option_map (λ w. w.waits) wire
 
 abbrev pub leaving_of : Outward → Leaving
@@ -34,39 +34,39 @@ abbrev pub with_message : List ℕ → List ℕ → List ℕ
 with_message waits message = if nat_le (length waits + (4 + length message)) 65536 then waits ++ in_stream message else waits
 
 -- a front of the bytes was written and the rest waits; all of them were written, or a write failed
-pub record Writes (bytes : List ℕ) (before after : Wire) : Type 0 where
+pub record WritesAs (bytes : List ℕ) (before after : SendLine) : Type 0 where
   pub count : ℕ
   pub rest : after.waits ≡ drop count bytes
   pub tried : (after.waits ≡ []) ⊎ Rose before.sink.faults after.sink.faults
 
 -- no byte of those that wait will be written
-abbrev pub is_lost : Wire → Bool
+abbrev pub is_lost : SendLine → Bool
 is_lost wire = nat_lt 0 (length wire.waits) && wire.sink.is_over
 
 -- bytes were to be written over a connection, which is closed exactly where bytes wait that never will be
-pub record Flushes (bytes : List ℕ) (before : Wire) (now : Option Wire) : Type 0 where
-  pub after : Wire
-  pub writes : Writes bytes before after
+pub record Flushes (bytes : List ℕ) (before : SendLine) (now : Option SendLine) : Type 0 where
+  pub after : SendLine
+  pub writes : WritesAs bytes before after
   pub kept : now ≡ (if is_lost after then None else Some after)
 
-abbrev pub FlushesIfAny : Option Wire → Option Wire → Type 0
+abbrev pub FlushesIfAny : Option SendLine → Option SendLine → Type 0
 FlushesIfAny None now = now ≡ None
 FlushesIfAny (Some before) now = Flushes before.waits before now
 
 -- a message was posted on a connection, if there is one
-abbrev pub PostsIfAny : List ℕ → Option Wire → Option Wire → Type 0
+abbrev pub PostsIfAny : List ℕ → Option SendLine → Option SendLine → Type 0
 PostsIfAny message None now = now ≡ None
 PostsIfAny message (Some before) now = Flushes (with_message before.waits message) before now
 
 -- a connection stays; a new one leads to its end, and begins with the greeting of the sender
-abbrev pub Connects : Address → Address → Option Wire → Option Wire → Type 0
+abbrev pub Connects : Address → Address → Option SendLine → Option SendLine → Type 0
 Connects from to None now = MatchOption now ⊤ (λ wire. (wire.waits ≡ greeting from) × (address_in wire.sink.inner.at ≡ Some to))
 Connects from to (Some before) now = now ≡ Some before
 
 -- a message to an end goes over the connection to it, which is begun where there is none
 pub record Sends (from : Address) (message : List ℕ) (old new : Outward) : Type 0 where
   pub to : new.to ≡ old.to
-  pub wire : Option Wire
+  pub wire : Option SendLine
   pub connects : Connects from old.to old.link wire
   pub posts : PostsIfAny message wire new.link
 

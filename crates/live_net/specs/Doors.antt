@@ -23,15 +23,15 @@ MeansKnock knock.Nobody answer = MatchResult answer (λ came. ⊥) (λ error. ¬
 MeansKnock knock.Failed answer = FailsOwn answer
 
 -- a connection that cannot be watched is closed, and nothing else happens; one that can be is the newest, behind those that stay
-abbrev pub Admits : List Connection → List Connection → Option TcpStream → Door → Type 0
-Admits old new None door.Passed = new ≡ old
-Admits old new None door.Nobody = ⊥
-Admits old new None door.Failed = ⊥
-Admits old new None door.OutOfMemory = ⊥
-Admits old new (Some stream) door.Passed = (came : Connection) × (came.intake.source.inner ≡ stream) × (came.is_known ≡ false) × (new ≡ with_room old ++ came ∷ [])
-Admits old new (Some stream) door.Nobody = ⊥
-Admits old new (Some stream) door.Failed = ⊥
-Admits old new (Some stream) door.OutOfMemory = Unit {0}
+abbrev pub LetsIn : List Connection → List Connection → Option TcpStream → Door → Type 0
+LetsIn old new None door.Passed = new ≡ old
+LetsIn old new None door.Nobody = ⊥
+LetsIn old new None door.Failed = ⊥
+LetsIn old new None door.OutOfMemory = ⊥
+LetsIn old new (Some stream) door.Passed = (came : Connection) × (came.intake.source.inner ≡ stream) × (came.is_known ≡ false) × (new ≡ with_room old ++ came ∷ [])
+LetsIn old new (Some stream) door.Nobody = ⊥
+LetsIn old new (Some stream) door.Failed = ⊥
+LetsIn old new (Some stream) door.OutOfMemory = Unit {0}
 
 -- a message that was taken was handed out by a connection, and stands at the front of the room
 abbrev pub Given : Taken → List Arriving → List ℕ → Type 0

@@ -17,34 +17,34 @@ use Rattle.live_net.specs.declared.live_ends.LiveEnd.{LiveEnd}
 use Rattle.live_net.specs.declared.live_ends.LiveEnd.TheVariants.{Udp, Tcp}
 
 -- an end that has a socket: its address, what its connections from others have brought, and what waits on those to others; by UDP it has none
-pub record Hosted : Type 0 where
+pub record SocketEnd : Type 0 where
   pub place : Address
   pub protocol : Protocol
   pub inlets : List Arriving
   pub leaving : List Leaving
 
-abbrev pub hosted_of : LiveEnd → Hosted
-hosted_of (Udp end) = record { place = end.place; protocol = by.Udp; inlets = []; leaving = [] }
-hosted_of (Tcp end) = record { place = end.departures.from; protocol = by.Tcp; inlets = map inlet_of end.arrivals.connections.items; leaving = map leaving_of end.departures.outward.items }
+abbrev pub socket_end : LiveEnd → SocketEnd
+socket_end (Udp end) = record { place = end.place; protocol = by.Udp; inlets = []; leaving = [] }
+socket_end (Tcp end) = record { place = end.departures.from; protocol = by.Tcp; inlets = map inlet_of end.arrivals.connections.items; leaving = map leaving_of end.departures.outward.items }
 
 -- a network: the ends that have a socket, and how often it has failed
 pub record Live : Type 0 where
-  pub ends : List Hosted
+  pub ends : List SocketEnd
   pub faults : ℕ
 
 -- the addresses that have a socket of their own
-abbrev pub hosted : Live → List Address
-hosted live = map (λ e. e.place) live.ends
+abbrev pub socket_places : Live → List Address
+socket_places live = map (λ e. e.place) live.ends
 
 -- the place of an end among those that have a socket
-abbrev pub place_of : Address → List Hosted → Option ℕ
-place_of at ends = position (λ e. same_address e.place at) ends
+abbrev pub end_place : Address → List SocketEnd → Option ℕ
+end_place at ends = position (λ e. same_address e.place at) ends
 
 abbrev pub has_socket : Live → Address → Bool
-has_socket live at = is_some (place_of at live.ends)
+has_socket live at = is_some (end_place at live.ends)
 
 -- an end as it is opened: it may send to each of `all`
-abbrev pub opened_as : Protocol → List Address → Address → Hosted
+abbrev pub opened_as : Protocol → List Address → Address → SocketEnd
 opened_as by.Udp all place = record { place = place; protocol = by.Udp; inlets = []; leaving = [] }
 opened_as by.Tcp all place = record { place = place; protocol = by.Tcp; inlets = []; leaving = map unconnected all }
 
@@ -74,7 +74,7 @@ LeavesIf done.Failed protocol from to message old new = new ≡ old
 LeavesIf done.OutOfMemory protocol from to message old new = new ≡ old
 
 -- what a send does to its end
-pub record SendsBy (to : Address) (message : List ℕ) (result : Done) (old new : Hosted) : Type 0 where
+pub record SendsBy (to : Address) (message : List ℕ) (result : Done) (old new : SocketEnd) : Type 0 where
   pub place : new.place ≡ old.place
   pub protocol : new.protocol ≡ old.protocol
   pub inlets : new.inlets ≡ old.inlets
@@ -86,23 +86,23 @@ GivenBy by.Udp taken inlets room = Unit {0}
 GivenBy by.Tcp taken inlets room = Given taken inlets room
 
 -- what a take does to its end
-pub record TakesBy (result : Taken) (room : List ℕ) (old new : Hosted) : Type 0 where
+pub record TakesBy (result : Taken) (room : List ℕ) (old new : SocketEnd) : Type 0 where
   pub place : new.place ≡ old.place
   pub protocol : new.protocol ≡ old.protocol
   pub given : GivenBy old.protocol result new.inlets room
 
 -- what happened was at one of the ends, and the others stayed as they were
-pub record At (place : ℕ) (Change : Hosted → Hosted → Type 0) (old new : Live) : Type 0 where
-  pub before : Hosted
-  pub after : Hosted
+pub record At (place : ℕ) (Change : SocketEnd → SocketEnd → Type 0) (old new : Live) : Type 0 where
+  pub before : SocketEnd
+  pub after : SocketEnd
   pub here : slice_get old.ends place ≡ Some before
   pub change : Change before after
   pub others : new.ends ≡ slice_set old.ends place after
 
 -- the end at an address has the message to send, if there is one
 abbrev pub SendsFrom : Address → Address → List ℕ → Done → Live → Live → Type 0
-SendsFrom from to message result old new = MatchOption (place_of from old.ends) ((result ≡ done.Ok) × (new.ends ≡ old.ends)) (λ place. At place (SendsBy to message result) old new)
+SendsFrom from to message result old new = MatchOption (end_place from old.ends) ((result ≡ done.Ok) × (new.ends ≡ old.ends)) (λ place. At place (SendsBy to message result) old new)
 
 -- the end at an address is asked for a message, if there is one
-abbrev pub TakesAt : Address → Taken → List ℕ → Live → Live → Type 0
-TakesAt at result room old new = MatchOption (place_of at old.ends) ((result ≡ taken.Nothing) × (new.ends ≡ old.ends)) (λ place. At place (TakesBy result room) old new)
+abbrev pub TakesHere : Address → Taken → List ℕ → Live → Live → Type 0
+TakesHere at result room old new = MatchOption (end_place at old.ends) ((result ≡ taken.Nothing) × (new.ends ≡ old.ends)) (λ place. At place (TakesBy result room) old new)

@@ -1,7 +1,7 @@
 //! What the answers of the system mean.
 
 ghost use Rattle.std.specs.Prelude.{◌≡◌, is_ok};
-ghost use Rattle.live_net.specs.Answers.{MeansSent, MeansTaken, begun_as, is_ready};
+ghost use Rattle.live_net.specs.Answers.{MeansSent, MeansTaken, begun_as, means_ready};
 
 use crate::addresses::address_of;
 use crate::failures::is_own;
@@ -48,7 +48,7 @@ pub(crate) fn taken_of(answer: &io::Result<(usize, SocketAddr)>) -> Taken
 
 /// What the answer to a wait means.
 pub(crate) fn waited_of(answer: &io::Result<()>) -> Waited
-    ensures { is_ready result ≡ is_ok answer.now }
+    ensures { means_ready result ≡ is_ok answer.now }
 {
     match answer {
         Ok(()) => Waited::Ready,

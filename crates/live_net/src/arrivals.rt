@@ -4,8 +4,8 @@ ghost use Rattle.std.specs.Prelude.{◌≡◌, ◌<◌, ◌≤◌, ◌++◌, ◌
 ghost use Rattle.std.specs.declared.net.socket_addr.SocketAddr.{SocketAddr};
 ghost use Rattle.dcp_net.specs.Nets.{IsWithinRoom};
 ghost use Rattle.live_net.specs.Addresses.{address_in};
-ghost use Rattle.live_net.specs.Connections.{HandedOut, Visits, gives_way, inlet_of, is_full, turn_of, with_room};
-ghost use Rattle.live_net.specs.Doors.{Admits, Given, MeansKnock};
+ghost use Rattle.live_net.specs.Connections.{HandedOut, Visits, gives_way, inlet_of, is_crowded, turn_of, with_room};
+ghost use Rattle.live_net.specs.Doors.{LetsIn, Given, MeansKnock};
 ghost use Rattle.live_net.specs.declared.connections.Connection.{Connection};
 
 use crate::addresses::socket_of;
@@ -129,7 +129,7 @@ impl Arrivals {
 
     /// Keeps a connection that the system watches. One that it does not watch is closed.
     fn admit(&mut self, alloc: Global, watched: Option<TcpStream>) -> Door
-        ensures { Admits self.old.connections.items self.new.connections.items watched result }
+        ensures { LetsIn self.old.connections.items self.new.connections.items watched result }
     {
         match watched {
             None => Door::Passed,
@@ -164,7 +164,7 @@ impl Arrivals {
 
     /// Whether as many connections are kept as may be.
     fn is_full(&self) -> bool
-        ensures { result ≡ is_full self.now.connections.items }
+        ensures { result ≡ is_crowded self.now.connections.items }
     {
         self.connections.len() == MOST_INWARD
     }

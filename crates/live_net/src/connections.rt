@@ -1,7 +1,7 @@
 //! One connection from some sender.
 
 ghost use Rattle.std.specs.Prelude.{◌≡◌, false, not, IfOk};
-ghost use Rattle.live_net.specs.Connections.{BringsMessage, IsHeard, heard_as, known_after};
+ghost use Rattle.live_net.specs.Connections.{BringsMessage, HearsNext, heard_from, known_after};
 
 use crate::intakes::{Intake, Taking};
 use crate::streams::Stream;
@@ -49,7 +49,7 @@ impl Connection {
 
     /// Asks for the next message. `all` are the ends.
     pub(crate) fn hear(&mut self, all: &[Address]) -> Heard
-        ensures hears { IsHeard self.old self.new all.now result }
+        ensures hears { HearsNext self.old self.new all.now result }
         ensures message { BringsMessage result self.new.intake.inlet }
     {
         let taking = self.intake.next();
@@ -78,7 +78,7 @@ fn is_known_after(is_known: bool, all: &[Address], taking: Taking) -> bool
 
 /// What a connection answered whose stream is over or not.
 fn heard_of(taking: Taking, is_over: bool) -> Heard
-    ensures { result ≡ heard_as taking is_over }
+    ensures { result ≡ heard_from taking is_over }
 {
     match taking {
         Taking::Gram { from } => Heard::Gram { from },

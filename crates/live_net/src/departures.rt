@@ -1,7 +1,7 @@
 //! What one end sends over TCP: a connection to each end that it has sent to.
 
 ghost use Rattle.std.specs.Prelude.{◌≡◌, ◌≤◌, ◌&&◌, nat_lt, None, drop, map, length, IfOk, OnErr, MatchOption};
-ghost use Rattle.live_net.specs.Departures.{Connects, Flushes, FlushesAll, FlushesIfAny, FlushesOutward, PostsIfAny, Sends, Writes, is_lost, leaving_of, unconnected};
+ghost use Rattle.live_net.specs.Departures.{Connects, Flushes, FlushesAll, FlushesIfAny, FlushesOutward, PostsIfAny, Sends, WritesAs, is_lost, leaving_of, unconnected};
 ghost use Rattle.live_net.specs.Receivers.{Departs, place_to};
 
 use crate::addresses::socket_of;
@@ -174,7 +174,7 @@ fn flush_all(connections: &mut [Outward])
 /// Writes what waits, and says whether bytes wait that never will be written.
 fn is_lost(link: &mut Link<Stream<Bound<TcpStream>>>) -> bool
     ensures lost { result ≡ is_lost link.new }
-    ensures writes { Writes link.old.waits link.old link.new }
+    ensures writes { WritesAs link.old.waits link.old link.new }
 {
     link.is_waiting() && link.flush() == Flushed::Failed && link.sink().is_over()
 }

@@ -2,7 +2,7 @@
 
 ghost use Rattle.std.specs.Prelude.{◌≡◌, ◌≤◌, length, IfOk, IfErr};
 ghost use Rattle.dcp_net.specs.Nets.{IsWithinRoom};
-ghost use Rattle.live_net.specs.Live.{SendsBy, TakesBy, hosted_of, opened_as};
+ghost use Rattle.live_net.specs.Live.{SendsBy, TakesBy, socket_end, opened_as};
 
 use crate::datagrams::UdpEnd;
 use crate::refusals::Refused;
@@ -30,7 +30,7 @@ impl LiveEnd {
         place: Address,
         all: &[Address],
     ) -> Result<LiveEnd, Refused>
-        ensures opened { IfOk result (λ end. hosted_of end ≡ opened_as protocol all.now place) }
+        ensures opened { IfOk result (λ end. socket_end end ≡ opened_as protocol all.now place) }
         ensures refused { protocol ≡ Protocol.Udp → IfErr result (λ refused. refused ≡ Refused.System) }
     {
         match protocol {
@@ -44,7 +44,7 @@ impl LiveEnd {
 
     /// Where it is.
     pub(crate) fn place(&self) -> Address
-        ensures { result ≡ (hosted_of self.now).place }
+        ensures { result ≡ (socket_end self.now).place }
     {
         match self {
             LiveEnd::Udp(end) => end.place(),
@@ -63,7 +63,7 @@ impl LiveEnd {
     ) -> Done
         requires low { 1 ≤ length bytes.now }
         requires high { length bytes.now ≤ 1024 }
-        ensures { SendsBy to bytes.now result (hosted_of self.old) (hosted_of self.new) }
+        ensures { SendsBy to bytes.now result (socket_end self.old) (socket_end self.new) }
     {
         match self {
             LiveEnd::Udp(end) => end.send(to, bytes),
@@ -79,7 +79,7 @@ impl LiveEnd {
         all: &[Address],
         room: &mut [u8; 1025],
     ) -> Taken
-        ensures takes { TakesBy result room.new (hosted_of self.old) (hosted_of self.new) }
+        ensures takes { TakesBy result room.new (socket_end self.old) (socket_end self.new) }
         ensures len { IsWithinRoom result }
     {
         match self {

@@ -4,7 +4,7 @@ ghost use Rattle.std.specs.Prelude.{◌≡◌, ◌≢◌, ◌≤◌, ◌<◌, �
 ghost use Rattle.dcp_io.specs.Faults.{one_more};
 ghost use Rattle.dcp_ends.specs.Logs.{same_address};
 ghost use Rattle.dcp_net.specs.Nets.{HasCause, IsWithinRoom};
-ghost use Rattle.live_net.specs.Live.{SendsFrom, TakesAt, has_socket, hosted, hosted_of, opened_as, place_of};
+ghost use Rattle.live_net.specs.Live.{SendsFrom, TakesHere, has_socket, socket_places, socket_end, opened_as, end_place};
 
 use crate::answers::begun_of;
 use crate::live_ends::LiveEnd;
@@ -33,11 +33,11 @@ pub struct LiveNet<H: net::Net + Clone + Drop> {
 
 impl<H: net::Net + Clone + Drop> Model for LiveNet<H> {
     ghost use Rattle.std.specs.Prelude.{map};
-    ghost use Rattle.live_net.specs.Live.{Live, hosted_of};
+    ghost use Rattle.live_net.specs.Live.{Live, socket_end};
 
     ghost Value = { Live };
 
-    ghost view = { λ s. record { ends = map hosted_of s.ends.items; faults = s.faults } };
+    ghost view = { λ s. record { ends = map socket_end s.ends.items; faults = s.faults } };
 }
 
 impl<H: net::Net + Clone + Drop> LiveNet<H> {
@@ -80,7 +80,7 @@ impl<H: net::Net + Clone + Drop> LiveNet<H> {
 
     /// The place of the hosted end at this address.
     fn find(&self, at: Address) -> Option<usize>
-        ensures place { result ≡ place_of at self.now.ends }
+        ensures place { result ≡ end_place at self.now.ends }
         ensures within { IfSome result (λ i. i < length self.now.ends) }
     {
         place_in(&self.ends, at)
@@ -101,7 +101,7 @@ impl<H: net::Net + Clone + Drop> LiveNet<H> {
 
     /// Takes by the socket of this end, where it has one.
     fn take_at(&mut self, at: Address, room: &mut [u8; 1025]) -> Taken
-        ensures takes { TakesAt at result room.new self.old self.new }
+        ensures takes { TakesHere at result room.new self.old self.new }
         ensures faults { self.new.faults ≡ self.old.faults }
         ensures len { IsWithinRoom result }
     {
@@ -114,7 +114,7 @@ impl<H: net::Net + Clone + Drop> LiveNet<H> {
 
 /// The place among these of the end at this address.
 fn place_in(ends: &[LiveEnd], at: Address) -> Option<usize>
-    ensures place { result ≡ position (λ e. same_address (hosted_of e).place at) ends.now }
+    ensures place { result ≡ position (λ e. same_address (socket_end e).place at) ends.now }
     ensures within { IfSome result (λ i. i < length ends.now) }
 {
     ends.iter().position(|end| end.place() == at)
@@ -129,7 +129,7 @@ fn open_all<H: net::Net>(
     places: &[Address],
     all: &[Address],
 ) -> Result<Vec<LiveEnd>, Refused>
-    ensures { IfOk result (λ ends. map hosted_of ends.items ≡ map (opened_as protocol all.now) places.now) }
+    ensures { IfOk result (λ ends. map socket_end ends.items ≡ map (opened_as protocol all.now) places.now) }
 {
     let mut ends = Vec::new(alloc);
     for place in places {
@@ -158,7 +158,7 @@ impl<H: net::Net + Clone + Drop> Net for LiveNet<H> {
         ensures plan { result ≡ Done.Ok → ⊤ }
         ensures cause { HasCause self.old.faults self.new.faults (result ≡ Done.Failed) }
         ensures once { result ≡ Done.Failed → self.new.faults ≡ one_more self.old.faults }
-        ensures hosted { result ≡ Done.Ok → hosted self.new ≡ plan.now.ends }
+        ensures hosted { result ≡ Done.Ok → socket_places self.new ≡ plan.now.ends }
         ensures ends { result ≡ Done.Ok → self.new.ends ≡ map (opened_as plan.now.protocol plan.now.all) plan.now.ends }
         ensures closed { result ≢ Done.Ok → self.new.ends ≡ [] }
     {
@@ -179,7 +179,7 @@ impl<H: net::Net + Clone + Drop> Net for LiveNet<H> {
         ensures opening { Unit {0} }
         ensures cause { HasCause self.old.faults self.new.faults (result ≡ Done.Failed) }
         ensures once { result ≡ Done.Failed → self.new.faults ≡ one_more self.old.faults }
-        ensures hosted { hosted self.new ≡ hosted self.old }
+        ensures hosted { socket_places self.new ≡ socket_places self.old }
         ensures elsewhere { has_socket self.old from ≡ false → result ≡ Done.Ok }
         ensures sends { SendsFrom from to bytes.now result self.old self.new }
     {
@@ -199,9 +199,9 @@ impl<H: net::Net + Clone + Drop> Net for LiveNet<H> {
         ensures opening { Unit {0} }
         ensures cause { HasCause self.old.faults self.new.faults (result ≡ Taken.Failed) }
         ensures once { result ≡ Taken.Failed → self.new.faults ≡ one_more self.old.faults }
-        ensures hosted { hosted self.new ≡ hosted self.old }
+        ensures hosted { socket_places self.new ≡ socket_places self.old }
         ensures elsewhere { has_socket self.old at ≡ false → result ≡ Taken.Nothing }
-        ensures takes { TakesAt at result room.new self.old self.new }
+        ensures takes { TakesHere at result room.new self.old self.new }
     {
         let taken = self.take_at(at, room);
         if taken == Taken::Failed {
