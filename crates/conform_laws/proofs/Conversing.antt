@@ -1,5 +1,5 @@
 -- What is known of the conversation of a slave whose model is not known, at each entry of an honest log.
-use Rattle.std.proofs.Common.{◌≡◌, ℕ, ◌+◌, ◌%◌, Bool, true, if◌then◌else◌, ◌⊎◌, inl, inr, Option, Some, None, List, [], ◌∷◌, ◌++◌, map, length, refl, sym, ap, ◌∙◌, subst, arith}
+use Rattle.std.proofs.Common.{◌≡◌, ℕ, ◌+◌, ◌%◌, ◌≤◌, Bool, true, if◌then◌else◌, ◌⊎◌, inl, inr, Option, Some, None, List, [], ◌∷◌, ◌++◌, map, length, refl, sym, ap, ◌∙◌, subst, arith}
 use Rattle.std.specs.Prelude.{◌&&◌}
 use Rattle.std.specs.List.{cons_option}
 use Rattle.std.proofs.lemmas.Bool.{cond-true}
@@ -49,6 +49,10 @@ asked_by_master w [] log from to bytes receiver n h r = by h.0
 never_closed : (n : Note) (rs taken : List Note) (ds before : List DecidedRequest) → rs ≡ n ∷ taken → length taken ≡ length before → Behind ds before → length ds ≡ length rs → ⊥
 never_closed n rs taken ds before is many (inl e) closed = omega (arith, ap length is, many, ap length e, closed)
 never_closed n rs taken ds before is many (inr p) closed = omega (arith, ap length is, many, ap length p.1, closed)
+
+-- no more is decided than was asked
+few_decided : (rs : List Note) (ds served : List DecidedRequest) → length (requests_of served) ≡ length served → Behind (requests_of served) rs → Behind ds served → length ds ≤ length rs
+few_decided rs ds served l p q = grind arith
 
 module _ (w : Parties) (rd : ReadsMessages w) (agree : (bytes : List ℕ) → Agree (role_heard w bytes) (spec.heard bytes)) (s : ℕ) (d : SlaveDesc) where
   -- the network and the master do at an entry what they may
@@ -243,3 +247,9 @@ module _ (w : Parties) (rd : ReadsMessages w) (agree : (bytes : List ℕ) → Ag
       by : Behind (decided_exchanges w s log) m.before → (later : List DecidedRequest) × (es ≡ later ++ decided_exchanges w s log)
       by (inl e) = (m.newest ∷ [], m.is ∙ ap (λ z. m.newest ∷ z) (sym e))
       by (inr p) = (m.newest ∷ (p.0 ∷ []), m.is ∙ ap (λ z. m.newest ∷ z) p.1)
+
+  -- the requests are numbered in order, and all but one are decided at least
+  pub is_ordered : (log : List LogEntry) (x : ForeignState) (es : List DecidedRequest) (owed : List Send) → Converse log x es owed
+      → IsRegularChannel (sends_in w (Requests s) log) × (length (decided_exchanges w s log) ≤ length (requests_sent w s log)) × (length (requests_sent w s log) ≤ length (decided_exchanges w s log) + 1)
+  is_ordered log x es owed (inl t) = (t.known.requests, few_decided (requests_sent w s log) (decided_exchanges w s log) es (taken_length es) t.known.talk.taken t.known.talk.decided, t.known.talk.asked)
+  is_ordered log x es owed (inr m) = (m.known.requests, few_decided (requests_sent w s log) (decided_exchanges w s log) m.before (taken_length m.before) m.known.talk.taken m.known.talk.decided, m.known.talk.asked)

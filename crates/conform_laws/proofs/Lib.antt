@@ -14,3 +14,4 @@ pub mod Conversing
 pub mod Serving
 pub mod Once
 pub mod Behind
+pub mod Decided

@@ -1,5 +1,5 @@
 -- What a slave whose model is not known has taken in a run is once and in order.
-use Rattle.std.proofs.Common.{◌≡◌, ℕ, Bool, true, false, if◌then◌else◌, ◌⊎◌, inl, inr, List, [], ◌∷◌, ◌++◌, map, reverse, refl, sym, ap, ◌∙◌, subst}
+use Rattle.std.proofs.Common.{◌≡◌, ℕ, Bool, true, false, if◌then◌else◌, ◌⊎◌, inl, inr, List, [], ◌∷◌, ◌++◌, map, reverse, refl, sym, ap, ◌∙◌, subst, Some, append_assoc}
 use Rattle.std.proofs.lemmas.List.{reverse-append, reverse-reverse}
 use Rattle.dcp_types.specs.declared.addresses.Address.{Address}
 use Rattle.dcp_ends.specs.declared.entries.LogEntry.{LogEntry}
@@ -7,6 +7,8 @@ use Rattle.dcp_ends.specs.declared.entries.LogEntry.TheVariants.{Sent, Got, Idle
 use Rattle.dcp_ends.specs.Events.{Gram, Tick, Send}
 use Rattle.dcp_ends.specs.Logs.{same_address, sent_by}
 use Rattle.log_spec.specs.Log.{Parties, IsSlaveOf, IsEnd, IsAtEnd, AreAtEnds, DecidedRequest}
+use Rattle.log_spec.specs.Channel.{at_ordinal}
+use Rattle.log_spec.specs.Moves.{decided_exchanges}
 use Rattle.log_spec.specs.Honest.{HonestNewest}
 use Rattle.log_spec.proofs.Turned.{honest_newest}
 use Rattle.lockstep_laws.specs.Slaves.{AskNothing}
@@ -29,9 +31,10 @@ use Rattle.slave_laws.proofs.Talk.Agreeing.{readings_agree}
 use Rattle.foreign_spec.specs.Foreign.{ForeignState, foreign_fresh}
 use Rattle.foreign_spec.specs.Allowed.{end_of_entry, entries_of, Piece, Rests, Acts, cut_entries, AreAllowed, Allowed}
 use Rattle.foreign_spec.proofs.Walking.{same_self}
-use Rattle.conform_laws.specs.Serving.{AsksNothing, OthersAskNothing, IsRunWith, taken_so_far, AtEachMoment, TakenOnce, DecidedAsTaken, AllowedAskNothing}
+use Rattle.conform_laws.specs.Serving.{AsksNothing, OthersAskNothing, IsRunWith, taken_so_far, AtEachMoment, TakenOnce, DecidedAsTaken, DecidedAsGiven, AllowedAskNothing}
 use Rattle.conform_laws.proofs.Asides.{sends_ask_nothing}
-use Rattle.conform_laws.proofs.Conversing.{taken_in_order, decided_as_taken}
+use Rattle.conform_laws.proofs.Conversing.{taken_in_order, decided_as_taken, is_ordered}
+use Rattle.conform_laws.proofs.Decided.{stands_behind, IsOrdered, AllOrdered, decided_by}
 use Rattle.conform_laws.proofs.Serving.{At, AllFair, reach, has_taken}
 
 -- ---- parts of a log
@@ -107,11 +110,32 @@ module _ (sc : Scenario) (other : SlaveDesc) (ok : IsScenario sc) where
         let P : List DecidedRequest → Type 0 = λ es. DecidedAsTaken sc other s es sofar in
         subst P (sym (is_taken later sofar e)) (decided_as_taken w (λ b. refl) readings_agree s d sofar a.x a.es a.owed a.converse)
 
+    -- in between the requests are numbered in order, and all but one are decided at least
+    ordered_at : (later sofar : List LogEntry) → reverse log ≡ later ++ sofar → IsOrdered w s run.slave (has_parties sc other ok message_in).apart sofar
+    ordered_at later sofar e =
+        let a = stands_at later sofar e in
+        let k = is_ordered w (λ b. refl) readings_agree s d sofar a.x a.es a.owed a.converse in
+        record { regular = k.0; most = k.1; least = k.2 }
+
+    all_ordered : (later sofar : List LogEntry) → reverse log ≡ later ++ sofar → AllOrdered w s run.slave (has_parties sc other ok message_in).apart sofar
+    all_ordered later [] e = tt
+    all_ordered later (x ∷ sofar) e = let f = e ∙ sym (append_assoc later (x ∷ []) sofar) in (ordered_at (later ++ x ∷ []) sofar f, all_ordered (later ++ x ∷ []) sofar f)
+
+    as_given : (later sofar : List LogEntry) → reverse log ≡ later ++ sofar → DecidedAsGiven sc other s (taken_so_far sc other s log run sofar) sofar
+    as_given later sofar e o a h =
+        let z = decided_by w s run.slave (has_parties sc other ok message_in).apart sofar (all_ordered later sofar e) o a h in
+        let t = as_taken later sofar e in
+        let P : List DecidedRequest → Type 0 = λ l. at_ordinal l o ≡ Some z.0 in
+        (z.0, subst P (sym t.1) (stands_behind t.0 (decided_exchanges w s sofar) o z.0 z.1), z.2)
+
 pub taken_once : AtEachMoment TakenOnce
 taken_once sc other ok s log run later sofar e = once sc other ok s log run later sofar e
 
 pub decided_so : AtEachMoment DecidedAsTaken
 decided_so sc other ok s log run later sofar e = as_taken sc other ok s log run later sofar e
+
+pub given_so : AtEachMoment DecidedAsGiven
+given_so sc other ok s log run later sofar e = as_given sc other ok s log run later sofar e
 
 -- ---- allowed slaves ask nothing
 

@@ -1,13 +1,15 @@
 -- What a slave whose model is not known has taken in a run. The log has its oldest entry first, what was so far its newest.
-use Rattle.std.specs.Prelude.{◌≡◌, ℕ, ◌⊎◌, List, [], ◌∷◌, ◌++◌, map, reverse, length}
+use Rattle.std.specs.Prelude.{◌≡◌, ℕ, ◌⊎◌, Some, List, [], ◌∷◌, ◌++◌, map, reverse, length}
 use Rattle.dcp_ends.specs.declared.entries.LogEntry.{LogEntry}
 use Rattle.dcp_ends.specs.declared.entries.LogEntry.TheVariants.{Sent, Got, Idle, Turn}
 use Rattle.dcp_ends.specs.Logs.{events_at}
 use Rattle.log_spec.specs.Messages.{Note}
+use Rattle.log_spec.specs.Channel.{at_ordinal}
 use Rattle.log_spec.specs.Log.{Parties, IsSlaveOf, AreAtEnds, DecidedRequest, role_heard, requests_sent}
 use Rattle.log_spec.specs.Moves.{decided_exchanges}
 use Rattle.log_spec.specs.Oldest.{Honest}
 use Rattle.lockstep_laws.specs.Slaves.{IsNoRequest}
+use Rattle.lockstep_laws.specs.Deciding.{IsDeciding}
 use Rattle.lockstep_laws.specs.Models.Scenarios.{slave_numbered}
 use Rattle.slave_desc.specs.declared.descriptions.SlaveDesc.{SlaveDesc}
 use Rattle.scenario.specs.declared.scenarios.Scenario.{Scenario}
@@ -52,6 +54,10 @@ TakenOnce sc other s served sofar = (later : List Note) × (requests_sent (parti
 -- what is decided is what was taken, but for some later exchanges
 abbrev pub DecidedAsTaken : (sc : Scenario) (other : SlaveDesc) (s : ℕ) → List DecidedRequest → List LogEntry → Type 0
 DecidedAsTaken sc other s served sofar = (later : List DecidedRequest) × (served ≡ later ++ decided_exchanges (parties sc other) s sofar)
+
+-- the deciding answer of a request is the one that the slave gave when it took the request with this ordinal
+abbrev pub DecidedAsGiven : (sc : Scenario) (other : SlaveDesc) (s : ℕ) → List DecidedRequest → List LogEntry → Type 0
+DecidedAsGiven sc other s served sofar = (o : ℕ) (a : Note) → IsDeciding (parties sc other) s o a sofar → (e : DecidedRequest) × (at_ordinal served o ≡ Some e) × (e.answer ≡ a)
 
 -- an allowed slave is one of those that ask nothing
 abbrev pub AllowedAskNothing : Type 0

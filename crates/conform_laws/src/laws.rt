@@ -1,8 +1,8 @@
-//! What holds of the logs of own slaves.
+//! What holds of the logs of own slaves, and of what allowed slaves have taken.
 
 ghost use Rattle.conform_laws.specs.Laws.{CutRunsAreAllowed, HostFrontsAreAllowed, HostLogsAreAllowed, RoundsAreCut};
 ghost use Rattle.conform_laws.specs.Served.{AnswersStandBehind};
-ghost use Rattle.conform_laws.specs.Serving.{AllowedAskNothing, AtEachMoment, DecidedAsTaken, TakenOnce};
+ghost use Rattle.conform_laws.specs.Serving.{AllowedAskNothing, AtEachMoment, DecidedAsGiven, DecidedAsTaken, TakenOnce};
 
 /// In a log of whole rounds the sends of each end stand right behind the events at which they were sent.
 pub fn rounds_are_cut()
@@ -32,7 +32,8 @@ pub fn allowed_take_once_and_in_order()
 
 /// What decides a request is the answer that the allowed slave gave when it took that request.
 pub fn decided_as_allowed_gave()
-    ensures { AtEachMoment DecidedAsTaken }
+    ensures deciding { AtEachMoment DecidedAsGiven }
+    ensures taken { AtEachMoment DecidedAsTaken }
 {}
 
 /// That answer is the first that the slave sent behind the request.
