@@ -1,6 +1,6 @@
 -- What a slave whose model is not known has taken in a run is once and in order.
 use Rattle.std.proofs.Common.{◌≡◌, ℕ, Bool, true, false, if◌then◌else◌, ◌⊎◌, inl, inr, List, [], ◌∷◌, ◌++◌, map, reverse, refl, sym, ap, ◌∙◌, subst, Some, append_assoc}
-use Rattle.std.proofs.lemmas.List.{reverse-append, reverse-reverse}
+use Rattle.std.proofs.lemmas.List.{append-nil, reverse-append, reverse-reverse}
 use Rattle.dcp_types.specs.declared.addresses.Address.{Address}
 use Rattle.dcp_ends.specs.declared.entries.LogEntry.{LogEntry}
 use Rattle.dcp_ends.specs.declared.entries.LogEntry.TheVariants.{Sent, Got, Idle, Turn}
@@ -23,15 +23,20 @@ use Rattle.master_log_laws.specs.Index.Runs.{IsRun}
 use Rattle.master_log_laws.proofs.Index.ByEntry.{entry_by_entry}
 use Rattle.master_log_laws.proofs.Scenarios.Heard.{setups_heard}
 use Rattle.master_laws.proofs.Meets.Asking as asking
-use Rattle.run_laws.specs.Laws.{parties}
+use Rattle.run_laws.specs.Laws.{parties, slave_setup_of, rules_of_slaves}
 use Rattle.run_laws.proofs.Runs.{party, are_parties}
+use Rattle.run_laws.proofs.Rounded.{rounds_are_runs}
+use Rattle.master_spec.specs.Rules.{master_rules}
+use Rattle.slave_spec.specs.Slaves.{slave_rules_from}
+use Rattle.conform_laws.proofs.Cutting.{rounds_cut}
+use Rattle.conform_laws.proofs.Following.{cut_allowed}
 use Rattle.slave_laws.specs.Talk.Desks.{post}
 use Rattle.slave_laws.specs.Talk.Sends.{ReadsMessages}
 use Rattle.slave_laws.proofs.Talk.Agreeing.{readings_agree}
 use Rattle.foreign_spec.specs.Foreign.{ForeignState, foreign_fresh}
-use Rattle.foreign_spec.specs.Allowed.{end_of_entry, entries_of, Piece, Rests, Acts, cut_entries, AreAllowed, Allowed}
+use Rattle.foreign_spec.specs.Allowed.{end_of_entry, entries_of, Piece, Rests, Acts, cut_entries, AreAllowed, Allowed, IsAllowedFront}
 use Rattle.foreign_spec.proofs.Walking.{same_self}
-use Rattle.conform_laws.specs.Serving.{AsksNothing, OthersAskNothing, IsRunWith, taken_so_far, AtEachMoment, TakenOnce, DecidedAsTaken, DecidedAsGiven, AllowedAskNothing}
+use Rattle.conform_laws.specs.Serving.{AsksNothing, OthersAskNothing, IsRunWith, taken_so_far, AtEachMoment, TakenOnce, DecidedAsTaken, DecidedAsGiven, AllowedAskNothing, HostRunsAreSuch}
 use Rattle.conform_laws.proofs.Asides.{sends_ask_nothing}
 use Rattle.conform_laws.proofs.Conversing.{taken_in_order, decided_as_taken, is_ordered}
 use Rattle.conform_laws.proofs.Decided.{stands_behind, IsOrdered, AllOrdered, decided_by}
@@ -72,31 +77,36 @@ module _ (sc : Scenario) (other : SlaveDesc) (ok : IsScenario sc) where
     d = slave_numbered sc other s
 
     abbrev Stands : List LogEntry → List LogEntry → Type 0
-    Stands rest sofar = At (parties sc other) (λ b. refl) readings_agree s run.slave (has_parties sc other ok message_in).apart (slave_numbered sc other s) refl run.allowed.pieces run.allowed.allowed rest sofar
+    Stands rest sofar = At (parties sc other) (λ b. refl) readings_agree s run.slave (has_parties sc other ok message_in).apart (slave_numbered sc other s) refl ((run.allowed).1).pieces ((run.allowed).1).allowed rest sofar
 
     all_fair : (sofar : List LogEntry) → HonestNewest w sofar → IsRun (setup_from sc) sofar
-        → AllFair (parties sc other) (λ b. refl) readings_agree s run.slave (has_parties sc other ok message_in).apart (slave_numbered sc other s) refl run.allowed.pieces run.allowed.allowed sofar
+        → AllFair (parties sc other) (λ b. refl) readings_agree s run.slave (has_parties sc other ok message_in).apart (slave_numbered sc other s) refl ((run.allowed).1).pieces ((run.allowed).1).allowed sofar
     all_fair [] h k = tt
     all_fair (e ∷ sofar) h k =
         (record { honest = h.0; asks = asking.may_ask (setup_from sc) (setups_heard sc ok).heard w (are_parties sc other ok) s run.slave (slave_of sc s (slave_numbered sc other s)) (party sc other ok s run.slave) e sofar k }, all_fair sofar h.1 k.1)
 
-    turned : (later sofar : List LogEntry) → reverse log ≡ later ++ sofar → log ≡ reverse sofar ++ reverse later
-    turned later sofar e = sym (reverse-reverse log) ∙ ap reverse e ∙ reverse-append later sofar
+    -- what comes later in the log, and what the slave still had to send then
+    abbrev rest_of : List LogEntry → List LogEntry
+    rest_of later = reverse later ++ (run.allowed).0
+
+    turned : (later sofar : List LogEntry) → reverse log ≡ later ++ sofar → log ++ (run.allowed).0 ≡ reverse sofar ++ rest_of later
+    turned later sofar e =
+        ap (λ (l : List LogEntry). l ++ (run.allowed).0) (sym (reverse-reverse log) ∙ ap reverse e ∙ reverse-append later sofar) ∙ append_assoc (reverse sofar) (reverse later) (run.allowed).0
 
     -- how the slave stands at a moment
-    stands_at : (later sofar : List LogEntry) → reverse log ≡ later ++ sofar → Stands (reverse later) sofar
+    stands_at : (later sofar : List LogEntry) → reverse log ≡ later ++ sofar → Stands (rest_of later) sofar
     stands_at later sofar e =
         let H : List LogEntry → Type 0 = HonestNewest w in
         let R : List LogEntry → Type 0 = IsRun (setup_from sc) in
         let O : List LogEntry → Type 0 = OthersAskNothing w s in
-        let C : List LogEntry → Type 0 = λ l. entries_of d.address l ≡ cut_entries d.address run.allowed.pieces in
-        reach w (λ b. refl) readings_agree s run.slave (has_parties sc other ok message_in).apart d refl run.allowed.pieces run.allowed.allowed sofar (reverse later)
-        (subst C (turned later sofar e) run.allowed.cut)
+        let C : List LogEntry → Type 0 = λ l. entries_of d.address l ≡ cut_entries d.address ((run.allowed).1).pieces in
+        reach w (λ b. refl) readings_agree s run.slave (has_parties sc other ok message_in).apart d refl ((run.allowed).1).pieces ((run.allowed).1).allowed sofar (rest_of later)
+        (subst C (turned later sofar e) ((run.allowed).1).cut)
         (others_split w s later sofar (subst O e (others_turned w s log run.others)))
         (all_fair sofar (honest_so_far w later sofar (subst H e (honest_newest w log run.honest))) (run_so_far later sofar (subst R e (entry_by_entry sc log run.master))))
 
     is_taken : (later sofar : List LogEntry) (e : reverse log ≡ later ++ sofar) → taken_so_far sc other s log run sofar ≡ (stands_at later sofar e).es
-    is_taken later sofar e = has_taken w (λ b. refl) readings_agree s run.slave (has_parties sc other ok message_in).apart d refl run.allowed.pieces run.allowed.allowed (reverse later) sofar (stands_at later sofar e)
+    is_taken later sofar e = has_taken w (λ b. refl) readings_agree s run.slave (has_parties sc other ok message_in).apart d refl ((run.allowed).1).pieces ((run.allowed).1).allowed (rest_of later) sofar (stands_at later sofar e)
 
     once : (later sofar : List LogEntry) → reverse log ≡ later ++ sofar → TakenOnce sc other s (taken_so_far sc other s log run sofar) sofar
     once later sofar e =
@@ -183,11 +193,45 @@ all_quiet w s (e ∷ log) h f = (by (end_is w e h.0), all_quiet w s log h.1 (λ 
     by (inl q) = inl q
     by (inr p) = inr (inr ((f p.0 p.1).0 p.2))
 
+own_front : (w : Parties) (place : Address) (log more : List LogEntry) → OwnAskNothing w place (log ++ more) → OwnAskNothing w place log
+own_front w place [] more h = tt
+own_front w place (e ∷ log) more h = (h.0, own_front w place log more h.1)
+
 pub allowed_quiet : AllowedAskNothing
 allowed_quiet sc other ok log ends each s =
-    all_quiet (parties sc other) s log ends (λ t is. own_quiet (parties sc other) (slave_numbered sc other t).address log (quiet t (each t is)))
+    all_quiet (parties sc other) s log ends (λ t is. own_front (parties sc other) (slave_numbered sc other t).address log (each t is).0 (own_quiet (parties sc other) (slave_numbered sc other t).address (log ++ (each t is).0) (quiet t (log ++ (each t is).0) (each t is).1)))
   where
-    quiet : (t : ℕ) → Allowed (slave_numbered sc other t) log → EachAsksNothing (parties sc other) (entries_of (slave_numbered sc other t).address log)
-    quiet t h =
+    quiet : (t : ℕ) (entries : List LogEntry) → Allowed (slave_numbered sc other t) entries → EachAsksNothing (parties sc other) (entries_of (slave_numbered sc other t).address entries)
+    quiet t entries h =
         let P : List LogEntry → Type 0 = EachAsksNothing (parties sc other) in
         subst P (sym h.cut) (cut_quiet (parties sc other) (λ b. refl) (slave_numbered sc other t) (slave_numbered sc other t).address foreign_fresh h.pieces h.allowed)
+
+-- ---- the runs of a host
+
+ends_joined : (w : Parties) (xs ys : List LogEntry) → AreAtEnds w xs → AreAtEnds w ys → AreAtEnds w (xs ++ ys)
+ends_joined w [] ys h k = k
+ends_joined w (x ∷ xs) ys h k = (h.0, ends_joined w xs ys h.1 k)
+
+ends_turned : (w : Parties) (xs : List LogEntry) → AreAtEnds w xs → AreAtEnds w (reverse xs)
+ends_turned w [] h = h
+ends_turned w (x ∷ xs) h =
+    let P : List LogEntry → Type 0 = AreAtEnds w in
+    subst P (sym (reverse-append (x ∷ []) xs)) (ends_joined w (reverse xs) (x ∷ []) (ends_turned w xs h.1) (h.0, tt))
+
+pub host_runs : HostRunsAreSuch
+host_runs sc other ok log r s is =
+    let P : List LogEntry → Type 0 = AreAtEnds (parties sc other) in
+    let ends : AreAtEnds (parties sc other) log = subst P (reverse-reverse log) (ends_turned (parties sc other) (reverse log) (rounds_are_runs sc other ok log r).hosted) in
+    record {
+      slave = is;
+      honest = r.honest;
+      master = r.master;
+      allowed = front s is;
+      others = allowed_quiet sc other ok log ends front s;
+    }
+  where
+    front : (t : ℕ) → IsSlaveOf (parties sc other) t → IsAllowedFront (slave_numbered sc other t) log
+    front t it =
+        let setup = slave_setup_of sc other t in
+        let A : List LogEntry → Type 0 = Allowed (slave_numbered sc other t) in
+        ([], subst A (sym (append-nil log)) (cut_allowed setup log (rounds_cut (Some (master_rules sc)) (rules_of_slaves sc) r.count log (slave_rules_from setup) r.rounds (r.slaves t it))))

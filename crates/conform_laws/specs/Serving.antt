@@ -15,8 +15,8 @@ use Rattle.slave_desc.specs.declared.descriptions.SlaveDesc.{SlaveDesc}
 use Rattle.scenario.specs.declared.scenarios.Scenario.{Scenario}
 use Rattle.scenario.specs.Sound.{IsScenario}
 use Rattle.master_spec.specs.Rules.{MasterRun}
-use Rattle.run_laws.specs.Laws.{parties}
-use Rattle.foreign_spec.specs.Allowed.{end_of_entry, Allowed}
+use Rattle.run_laws.specs.Laws.{parties, IsRunInRounds}
+use Rattle.foreign_spec.specs.Allowed.{end_of_entry, IsAllowedFront}
 use Rattle.conform_laws.specs.Served.{served_after}
 
 -- no request is sent
@@ -31,17 +31,17 @@ abbrev pub OthersAskNothing : Parties → ℕ → List LogEntry → Type 0
 OthersAskNothing w s [] = Unit {0}
 OthersAskNothing w s (e ∷ log) = ((end_of_entry e ≡ w.master) ⊎ ((end_of_entry e ≡ w.slave s) ⊎ AsksNothing w e)) × OthersAskNothing w s log
 
--- the network is honest, the master does what its rules say, slave s is allowed, and the others do anything but ask
+-- the network is honest, the master does what its rules say, an allowed log begins with the entries of slave s, and the others do anything but ask
 pub record IsRunWith (sc : Scenario) (other : SlaveDesc) (s : ℕ) (log : List LogEntry) : Type 0 where
   pub slave : IsSlaveOf (parties sc other) s
   pub honest : Honest (parties sc other) log
   pub master : MasterRun sc log
-  pub allowed : Allowed (slave_numbered sc other s) log
+  pub allowed : IsAllowedFront (slave_numbered sc other s) log
   pub others : OthersAskNothing (parties sc other) s log
 
 -- what slave s has taken so far, the newest first
 abbrev pub taken_so_far : (sc : Scenario) (other : SlaveDesc) (s : ℕ) (log : List LogEntry) → IsRunWith sc other s log → (sofar : List LogEntry) → List DecidedRequest
-taken_so_far sc other s log run sofar = served_after (parties sc other) (slave_numbered sc other s) log run.allowed (length (events_at (slave_numbered sc other s).address sofar))
+taken_so_far sc other s log run sofar = served_after (parties sc other) (slave_numbered sc other s) (log ++ (run.allowed).0) (run.allowed).1 (length (events_at (slave_numbered sc other s).address sofar))
 
 abbrev pub AtEachMoment : ((sc : Scenario) (other : SlaveDesc) (s : ℕ) → List DecidedRequest → List LogEntry → Type 0) → Type 0
 AtEachMoment Holds = (sc : Scenario) (other : SlaveDesc) → IsScenario sc → (s : ℕ) (log : List LogEntry) (run : IsRunWith sc other s log) (later sofar : List LogEntry) → reverse log ≡ later ++ sofar
@@ -59,7 +59,11 @@ DecidedAsTaken sc other s served sofar = (later : List DecidedRequest) × (serve
 abbrev pub DecidedAsGiven : (sc : Scenario) (other : SlaveDesc) (s : ℕ) → List DecidedRequest → List LogEntry → Type 0
 DecidedAsGiven sc other s served sofar = (o : ℕ) (a : Note) → IsDeciding (parties sc other) s o a sofar → (e : DecidedRequest) × (at_ordinal served o ≡ Some e) × (e.answer ≡ a)
 
--- an allowed slave is one of those that ask nothing
+-- allowed slaves are among those that ask nothing
 abbrev pub AllowedAskNothing : Type 0
-AllowedAskNothing = (sc : Scenario) (other : SlaveDesc) → IsScenario sc → (log : List LogEntry) → AreAtEnds (parties sc other) log → ((t : ℕ) → IsSlaveOf (parties sc other) t → Allowed (slave_numbered sc other t) log)
+AllowedAskNothing = (sc : Scenario) (other : SlaveDesc) → IsScenario sc → (log : List LogEntry) → AreAtEnds (parties sc other) log → ((t : ℕ) → IsSlaveOf (parties sc other) t → IsAllowedFront (slave_numbered sc other t) log)
     → (s : ℕ) → OthersAskNothing (parties sc other) s log
+
+-- each slave of a host of all ends over an honest network is in such a run
+abbrev pub HostRunsAreSuch : Type 0
+HostRunsAreSuch = (sc : Scenario) (other : SlaveDesc) → IsScenario sc → (log : List LogEntry) → IsRunInRounds sc other log → (s : ℕ) → IsSlaveOf (parties sc other) s → IsRunWith sc other s log

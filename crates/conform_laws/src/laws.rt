@@ -2,7 +2,7 @@
 
 ghost use Rattle.conform_laws.specs.Laws.{CutRunsAreAllowed, HostFrontsAreAllowed, HostLogsAreAllowed, RoundsAreCut};
 ghost use Rattle.conform_laws.specs.Served.{AnswersStandBehind};
-ghost use Rattle.conform_laws.specs.Serving.{AllowedAskNothing, AtEachMoment, DecidedAsGiven, DecidedAsTaken, TakenOnce};
+ghost use Rattle.conform_laws.specs.Serving.{AllowedAskNothing, AtEachMoment, DecidedAsGiven, DecidedAsTaken, HostRunsAreSuch, TakenOnce};
 
 /// In a log of whole rounds the sends of each end stand right behind the events at which they were sent.
 pub fn rounds_are_cut()
@@ -44,4 +44,9 @@ pub fn answers_stand_behind()
 /// Allowed slaves send no requests.
 pub fn allowed_ask_nothing()
     ensures { AllowedAskNothing }
+{}
+
+/// Each slave of a host of all ends over an honest network is in a run of which these laws speak.
+pub fn host_runs_are_such()
+    ensures { HostRunsAreSuch }
 {}

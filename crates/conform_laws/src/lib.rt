@@ -11,5 +11,5 @@ mod laws;
 pub use laws::{
     allowed_ask_nothing, allowed_take_once_and_in_order, answers_stand_behind,
     cut_runs_are_allowed, decided_as_allowed_gave, host_fronts_are_allowed, host_logs_are_allowed,
-    rounds_are_cut,
+    host_runs_are_such, rounds_are_cut,
 };
