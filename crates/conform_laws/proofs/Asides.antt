@@ -53,16 +53,19 @@ use Rattle.conform_laws.proofs.Roles.{IsAside, IsOfClass, spelled_fits}
 
 -- ---- sends that are neither requests nor answers
 
+-- all of these are neither requests nor answers
 abbrev pub AreAside : Parties → List Send → Type 0
 AreAside w [] = Unit {0}
 AreAside w (p ∷ ps) = IsAside (role_heard w p.bytes) × AreAside w ps
 
+-- what is aside has no answer
 aside_answer : (k : Role) → IsAside k → answer_in k ≡ None
 aside_answer (Request receiver n) h = absurd h
 aside_answer (Answer sender n) h = absurd h
 aside_answer (Value id n) h = refl
 aside_answer Else h = refl
 
+-- what is aside is no request
 aside_asks : (k : Role) → IsAside k → IsNoRequest k
 aside_asks (Request receiver n) h = absurd h
 aside_asks (Answer sender n) h = absurd h
@@ -79,10 +82,12 @@ pub aside_ask_nothing : (w : Parties) (ps : List Send) → AreAside w ps → Ask
 aside_ask_nothing w [] h = tt
 aside_ask_nothing w (p ∷ ps) h = (aside_asks (role_heard w p.bytes) h.0, aside_ask_nothing w ps h.1)
 
+-- two lists that are aside are aside as one
 pub aside_joined : (w : Parties) (ps qs : List Send) → AreAside w ps → AreAside w qs → AreAside w (ps ++ qs)
 aside_joined w [] qs h k = k
 aside_joined w (p ∷ ps) qs h k = (h.0, aside_joined w ps qs h.1 k)
 
+-- two lists without a request have none as one
 ask_joined : (w : Parties) (ps qs : List Send) → AskNothing w (map post ps) → AskNothing w (map post qs) → AskNothing w (map post (ps ++ qs))
 ask_joined w [] qs h k = k
 ask_joined w (p ∷ ps) qs h k = (h.0, ask_joined w ps qs h.1 k)
@@ -94,6 +99,7 @@ answer_no_request (Answer sender n) h = tt
 answer_no_request (Value id n) h = tt
 answer_no_request Else h = tt
 
+-- each answer has the code of one
 answer_class : (r : SlaveRequest) (next : ℕ) (a : SlaveAnswer) → class_of (answer_message r next a).code ≡ Answering
 answer_class r next Ack = refl
 answer_class r next (Nack code) = refl
@@ -107,18 +113,22 @@ module _ (w : Parties) (rd : ReadsMessages w) where
 
   -- ---- notices and data
 
+  -- a notice of a log entry is aside
   notice_aside : (master : Address) (id : ℕ) (sent : Send) → IsNotice master id sent → IsAside (role_heard w sent.bytes)
   notice_aside master id sent h =
       let P : Send → Type 0 = λ z. IsAside (role_heard w z.bytes) in
       subst P (sym h.same) (spelled_fits w rd (notice_from id h.category h.level h.text) Noting refl)
 
+  -- several are
   notices_from_aside : (master : Address) (id : ℕ) (ps : List Send) → AreNoticesFrom master id ps → AreAside w ps
   notices_from_aside master id [] h = tt
   notices_from_aside master id (p ∷ ps) h = (notice_aside master id p h.0, notices_from_aside master id ps h.1)
 
+  -- so is nothing
   none_aside : (ps : List Send) → ps ≡ [] → AreAside w ps
   none_aside ps e = let P : List Send → Type 0 = AreAside w in subst P (sym e) tt
 
+  -- and what is told in any session
   notices_in_aside : (session : Session) (ps : List Send) → AreNoticesIn session ps → AreAside w ps
   notices_in_aside Before ps h = none_aside ps h
   notices_in_aside (During master id) ps h = notices_from_aside master id ps h
@@ -132,14 +142,17 @@ module _ (w : Parties) (rd : ReadsMessages w) where
       by true k = notices_in_aside y.session ps k
       by false k = none_aside ps k
 
+  -- a new state that is told is aside
   changed_aside : (to : Address) (id : ℕ) (state : State) → IsAside (role_heard w (send to (notice_message id (Changed state))).bytes)
   changed_aside to id state = spelled_fits w rd (notice_message id (Changed state)) Noting refl
 
+  -- a data message is aside
   parcel_aside : (d : SlaveDesc) (changes : List wiring.Change) (steps id : ℕ) (to : Address) (p : Parcel) → IsParcel d changes steps id to p → IsAside (role_heard w (parcel_send p).bytes)
   parcel_aside d changes steps id to p h =
       let P : Parcel → Type 0 = λ z. IsAside (role_heard w (parcel_send z).bytes) in
       subst P (sym h.same) (spelled_fits w rd (data_message _ id h.payload) Carrying refl)
 
+  -- several are
   parcels_aside : (d : SlaveDesc) (changes : List wiring.Change) (steps : ℕ) (due : List ℕ) (ps : List Parcel) → AreParcels d changes steps due ps → AreAside w (map parcel_send ps)
   parcels_aside d changes steps [] ps h = none_aside (map parcel_send ps) (ap (map parcel_send) h)
   parcels_aside d changes steps (id ∷ due) ps h = by (target id changes) (λ qs k. parcels_aside d changes steps due qs k) h
@@ -151,6 +164,7 @@ module _ (w : Parties) (rd : ReadsMessages w) where
           let P : List Parcel → Type 0 = λ z. AreAside w (map parcel_send z) in
           subst P (sym k.2) (parcel_aside d changes steps id to k.0 k.3, f k.1 k.4)
 
+  -- so is all that an act sends
   act_aside : (d : SlaveDesc) (quiet : ℕ) (p : ForeignPlant) (act : ForeignAct) (ps : List Parcel) → ActSends d p act ps → (master : Address) (id : ℕ) → AreAside w (turned_sends master id (foreign_turned d quiet p act ps))
   act_aside d quiet p Stays ps h master id = tt
   act_aside d quiet p Falls ps h master id = (changed_aside master id ErrorHandling, tt)
@@ -171,21 +185,25 @@ module _ (w : Parties) (rd : ReadsMessages w) where
 
   -- ---- nothing of it is a request
 
+  -- an answer sent again is no request
   again_asks : (to : Address) (served : List Exchange) → AskNothing w (map post (again to served))
   again_asks to [] = tt
   again_asks to (e ∷ served) = (answer_asks to e.request (expected (e ∷ served)) e.answer, tt)
 
+  -- what is sent for a request is none
   request_asks : (d : SlaveDesc) (c : Choice) (x : ForeignState) (from : Address) (r : SlaveRequest) (f : Fate) → AskNothing w (map post (request_sends (foreign d c) x from r f))
   request_asks d c x from r Dropped = tt
   request_asks d c x from r (Refused code) = (answer_asks from r (expected x.served) (Nack code), tt)
   request_asks d c x from r Repeated = again_asks from x.served
   request_asks d c x from r Taken = (answer_asks from r (expected (record { request = r; answer = c.answer } ∷ x.served)) c.answer, tt)
 
+  -- nor what is sent for any datagram
   heard_asks : (d : SlaveDesc) (c : Choice) (x : ForeignState) (from : Address) (h : Heard) → AskNothing w (map post (heard_sends (foreign d c) x from h))
   heard_asks d c x from (Asks r) = request_asks d c x from r (fate (foreign d c) x from r)
   heard_asks d c x from (Brings number id payload) = tt
   heard_asks d c x from Nothing = tt
 
+  -- nor what is sent at any event
   event_asks : (d : SlaveDesc) (c : Choice) (x : ForeignState) (event : Event) → IsChoice d x event c → AskNothing w (map post (sends (foreign d c) x event))
   event_asks d c x (Gram from bytes) free = heard_asks d c x from (heard bytes)
   event_asks d c x Tick free = aside_ask_nothing w (sends (foreign d c) x Tick) (turn_aside d c x free)
@@ -198,13 +216,16 @@ module _ (w : Parties) (rd : ReadsMessages w) where
 
   -- ---- answers
 
+  -- tested bytes are bytes
   tested : (bytes : List ℕ) → list_all (λ b. nat_lt b 256) bytes ≡ true → AreBytes bytes
   tested [] h = tt
   tested (b ∷ bytes) h = let p = and_parts (nat_lt b 256) (list_all (λ b. nat_lt b 256) bytes) h in (let q = p.0 in grind (arith, nat_tests, q), tested bytes p.1)
 
+  -- so many log entries fit into a message
   rest_length : (xs : List ℕ) → length xs ≤ 1020 → 4 + length (xs ++ []) ≤ 1024
   rest_length xs le = omega (arith, length-append xs [], le)
 
+  -- an answer with bytes as log entries is read from its bytes
   log_reads : (r : SlaveRequest) (next : ℕ) (entries : List ℕ) → RequestFits r → AreBytes entries → length entries ≤ 1020 → message_in (spelling (answer_message r next (LogAck entries))) ≡ Some (answer_message r next (LogAck entries))
   unfolding digits
   log_reads r next entries f b le =
@@ -212,6 +233,7 @@ module _ (w : Parties) (rd : ReadsMessages w) where
       let ks : List FieldKind = U16 ∷ U8 ∷ Rest ∷ [] in
       (read_as_spelled m (spelling m)).1 (has_spelling m (m.code ∷ spelled ks 0 m.values, record { kinds = ks; listed = refl; fits = (f.number, (f.receiver, (bytes_at entries b, tt))); bytes = refl; at_most = omega (arith, rest_length entries le) }))
 
+  -- so it is an answer in a run
   log_is : (to : Address) (r : SlaveRequest) (next : ℕ) (entries : List ℕ) → RequestFits r → AreBytes entries → length entries ≤ 1020 → IsAnswer w to r next (LogAck entries)
   log_is to r next entries f b le = ap role_read (rd (spelling (answer_message r next (LogAck entries))) ∙ log_reads r next entries f b le)
 
@@ -224,13 +246,16 @@ module _ (w : Parties) (rd : ReadsMessages w) where
       by true e k = (and_parts (nat_lt code 256) (list_all (λ b. nat_lt b 256) bytes) (and_parts (list_all (λ b. nat_lt b 256) (code ∷ bytes)) (nat_le (length (code ∷ bytes)) 1024) e).0).1
       by false e k = absurd cc
 
+  -- where two lists are bytes, the last one is
   all_last : (xs ys : List ℕ) → list_all (λ b. nat_lt b 256) (xs ++ ys) ≡ true → list_all (λ b. nat_lt b 256) ys ≡ true
   all_last xs ys h = (and_parts (list_all (λ b. nat_lt b 256) xs) (list_all (λ b. nat_lt b 256) ys) (sym (list_all-append (λ b. nat_lt b 256) xs ys) ∙ h)).1
 
+  -- how an answer with log entries is spelled
   log_spelled : (r : SlaveRequest) (next : ℕ) (entries : List ℕ) → spelling (answer_message r next (LogAck entries)) ≡ 180 ∷ (digits 2 r.number ++ (digits 1 r.receiver ++ (entries ++ [])))
   unfolding spelling
   log_spelled r next entries = refl
 
+  -- where it is read, its log entries are bytes
   log_bytes : (r : SlaveRequest) (next : ℕ) (entries : List ℕ) (p : Message) → message_in (spelling (answer_message r next (LogAck entries))) ≡ Some p → list_all (λ b. nat_lt b 256) entries ≡ true
   log_bytes r next entries p h =
       let P : List ℕ → Type 0 = λ l. message_in l ≡ Some p in
@@ -243,6 +268,7 @@ module _ (w : Parties) (rd : ReadsMessages w) where
   abbrev pub IsMute : SlaveAnswer → Type 0
   IsMute a = (to : Address) (r : SlaveRequest) (next : ℕ) → IsAside (role_heard w (send to (answer_message r next a)).bytes)
 
+  -- log entries that are no bytes are read by nobody
   log_mute : (entries : List ℕ) → list_all (λ b. nat_lt b 256) entries ≡ false → IsMute (LogAck entries)
   log_mute entries h to r next = let P : Option Message → Type 0 = λ o. IsAside (role_read o) in subst P (sym (rd (spelling (answer_message r next (LogAck entries))))) (by (message_in (spelling (answer_message r next (LogAck entries)))) refl)
     where
@@ -257,6 +283,7 @@ module _ (w : Parties) (rd : ReadsMessages w) where
   abbrev pub IsRead : SlaveAnswer → Type 0
   IsRead a = (to : Address) (r : SlaveRequest) (next : ℕ) → RequestFits r → next < 65536 → IsAnswer w to r next a
 
+  -- log entries are read as they were meant, or by nobody
   log_or : (entries : List ℕ) → length entries ≤ 1020 → IsRead (LogAck entries) ⊎ IsMute (LogAck entries)
   log_or entries le = by (list_all (λ b. nat_lt b 256) entries) refl
     where
@@ -264,46 +291,56 @@ module _ (w : Parties) (rd : ReadsMessages w) where
       by true e = inl (λ to r next f small. log_is to r next entries f (tested entries e) le)
       by false e = inr (log_mute entries e)
 
+  -- an answer that fits its fields is read as it was meant
   fits_read : (a : SlaveAnswer) → AnswerFits a → IsRead a
   fits_read a g to r next f small = answer_is w rd to r next a f small g
 
 -- ---- which answers are free
 
+-- each of these answers fits its fields
 abbrev EachFits : List SlaveAnswer → Type 0
 EachFits [] = Unit {0}
 EachFits (a ∷ as') = AnswerFits a × EachFits as'
 
+-- so does one of them
 found : (l : List SlaveAnswer) (a : SlaveAnswer) → Contains l a → EachFits l → AnswerFits a
 found [] a (k, lt, e) h = absurd (omega (arith, lt))
 found (b ∷ l) a (zero, lt, e) h = let P : SlaveAnswer → Type 0 = AnswerFits in subst P e h.0
 found (b ∷ l) a (suc k, lt, e) h = found l a (k, omega (arith, lt), e) h.1
 
+-- an acknowledgement or a refusal fits
 verdict_fits : (o : Option ErrorCode) → AnswerFits (verdict o)
 verdict_fits None = tt
 verdict_fits (Some code) = tt
 
+-- what may be answered to a parameter fits
 parameter_fit : (o : Option ErrorCode) → EachFits (parameter_answers o)
 parameter_fit None = (tt, (tt, tt))
 parameter_fit (Some ValueRange) = (tt, (tt, tt))
 parameter_fit (Some _) = (tt, tt)
 
+-- to a setting of the log
 logging_fit : (b : Bool) (o : Option ErrorCode) → EachFits (logging_answers b o)
 logging_fit true o = (verdict_fits o, tt)
 logging_fit false o = (tt, (verdict_fits o, tt))
 
+-- to any setting
 setting_fit : (d : SlaveDesc) (p : ForeignPlant) (body : Cfg) → EachFits (setting_answers d p body)
 setting_fit d p (cfg.Parameter vr kind value) = parameter_fit (table_refusal d p (Setting (cfg.Parameter vr kind value)))
 setting_fit d p (cfg.Logging category level mode) = logging_fit _ (table_refusal d p (Setting (cfg.Logging category level mode)))
 setting_fit d p body = (verdict_fits (table_refusal d p (Setting body)), tt)
 
+-- to a question for a fault among these
 codes_fit : (codes : List FaultCode) → EachFits (map (λ c. ErrorAck (fault_code c)) codes)
 codes_fit [] = tt
 codes_fit (c ∷ codes) = (omega (arith, fault_small c), codes_fit codes)
 
+-- among any
 fault_fit : (faults : List FaultCode) → EachFits (fault_answers faults)
 fault_fit [] = (omega arith, tt)
 fault_fit (code ∷ codes) = codes_fit (code ∷ codes)
 
+-- to a question for log entries
 log_fit : (category : ℕ) → EachFits (log_answers category)
 log_fit category = by (is_category category)
   where
@@ -311,6 +348,7 @@ log_fit category = by (is_category category)
     by true = (tt, tt)
     by false = (tt, (tt, tt))
 
+-- to any request
 answers_fit : (d : SlaveDesc) (p : ForeignPlant) (asked : Asked) → EachFits (foreign_answers d p asked)
 answers_fit d p (Setting body) = setting_fit d p body
 answers_fit d p (Question inf.State) = (tt, tt)

@@ -14,9 +14,11 @@ use Rattle.slave_laws.specs.Talk.Desks.{answer_note}
 use Rattle.foreign_spec.specs.Foreign.{ForeignState, Choice, foreign}
 use Rattle.conform_laws.specs.Served.{exchange_of, exchange_heard, AnswersStandBehind}
 
+-- no exchange is not one
 none_one : (e : DecidedRequest) → [] ≡ e ∷ [] → ⊥
 none_one e h = cc
 
+-- equal lists of one have equal exchanges
 same_one : (f e : DecidedRequest) → f ∷ [] ≡ e ∷ [] → f ≡ e
 same_one f e h = cc
 
@@ -24,6 +26,7 @@ module _ (d : SlaveDesc) (c : Choice) (x : ForeignState) (from : Address) (e : D
   abbrev StandsFirst : List Send → Type 0
   StandsFirst sent = (more : List Send) × (sent ++ ns ≡ send from e.answer.message ∷ more)
 
+  -- of any request
   of_request : (r : SlaveRequest) (n : Note) (f : Fate) → exchange_of x r n c.answer f ≡ e ∷ [] → StandsFirst (request_sends (foreign d c) x from r f)
   of_request r n Dropped h = absurd (none_one e h)
   of_request r n (Refused code) h = absurd (none_one e h)
@@ -32,6 +35,7 @@ module _ (d : SlaveDesc) (c : Choice) (x : ForeignState) (from : Address) (e : D
       let many : ℕ = expected (record { request = r; answer = c.answer } ∷ x.served) in
       (ns, ap (λ (z : DecidedRequest). send from z.answer.message ∷ ns) (same_one (record { request = n; answer = answer_note r many c.answer }) e h))
 
+  -- of any datagram
   of_heard : (k : Role) (h : Heard) → exchange_heard d c x from k h ≡ e ∷ [] → StandsFirst (heard_sends (foreign d c) x from h)
   of_heard (Request receiver n) (Asks r) h = of_request r n (fate (foreign d c) x from r) h
   of_heard (Request receiver n) (Brings number i payload) h = absurd (none_one e h)
@@ -40,6 +44,7 @@ module _ (d : SlaveDesc) (c : Choice) (x : ForeignState) (from : Address) (e : D
   of_heard (Value id n) what h = absurd (none_one e h)
   of_heard Else what h = absurd (none_one e h)
 
+-- of any event
 pub stand_behind : AnswersStandBehind
 stand_behind w d x y from bytes sent may e h =
     let z = of_heard d may.choice x from e may.notices (role_heard w bytes) (heard bytes) h in

@@ -34,9 +34,11 @@ abbrev pub MasterAlone : Parties → List LogEntry → Type 0
 MasterAlone w [] = Unit {0}
 MasterAlone w (e ∷ log) = ((end_of_entry e ≡ w.master) ⊎ AsksNothing w e) × MasterAlone w log
 
+-- what asks nothing is no request
 no_request : (k : Role) (receiver : ℕ) (n : Note) → k ≡ Request receiver n → IsNoRequest k → ⊥
 no_request k receiver n e h = let P : Role → Type 0 = IsNoRequest in subst P e h
 
+-- so a request among what was sent is the master's
 pub asked_by_master : (w : Parties) (later log : List LogEntry) (from to : Address) (bytes : List ℕ) (receiver : ℕ) (n : Note) → MasterAlone w (later ++ Sent from to bytes ∷ log) → role_heard w bytes ≡ Request receiver n → from ≡ w.master
 asked_by_master w (e ∷ later) log from to bytes receiver n h r = asked_by_master w later log from to bytes receiver n h.1 r
 asked_by_master w [] log from to bytes receiver n h r = by h.0
@@ -60,11 +62,13 @@ module _ (w : Parties) (rd : ReadsMessages w) (agree : (bytes : List ℕ) → Ag
     pub honest : MayStandNewest w e log
     pub asks : MayAsk w s d.uuid (move w s e) log
 
+  -- what is known of the conversation after a log
   abbrev pub KnownAt : List LogEntry → List DecidedRequest → List Send → Type 0
   KnownAt log es owed = Known w (accepts w rd d) (sends_in w (Requests s) log) (sends_in w (Answers s) log) (decided_exchanges w s log) (desk es owed)
 
   -- ---- what honesty and the master give
 
+  -- a request that comes, comes from the master
   from_master : (log : List LogEntry) (from : Address) (receiver : ℕ) (n : Note) → MasterAlone w log → Came w log (w.slave s) from (Request receiver n) → Came w log (w.slave s) w.master (Request receiver n)
   from_master log from receiver n alone c =
       let r = c.repeated in
@@ -72,6 +76,7 @@ module _ (w : Parties) (rd : ReadsMessages w) (agree : (bytes : List ℕ) → Ag
       let P : Address → Type 0 = λ a. Came w log (w.slave s) a (Request receiver n) in
       subst P (asked_by_master w r.later r.earlier from (w.slave s) c.bytes receiver n (subst Q r.is alone) c.read) c
 
+  -- what comes was sent, and not long before
   arrives : (mv : Move) (log : List LogEntry) → MasterAlone w log → MoveMay w s log mv → IsRegularChannel (sends_in w (Requests s) log) → IsRegularChannel (sends_in w (Answers s) log) → Arrives mv (sends_in w (Requests s) log) (sends_in w (Answers s) log)
   arrives (Asks n) log b h p q = tt
   arrives (Comes from receiver n) log b h p q = comes_in w (Requests s) log (w.slave s) w.master (Request receiver n) n (here (same w.master w.master) (same (w.slave s) (w.slave s)) (same_self w.master) (same_self (w.slave s))) p (from_master log from receiver n b h)
@@ -85,9 +90,11 @@ module _ (w : Parties) (rd : ReadsMessages w) (agree : (bytes : List ℕ) → Ag
   arrives Rests log b h p q = tt
   arrives Other log b h p q = tt
 
+  -- the same of an entry
   pub arrives_at : (e : LogEntry) (log : List LogEntry) (es : List DecidedRequest) (owed : List Send) → MasterAlone w log → IsFair e log → KnownAt log es owed → Arrives (move w s e) (sends_in w (Requests s) log) (sends_in w (Answers s) log)
   arrives_at e log es owed alone f k = arrives (move w s e) log alone (honest_move w s log e f.honest) k.requests k.answers
 
+  -- the master asks as the laws of a conversation want it
   may_ask : (mv : Move) (log : List LogEntry) → MayAsk w s d.uuid mv log → AskMay (accepts w rd d) mv (requests_sent w s log) (decided_exchanges w s log)
   may_ask (Asks n) log (inl again) = inl again
   may_ask (Asks n) log (inr next) = inr (record { closed = next.closed; number = next.number; first = λ none. first next none })
@@ -127,11 +134,13 @@ module _ (w : Parties) (rd : ReadsMessages w) (agree : (bytes : List ℕ) → Ag
     pub known : KnownAt log before owed
     pub last : requests_sent w s log ≡ newest.request ∷ requests_of before
 
+  -- it stands in one of the two ways
   abbrev pub Converse : List LogEntry → ForeignState → List DecidedRequest → List Send → Type 0
   Converse log x es owed = Talks log x es owed ⊎ IsMute log x es owed
 
   -- ---- the last request stays the last
 
+  -- the master does not ask for anything else, while its last request is not decided
   stays_last : (mv : Move) (log : List LogEntry) (newest : DecidedRequest) (before : List DecidedRequest) (owed : List Send) → MayAsk w s d.uuid mv log → KnownAt log before owed → requests_sent w s log ≡ newest.request ∷ requests_of before
       → by_ordinal (cons_option (asked mv) (sends_in w (Requests s) log)) ≡ requests_sent w s log
   stays_last (Asks n) log newest before owed (inl again) k last = grown_again n (sends_in w (Requests s) log) k.requests again
@@ -144,6 +153,7 @@ module _ (w : Parties) (rd : ReadsMessages w) (agree : (bytes : List ℕ) → Ag
   stays_last Rests log newest before owed h k last = refl
   stays_last Other log newest before owed h k last = refl
 
+  -- so the last request stays the last with an entry
   last_on : (e : LogEntry) (log : List LogEntry) (newest : DecidedRequest) (before : List DecidedRequest) (owed : List Send) → IsFair e log → KnownAt log before owed → requests_sent w s log ≡ newest.request ∷ requests_of before
       → requests_sent w s (e ∷ log) ≡ newest.request ∷ requests_of before
   last_on e log newest before owed f k last =
@@ -151,6 +161,7 @@ module _ (w : Parties) (rd : ReadsMessages w) (agree : (bytes : List ℕ) → Ag
 
   -- ---- an entry that is no event of the slave
 
+  -- the slave stands as before
   pub passes : (e : LogEntry) (log : List LogEntry) (x : ForeignState) (es : List DecidedRequest) (owed owed' : List Send) → MasterAlone w log → IsFair e log → SlaveMay (move w s e) (map post owed)
       → ((served : List DecidedRequest) → ServesNote w (accepts w rd d) (move w s e) (desk served owed) (desk served owed')) → Converse log x es owed → Converse (e ∷ log) x es owed'
   passes e log x es owed owed' alone f may serves (inl t) = inl (record { stands = t.stands; known = known_on e log es es owed owed' alone f may (serves es) t.known })
@@ -165,6 +176,7 @@ module _ (w : Parties) (rd : ReadsMessages w) (agree : (bytes : List ℕ) → Ag
 
   -- ---- an event
 
+  -- an event of a slave that is heard
   makes_on : (e : LogEntry) (log : List LogEntry) (x y : ForeignState) (es exchange : List DecidedRequest) (sent : List Send) → MasterAlone w log → IsFair e log → SlaveMay (move w s e) []
       → Makes w rd d (move w s e) es exchange sent y → Talks log x es [] → Converse (e ∷ log) y (exchange ++ es) sent
   makes_on e log x y es exchange sent alone f may (inl g) t = inl (record { stands = g.stands; known = known_on e log es (exchange ++ es) [] sent alone f may g.serves t.known })
@@ -182,6 +194,7 @@ module _ (w : Parties) (rd : ReadsMessages w) (agree : (bytes : List ℕ) → Ag
         last = last_on e log newest es [] f t.known last;
       })
 
+  -- an event of a slave that is not
   mutes_on : (e : LogEntry) (log : List LogEntry) (y : ForeignState) (es exchange : List DecidedRequest) (newest : DecidedRequest) (before : List DecidedRequest) (sent : List Send) → MasterAlone w log → IsFair e log → SlaveMay (move w s e) []
       → MutesOn w rd d (move w s e) before exchange sent y → es ≡ newest ∷ before → KnownAt log before [] → requests_sent w s log ≡ newest.request ∷ requests_of before → Converse (e ∷ log) y (exchange ++ es) sent
   mutes_on e log y es exchange newest before sent alone f may m is k last = inr (record {

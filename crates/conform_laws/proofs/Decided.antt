@@ -70,21 +70,27 @@ pub record IsAnswerOf (w : Parties) (s : ℕ) (e : LogEntry) (b : Note) : Type 0
   pub is : e ≡ Got w.master (w.slave s) bytes
   pub read : role_heard w bytes ≡ Answer s b
 
+-- an entry without effect is no answer that is heard
 rest_hears : (c : Bool) (b : Note) → (if c then Rests else Other) ≡ Hears b → ⊥
 rest_hears c b h = grind arith
 
+-- nor is a turn
 turn_hears : (c : Bool) (b : Note) → (if c then Turns else Other) ≡ Hears b → ⊥
 turn_hears c b h = grind arith
 
+-- nor a request that comes
 comes_hears : (c : Bool) (from : Address) (receiver : ℕ) (n b : Note) → (if c then Comes from receiver n else Other) ≡ Hears b → ⊥
 comes_hears c from receiver n b h = grind arith
 
+-- nor data that comes
 brings_hears : (c : Bool) (from : Address) (id : ℕ) (n b : Note) → (if c then Brings from id n else Other) ≡ Hears b → ⊥
 brings_hears c from id n b h = grind arith
 
+-- an answer is heard at the master, from its slave, and names it
 answer_hears : (x y z p : Bool) (a b : Note) → (if x then Rests else (if (y && z) && p then Hears a else Other)) ≡ Hears b → (y ≡ true) × (z ≡ true) × (p ≡ true) × (a ≡ b)
 answer_hears x y z p a b h = grind arith
 
+-- and what is so is heard
 heard_part : (a : Note) (b c d f : Bool) → b ≡ false → c ≡ true → d ≡ true → f ≡ true → (if b then Rests else (if (c && d) && f then Hears a else Other)) ≡ Hears a
 heard_part a b c d f p q r t = grind arith
 
@@ -92,6 +98,7 @@ module _ (w : Parties) (s : ℕ) where
   sent_hears : (from to : Address) (bytes : List ℕ) (k : Role) (b : Note) → sent_move w s from to bytes k ≡ Hears b → ⊥
   sent_hears from to bytes k b h = grind (arith, nat_tests)
 
+  -- what is heard is a Got of the master
   got_hears : (at from : Address) (k : Role) (b : Note) → got_move w s at from k ≡ Hears b → (same at w.master ≡ true) × (same from (w.slave s) ≡ true) × (k ≡ Answer s b)
   got_hears at from (Request receiver n) b h = absurd (comes_hears (same at (w.slave s)) from receiver n b h)
   got_hears at from (Answer sender n) b h =
@@ -100,9 +107,11 @@ module _ (w : Parties) (s : ℕ) where
   got_hears at from (Value id n) b h = absurd (brings_hears (same at (w.slave s)) from id n b h)
   got_hears at from Else b h = absurd (rest_hears (same at (w.slave s)) b h)
 
+  -- that is an answer of the slave
   got_is : (at from : Address) (bytes : List ℕ) (b : Note) → at ≡ w.master → from ≡ w.slave s → role_heard w bytes ≡ Answer s b → IsAnswerOf w s (Got at from bytes) b
   got_is at from bytes b p q r = record { bytes = bytes; is = ap (λ a. Got a from bytes) p ∙ ap (λ a. Got w.master a bytes) q; read = r }
 
+  -- so is each entry with which an answer is heard
   entry_heard : (e : LogEntry) (b : Note) → move w s e ≡ Hears b → IsAnswerOf w s e b
   entry_heard (Sent from to bytes) b h = absurd (sent_hears from to bytes (role_heard w bytes) b h)
   entry_heard (Got at from bytes) b h =
@@ -113,9 +122,11 @@ module _ (w : Parties) (s : ℕ) where
 
 -- ---- numbers
 
+-- what decides the newest request has its number
 newest_number : (o : ℕ) (a r : Note) (rs rest : List Note) (ds : List DecidedRequest) → rs ≡ r ∷ rest → r.number ≡ length rest % 65536 → length rs ≡ o + 1 → decides a rs ds ≡ true → a.number ≡ o % 65536
 newest_number o a r rs rest ds is num l d = grind (arith, nat_tests)
 
+-- an entry adds requests and takes none away
 one_asked : (k : Option Note) (ns : List Note) → length (by_ordinal ns) ≤ length (by_ordinal (cons_option k ns))
 one_asked None ns = omega arith
 one_asked (Some n) ns = grind (arith, nat_tests)
@@ -125,6 +136,7 @@ decided_here : (a r : Note) (o : ℕ) (rs rest : List Note) (ds : List DecidedRe
     → at_ordinal (if decides a rs ds then with_newest rs a ds else ds) o ≡ Some (record { request = r; answer = a })
 decided_here a r o rs rest ds is l d num = grind (arith, nat_tests)
 
+-- an answer with the ordinal of the newest request has its number
 has_number : (a r : Note) (rs rest : List Note) (o : ℕ) → rs ≡ r ∷ rest → r.number ≡ length rest % 65536 → length rs ≡ o + 1 → a.number ≡ o % 65536 → has_newest_number a rs ≡ true
 has_number a r rs rest o is num l h = grind (arith, nat_tests)
 
@@ -140,6 +152,7 @@ module _ (w : Parties) (s : ℕ) (is : IsSlaveOf w s) (apart : PartiesApart w) w
   AllOrdered [] = Unit {0}
   AllOrdered (e ∷ log) = IsOrdered log × AllOrdered log
 
+  -- the same of an earlier moment
   earlier_ordered : (later log : List LogEntry) → AllOrdered (later ++ log) → AllOrdered log
   earlier_ordered [] log h = h
   earlier_ordered (e ∷ later) log h = earlier_ordered later log h.1
@@ -152,9 +165,11 @@ module _ (w : Parties) (s : ℕ) (is : IsSlaveOf w s) (apart : PartiesApart w) w
       let P : List DecidedRequest → Type 0 = λ l. at_ordinal l o ≡ Some y in
       subst P (sym g.1) (stands_behind g.0 (decided_exchanges w s (later ++ log)) o y (kept later log o y at))
 
+  -- where an answer is heard nothing is asked
   same_requests : (e : LogEntry) (log : List LogEntry) (b : Note) → move w s e ≡ Hears b → requests_sent w s (e ∷ log) ≡ requests_sent w s log
   same_requests e log b h = ap (λ k. by_ordinal (cons_option k (sends_in w (Requests s) log))) (requests_by_move w s e ∙ ap asked h)
 
+  -- what decides has the number of the ordinal
   decides_number : (log : List LogEntry) → IsOrdered log → (o : ℕ) (b : Note) → length (requests_sent w s log) ≡ o + 1 → decides b (requests_sent w s log) (decided_exchanges w s log) ≡ true → b.number ≡ o % 65536
   decides_number log k o b l d =
       let last = last_of (sends_in w (Requests s) log) k.regular (omega arith) in
@@ -185,6 +200,7 @@ module _ (w : Parties) (s : ℕ) (is : IsSlaveOf w s) (apart : PartiesApart w) w
       by f (inl lt) = before f lt
       by f (inr ge) = now ge
 
+  -- an answer of the slave at the master is heard
   master_hears : (bytes : List ℕ) (a : Note) → role_heard w bytes ≡ Answer s a → move w s (Got w.master (w.slave s) bytes) ≡ Hears a
   master_hears bytes a r = ap (got_move w s w.master (w.slave s)) r ∙ by (same w.master (w.slave s)) refl
     where

@@ -35,6 +35,7 @@ use Rattle.conform_laws.proofs.Taking.{IsBegun, desk, got_so, accepts, IsMuteOve
 behind_all : (number ordinal many : ℕ) → number ≡ ordinal % 65536 → ordinal < many → many ≤ ordinal + 32768 → place number (many % 65536) ≡ places.Next → ⊥
 behind_all number ordinal many e lt le h = grind (arith, nat_tests)
 
+-- nor a number ahead of it
 ahead_of_all : (number ordinal many : ℕ) → number ≡ ordinal % 65536 → ordinal < many → many ≤ ordinal + 32768 → place number (many % 65536) ≡ places.Ahead → ⊥
 ahead_of_all number ordinal many e lt le h = grind (arith, nat_tests)
 
@@ -43,6 +44,7 @@ pub record IsOld (n : Note) (many : ℕ) : Type 0 where
   pub next : place n.number (many % 65536) ≡ places.Next → ⊥
   pub ahead : place n.number (many % 65536) ≡ places.Ahead → ⊥
 
+-- so is what comes from a channel
 pub at_is_old : (rs : List Note) (n : Note) → IsAt rs n → IsOld n (length rs)
 at_is_old rs n at = record { next = behind_all n.number at.ordinal (length rs) at.number at.below at.young; ahead = ahead_of_all n.number at.ordinal (length rs) at.number at.below at.young }
 
@@ -57,6 +59,7 @@ module _ (w : Parties) (rd : ReadsMessages w) (d : SlaveDesc) where
     pub none : exchange ≡ []
     pub mute : IsMuteOver w rd d y es
 
+  -- only the machine goes on
   inner_mute : (b : Bool) (x y : ForeignState) (es : List DecidedRequest) → y.served ≡ x.served → y.session ≡ x.session → IsMuteOver w rd d x es → IsMuteOver w rd d (if b then y else x) es
   inner_mute false x y es e f m = m
   inner_mute true x y es e f m =
@@ -69,35 +72,43 @@ module _ (w : Parties) (rd : ReadsMessages w) (d : SlaveDesc) where
     abbrev Out : Fate → Type 0
     Out f = MutesOn (Comes from receiver n) es (exchange_of x r n c.answer f) (transport.request_sends (foreign d c) x from r f ++ ns) (transport.after_request (foreign d c) x from r f)
 
+    -- a request that is dropped
     dropped : Out Dropped
     dropped = record { serves = inl (record { served = refl; owes = aside_none w ns aside }); none = refl; mute = m }
 
+    -- the answer that is kept is aside
     again_aside : AreAside w (transport.again from x.served)
     again_aside =
         let P : List Exchange → Type 0 = λ z. AreAside w (transport.again from z) in
         subst P (sym m.is) (m.mute from (m.newest).request (expected (m.newest ∷ m.rest)), tt)
 
+    -- a request that comes again
     repeated : Out Repeated
     repeated = record { serves = inl (record { served = refl; owes = aside_none w (transport.again from x.served ++ ns) (aside_joined w (transport.again from x.served) ns again_aside aside) }); none = refl; mute = m }
 
+    -- one more was taken than the desk has
     many : length x.served ≡ length es + 1
     many = ap length m.is ∙ omega (arith, m.many)
 
+    -- so this is the place of its number
     place_is : place n.number ((length es + 1) % 65536) ≡ place r.number (expected x.served)
     place_is = ap (λ k. place k ((length es + 1) % 65536)) (sym e) ∙ ap (λ k. place r.number (k % 65536)) (sym many)
 
+    -- by its place, in a session
     placed : (q : seq.Place) → place r.number (expected x.served) ≡ q → Out (transport.placed q)
     placed places.Next h = absurd (old.next (place_is ∙ h))
     placed places.Repeat h = repeated
     placed places.Old h = dropped
     placed places.Ahead h = absurd (old.ahead (place_is ∙ h))
 
+    -- by its place, after a session
     placed_late : (q : seq.Place) → Out (transport.placed_late q)
     placed_late places.Next = dropped
     placed_late places.Repeat = repeated
     placed_late places.Old = dropped
     placed_late places.Ahead = dropped
 
+    -- any request
     request_mutes : (session : Session) → IsBegun session → Out (transport.fate_in (foreign d c) session x.served from r)
     request_mutes Before begun = absurd begun
     request_mutes (During master id) begun = by (transport.same_address from master && (r.receiver == id))
@@ -120,6 +131,7 @@ module _ (w : Parties) (rd : ReadsMessages w) (d : SlaveDesc) where
   HeardOld (Value id n) count = Unit {0}
   HeardOld Else count = Unit {0}
 
+  -- any datagram, by both readings of it
   heard_mutes : (c : Choice) (x : ForeignState) (es : List DecidedRequest) (from : Address) (ns : List Send) → AreAside w ns → IsMuteOver w rd d x es → (k : Role) (h : spec.Heard) → Agree k h → HeardOld k (length es + 1)
       → MutesOn (got_so from k) es (exchange_heard d c x from k h) (transport.heard_sends (foreign d c) x from h ++ ns) (transport.after_heard (foreign d c) x from h)
   heard_mutes c x es from ns aside m (Request receiver n) (spec.Asks r) a old = request_mutes c x es m from receiver n r a.0 old ns aside x.session m.begun

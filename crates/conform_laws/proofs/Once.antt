@@ -44,20 +44,24 @@ use Rattle.conform_laws.proofs.Serving.{At, AllFair, reach, has_taken}
 
 -- ---- parts of a log
 
+-- what is said of all entries holds of the last ones
 others_split : (w : Parties) (s : ℕ) (xs ys : List LogEntry) → OthersAskNothing w s (xs ++ ys) → OthersAskNothing w s ys
 others_split w s [] ys h = h
 others_split w s (x ∷ xs) ys h = others_split w s xs ys h.1
 
+-- of two parts as one
 others_joined : (w : Parties) (s : ℕ) (xs ys : List LogEntry) → OthersAskNothing w s xs → OthersAskNothing w s ys → OthersAskNothing w s (xs ++ ys)
 others_joined w s [] ys h k = k
 others_joined w s (x ∷ xs) ys h k = (h.0, others_joined w s xs ys h.1 k)
 
+-- and in either order
 others_turned : (w : Parties) (s : ℕ) (xs : List LogEntry) → OthersAskNothing w s xs → OthersAskNothing w s (reverse xs)
 others_turned w s [] h = h
 others_turned w s (x ∷ xs) h =
     let P : List LogEntry → Type 0 = OthersAskNothing w s in
     subst P (sym (reverse-append (x ∷ []) xs)) (others_joined w s (reverse xs) (x ∷ []) (others_turned w s xs h.1) (h.0, tt))
 
+-- what is honest later was honest so far
 honest_so_far : (w : Parties) (later sofar : List LogEntry) → HonestNewest w (later ++ sofar) → HonestNewest w sofar
 honest_so_far w [] sofar h = h
 honest_so_far w (e ∷ later) sofar h = honest_so_far w later sofar h.1
@@ -73,12 +77,15 @@ module _ (sc : Scenario) (other : SlaveDesc) (ok : IsScenario sc) where
     abbrev w : Parties
     w = parties sc other
 
+    -- the description of the slave
     abbrev d : SlaveDesc
     d = slave_numbered sc other s
 
+    -- where it stands in its pieces
     abbrev Stands : List LogEntry → List LogEntry → Type 0
     Stands rest sofar = At (parties sc other) (λ b. refl) readings_agree s run.slave (has_parties sc other ok message_in).apart (slave_numbered sc other s) refl ((run.allowed).1).pieces ((run.allowed).1).allowed rest sofar
 
+    -- the network and the master do what they may at each entry
     all_fair : (sofar : List LogEntry) → HonestNewest w sofar → IsRun (setup_from sc) sofar
         → AllFair (parties sc other) (λ b. refl) readings_agree s run.slave (has_parties sc other ok message_in).apart (slave_numbered sc other s) refl ((run.allowed).1).pieces ((run.allowed).1).allowed sofar
     all_fair [] h k = tt
@@ -105,15 +112,18 @@ module _ (sc : Scenario) (other : SlaveDesc) (ok : IsScenario sc) where
         (others_split w s later sofar (subst O e (others_turned w s log run.others)))
         (all_fair sofar (honest_so_far w later sofar (subst H e (honest_newest w log run.honest))) (run_so_far later sofar (subst R e (entry_by_entry sc log run.master))))
 
+    -- what was taken is what the conversation has
     is_taken : (later sofar : List LogEntry) (e : reverse log ≡ later ++ sofar) → taken_so_far sc other s log run sofar ≡ (stands_at later sofar e).es
     is_taken later sofar e = has_taken w (λ b. refl) readings_agree s run.slave (has_parties sc other ok message_in).apart d refl ((run.allowed).1).pieces ((run.allowed).1).allowed (rest_of later) sofar (stands_at later sofar e)
 
+    -- the slave has taken the requests once and in order
     once : (later sofar : List LogEntry) → reverse log ≡ later ++ sofar → TakenOnce sc other s (taken_so_far sc other s log run sofar) sofar
     once later sofar e =
         let a = stands_at later sofar e in
         let P : List DecidedRequest → Type 0 = λ es. TakenOnce sc other s es sofar in
         subst P (sym (is_taken later sofar e)) (taken_in_order w (λ b. refl) readings_agree s d sofar a.x a.es a.owed a.converse)
 
+    -- what is decided was taken so
     as_taken : (later sofar : List LogEntry) → reverse log ≡ later ++ sofar → DecidedAsTaken sc other s (taken_so_far sc other s log run sofar) sofar
     as_taken later sofar e =
         let a = stands_at later sofar e in
@@ -127,10 +137,12 @@ module _ (sc : Scenario) (other : SlaveDesc) (ok : IsScenario sc) where
         let k = is_ordered w (λ b. refl) readings_agree s d sofar a.x a.es a.owed a.converse in
         record { regular = k.0; most = k.1; least = k.2 }
 
+    -- at all moments before too
     all_ordered : (later sofar : List LogEntry) → reverse log ≡ later ++ sofar → AllOrdered w s run.slave (has_parties sc other ok message_in).apart sofar
     all_ordered later [] e = tt
     all_ordered later (x ∷ sofar) e = let f = e ∙ sym (append_assoc later (x ∷ []) sofar) in (ordered_at (later ++ x ∷ []) sofar f, all_ordered (later ++ x ∷ []) sofar f)
 
+    -- what decides a request is what was given
     as_given : (later sofar : List LogEntry) → reverse log ≡ later ++ sofar → DecidedAsGiven sc other s (taken_so_far sc other s log run sofar) sofar
     as_given later sofar e o a h =
         let z = decided_by w s run.slave (has_parties sc other ok message_in).apart sofar (all_ordered later sofar e) o a h in
@@ -138,17 +150,21 @@ module _ (sc : Scenario) (other : SlaveDesc) (ok : IsScenario sc) where
         let P : List DecidedRequest → Type 0 = λ l. at_ordinal l o ≡ Some z.0 in
         (z.0, subst P (sym t.1) (stands_behind t.0 (decided_exchanges w s sofar) o z.0 z.1), z.2)
 
+-- the same of each run
 pub taken_once : AtEachMoment TakenOnce
 taken_once sc other ok s log run later sofar e = once sc other ok s log run later sofar e
 
+-- the same of each run
 pub decided_so : AtEachMoment DecidedAsTaken
 decided_so sc other ok s log run later sofar e = as_taken sc other ok s log run later sofar e
 
+-- the same of each run
 pub given_so : AtEachMoment DecidedAsGiven
 given_so sc other ok s log run later sofar e = as_given sc other ok s log run later sofar e
 
 -- ---- allowed slaves ask nothing
 
+-- no request is sent among these
 abbrev EachAsksNothing : Parties → List LogEntry → Type 0
 EachAsksNothing w [] = Unit {0}
 EachAsksNothing w (e ∷ log) = AsksNothing w e × EachAsksNothing w log
@@ -158,16 +174,19 @@ abbrev OwnAskNothing : Parties → Address → List LogEntry → Type 0
 OwnAskNothing w place [] = Unit {0}
 OwnAskNothing w place (e ∷ log) = (end_of_entry e ≡ place → AsksNothing w e) × OwnAskNothing w place log
 
+-- none is among sends without one
 sends_quiet : (w : Parties) (place : Address) (sent : List Send) (more : List LogEntry) → AskNothing w (map post sent) → EachAsksNothing w more → EachAsksNothing w (sent_by place sent ++ more)
 sends_quiet w place [] more h k = k
 sends_quiet w place (p ∷ ps) more h k = (h.0, sends_quiet w place ps more h.1 k)
 
+-- none is among allowed pieces
 cut_quiet : (w : Parties) (rd : ReadsMessages w) (d : SlaveDesc) (place : Address) (x : ForeignState) (pieces : List Piece) → AreAllowed d x pieces → EachAsksNothing w (cut_entries place pieces)
 cut_quiet w rd d place x [] h = tt
 cut_quiet w rd d place x (Rests ∷ pieces) h = (tt, cut_quiet w rd d place x pieces h)
 cut_quiet w rd d place x (Acts (Gram from bytes) sent ∷ pieces) h = (tt, sends_quiet w place sent (cut_entries place pieces) (sends_ask_nothing w rd d x h.0 (Gram from bytes) sent h.1) (cut_quiet w rd d place h.0 pieces h.2))
 cut_quiet w rd d place x (Acts Tick sent ∷ pieces) h = (tt, sends_quiet w place sent (cut_entries place pieces) (sends_ask_nothing w rd d x h.0 Tick sent h.1) (cut_quiet w rd d place h.0 pieces h.2))
 
+-- so none is among the entries of that end
 own_quiet : (w : Parties) (place : Address) (log : List LogEntry) → EachAsksNothing w (entries_of place log) → OwnAskNothing w place log
 own_quiet w place [] h = tt
 own_quiet w place (e ∷ log) h = by (same_address (end_of_entry e) place) refl h (λ k. own_quiet w place log k)
@@ -179,12 +198,14 @@ own_quiet w place (e ∷ log) h = by (same_address (end_of_entry e) place) refl 
     by true f k more = (λ q. k.0, more k.1)
     by false f k more = (λ q. absurd (clash (sym f ∙ ap (λ (a : Address). same_address a place) q ∙ same_self place)), more k)
 
+-- an entry is at its end
 end_is : (w : Parties) (e : LogEntry) → IsAtEnd w e → IsEnd w (end_of_entry e)
 end_is w (Sent from to bytes) h = h
 end_is w (Got at from bytes) h = h
 end_is w (Idle at) h = h
 end_is w (Turn at) h = h
 
+-- where each slave asks nothing, all others do
 all_quiet : (w : Parties) (s : ℕ) (log : List LogEntry) → AreAtEnds w log → ((t : ℕ) → IsSlaveOf w t → OwnAskNothing w (w.slave t) log) → OthersAskNothing w s log
 all_quiet w s [] h f = tt
 all_quiet w s (e ∷ log) h f = (by (end_is w e h.0), all_quiet w s log h.1 (λ t is. (f t is).1))
@@ -193,10 +214,12 @@ all_quiet w s (e ∷ log) h f = (by (end_is w e h.0), all_quiet w s log h.1 (λ 
     by (inl q) = inl q
     by (inr p) = inr (inr ((f p.0 p.1).0 p.2))
 
+-- the same of the first entries
 own_front : (w : Parties) (place : Address) (log more : List LogEntry) → OwnAskNothing w place (log ++ more) → OwnAskNothing w place log
 own_front w place [] more h = tt
 own_front w place (e ∷ log) more h = (h.0, own_front w place log more h.1)
 
+-- allowed slaves ask nothing
 pub allowed_quiet : AllowedAskNothing
 allowed_quiet sc other ok log ends each s =
     all_quiet (parties sc other) s log ends (λ t is. own_front (parties sc other) (slave_numbered sc other t).address log (each t is).0 (own_quiet (parties sc other) (slave_numbered sc other t).address (log ++ (each t is).0) (quiet t (log ++ (each t is).0) (each t is).1)))
@@ -208,16 +231,19 @@ allowed_quiet sc other ok log ends each s =
 
 -- ---- the runs of a host
 
+-- entries at ends are so in two parts as one
 ends_joined : (w : Parties) (xs ys : List LogEntry) → AreAtEnds w xs → AreAtEnds w ys → AreAtEnds w (xs ++ ys)
 ends_joined w [] ys h k = k
 ends_joined w (x ∷ xs) ys h k = (h.0, ends_joined w xs ys h.1 k)
 
+-- and in either order
 ends_turned : (w : Parties) (xs : List LogEntry) → AreAtEnds w xs → AreAtEnds w (reverse xs)
 ends_turned w [] h = h
 ends_turned w (x ∷ xs) h =
     let P : List LogEntry → Type 0 = AreAtEnds w in
     subst P (sym (reverse-append (x ∷ []) xs)) (ends_joined w (reverse xs) (x ∷ []) (ends_turned w xs h.1) (h.0, tt))
 
+-- each slave of a host is in such a run
 pub host_runs : HostRunsAreSuch
 host_runs sc other ok log r s is =
     let P : List LogEntry → Type 0 = AreAtEnds (parties sc other) in

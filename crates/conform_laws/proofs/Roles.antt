@@ -14,14 +14,17 @@ use Rattle.slave_laws.specs.Talk.Sends.{ReadsMessages}
 
 -- ---- the code of what is read
 
+-- a message that is made of fields has the code that it is made with
 made_so : (code : ℕ) (o : Option (List FieldValue)) (p : Message) → option_map (λ fields. record { code = code; values = fields }) o ≡ Some p → p.code ≡ code
 made_so code None p h = absurd cc
 made_so code (Some vs) p h = let e : record { code = code; values = vs } ≡ p = cc in sym (ap (λ (m : Message). m.code) e)
 
+-- so has what is read of the fields of a code
 with_code : (code : ℕ) (bytes : List ℕ) (o : Option (List FieldKind)) (p : Message) → message_with code bytes o ≡ Some p → p.code ≡ code
 with_code code bytes None p h = absurd cc
 with_code code bytes (Some ks) p h = made_so code (fields_in ks 0 bytes) p h
 
+-- what is read has the first byte as its code
 first_is_code : (code : ℕ) (bytes : List ℕ) (p : Message) → message_in (code ∷ bytes) ≡ Some p → p.code ≡ code
 unfolding message_in
 first_is_code code bytes p h = by (list_all (λ b. nat_lt b 256) (code ∷ bytes) && nat_le (length (code ∷ bytes)) 1024) h
@@ -30,6 +33,7 @@ first_is_code code bytes p h = by (list_all (λ b. nat_lt b 256) (code ∷ bytes
     by true k = with_code code bytes (kinds_for code) p k
     by false k = absurd cc
 
+-- no bytes spell no message
 nothing_read : (p : Message) → message_in [] ≡ Some p → ⊥
 unfolding message_in
 nothing_read p h = cc
@@ -60,6 +64,7 @@ IsOfClass Answering k = Unit {0}
 IsOfClass Carrying k = IsAside k
 IsOfClass Noting k = IsAside k
 
+-- what a message is follows from its class
 role_fits : (c : Class) (vs : List FieldValue) (m : Message) → IsOfClass c (role_by c vs m)
 role_fits Asking vs m = tt
 role_fits Answering (Number a ∷ Number b ∷ vs) m = tt
@@ -78,6 +83,7 @@ role_fits Carrying (Bytes a ∷ vs) m = tt
 role_fits Carrying [] m = tt
 role_fits Noting vs m = tt
 
+-- what is no message is of any class
 none_fits : (c : Class) → IsOfClass c Else
 none_fits Asking = tt
 none_fits Answering = tt

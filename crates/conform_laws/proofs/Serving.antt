@@ -29,33 +29,43 @@ use Rattle.conform_laws.proofs.Conversing.{MasterAlone, IsFair, Converse, passes
 
 -- ---- entries in a row
 
+-- equal lists have equal heads and tails
 heads : (a b : LogEntry) (xs ys : List LogEntry) → a ∷ xs ≡ b ∷ ys → (a ≡ b) × (xs ≡ ys)
 heads a b xs ys h = let p : a ≡ b = cc in let q : xs ≡ ys = cc in (p, q)
 
+-- equal Gots have the same sender and bytes
 got_parts : (at at' from from' : Address) (bytes bytes' : List ℕ) → Got at from bytes ≡ Got at' from' bytes' → (from ≡ from') × (bytes ≡ bytes')
 got_parts at at' from from' bytes bytes' h = let p : from ≡ from' = cc in let q : bytes ≡ bytes' = cc in (p, q)
 
+-- equal Sents have the same receiver and bytes
 sent_parts : (from from' to to' : Address) (bytes bytes' : List ℕ) → Sent from to bytes ≡ Sent from' to' bytes' → (to ≡ to') × (bytes ≡ bytes')
 sent_parts from from' to to' bytes bytes' h = let p : to ≡ to' = cc in let q : bytes ≡ bytes' = cc in (p, q)
 
+-- a Sent is no Got
 sent_got : (from to at f : Address) (b b' : List ℕ) → Sent from to b ≡ Got at f b' → ⊥
 sent_got from to at f b b' h = cc
 
+-- a Sent is no Turn
 sent_turn : (from to at : Address) (b : List ℕ) → Sent from to b ≡ Turn at → ⊥
 sent_turn from to at b h = cc
 
+-- a Sent is no Idle
 sent_idle : (from to at : Address) (b : List ℕ) → Sent from to b ≡ Idle at → ⊥
 sent_idle from to at b h = cc
 
+-- a Got is no Turn
 got_turn : (at f at' : Address) (b : List ℕ) → Got at f b ≡ Turn at' → ⊥
 got_turn at f at' b h = cc
 
+-- a Got is no Idle
 got_idle : (at f at' : Address) (b : List ℕ) → Got at f b ≡ Idle at' → ⊥
 got_idle at f at' b h = cc
 
+-- a Turn is no Idle
 turn_idle : (at at' : Address) → Turn at ≡ Idle at' → ⊥
 turn_idle at at' h = cc
 
+-- some entry is not none
 none_left : (a : LogEntry) (xs : List LogEntry) → a ∷ xs ≡ [] → ⊥
 none_left a xs h = cc
 
@@ -66,6 +76,7 @@ IsNoSent (Got at from bytes) = Unit {0}
 IsNoSent (Idle at) = Unit {0}
 IsNoSent (Turn at) = Unit {0}
 
+-- so nothing is owed where it comes
 nothing_owed : (place : Address) (a : LogEntry) (xs ys : List LogEntry) (owed : List Send) → IsNoSent a → a ∷ xs ≡ sent_by place owed ++ ys → (owed ≡ []) × (a ∷ xs ≡ ys)
 nothing_owed place a xs ys [] no' h = (refl, h)
 nothing_owed place a xs ys (p ∷ ps) no' h =
@@ -81,12 +92,14 @@ pub record IsFirstOwed (place : Address) (to : Address) (bytes : List ℕ) (xs y
   pub bytes_is : first.bytes ≡ bytes
   pub comes : xs ≡ sent_by place rest ++ ys
 
+-- no piece begins with a Sent
 no_sent_first : (place from to : Address) (bytes : List ℕ) (xs : List LogEntry) (pieces : List Piece) → Sent from to bytes ∷ xs ≡ cut_entries place pieces → ⊥
 no_sent_first place from to bytes xs [] h = none_left _ _ h
 no_sent_first place from to bytes xs (Rests ∷ pieces) h = sent_idle from to place bytes (heads (Sent from to bytes) (Idle place) xs (cut_entries place pieces) h).0
 no_sent_first place from to bytes xs (Acts (Gram f b) sent ∷ pieces) h = sent_got from to place f bytes b (heads (Sent from to bytes) (Got place f b) xs (sent_by place sent ++ cut_entries place pieces) h).0
 no_sent_first place from to bytes xs (Acts Tick sent ∷ pieces) h = sent_turn from to place bytes (heads (Sent from to bytes) (Turn place) xs (sent_by place sent ++ cut_entries place pieces) h).0
 
+-- a Sent is owed
 first_owed : (place from to : Address) (bytes : List ℕ) (xs : List LogEntry) (pieces : List Piece) (owed : List Send) → Sent from to bytes ∷ xs ≡ sent_by place owed ++ cut_entries place pieces → IsFirstOwed place to bytes xs (cut_entries place pieces) owed
 first_owed place from to bytes xs pieces [] h = absurd (no_sent_first place from to bytes xs pieces h)
 first_owed place from to bytes xs pieces (p ∷ ps) h =
@@ -107,6 +120,7 @@ module _ (w : Parties) (s : ℕ) (is : IsSlaveOf w s) (apart : PartiesApart w) w
   tells from to bytes (Value id n) e = cond-true (same from (w.slave s)) (Tells to bytes) Other e
   tells from to bytes Else e = cond-true (same from (w.slave s)) (Tells to bytes) Other e
 
+  -- a datagram that comes to the slave
   pub gets : (at from : Address) (k : Role) → same at (w.slave s) ≡ true → got_move w s at from k ≡ got_so from k
   gets at from (Request receiver n) e = ap (λ c. if c then Comes from receiver n else Other) e
   gets at from (Answer sender n) e = ap (λ c. if c then RestsMove else (if (same at w.master && same from (w.slave s)) && (sender == s) then Hears n else Other)) e
@@ -117,15 +131,19 @@ module _ (w : Parties) (s : ℕ) (is : IsSlaveOf w s) (apart : PartiesApart w) w
   abbrev pub Free : Move → Type 0
   Free mv = ((owed : List Post) → SlaveMay mv owed) × ((served : List DecidedRequest) (owed : List Send) → (rd : ReadsMessages w) (d : SlaveDesc) → ServesNote w (accepts w rd d) mv (desk served owed) (desk served owed))
 
+  -- a request is such a move
   asks_free : (n : Note) → Free (Asks n)
   asks_free n = (λ owed. tt, λ served owed rd d. refl)
 
+  -- an answer that is heard is
   hears_free : (n : Note) → Free (Hears n)
   hears_free n = (λ owed. tt, λ served owed rd d. refl)
 
+  -- and what is no move at all
   other_free : Free Other
   other_free = (λ owed. tt, λ served owed rd d. refl)
 
+  -- so is the Sent of another end
   pub sent_free : (from to : Address) (bytes : List ℕ) (k : Role) → same from (w.slave s) ≡ false → Free (sent_move w s from to bytes k)
   sent_free from to bytes (Request receiver n) e = by (same from w.master && same to (w.slave s)) (same from (w.slave s)) e
     where
@@ -137,6 +155,7 @@ module _ (w : Parties) (s : ℕ) (is : IsSlaveOf w s) (apart : PartiesApart w) w
   sent_free from to bytes (Value id n) e = let Q : Bool → Type 0 = λ c. Free (if c then Tells to bytes else Other) in subst Q (sym e) other_free
   sent_free from to bytes Else e = let Q : Bool → Type 0 = λ c. Free (if c then Tells to bytes else Other) in subst Q (sym e) other_free
 
+  -- and the Got of another end
   pub got_free : (at from : Address) (k : Role) → same at (w.slave s) ≡ false → Free (got_move w s at from k)
   got_free at from (Request receiver n) e = let Q : Bool → Type 0 = λ c. Free (if c then Comes from receiver n else Other) in subst Q (sym e) other_free
   got_free at from (Answer sender n) e = let Q : Bool → Type 0 = λ c. Free (if c then RestsMove else (if (same at w.master && same from (w.slave s)) && (sender == s) then Hears n else Other)) in subst Q (sym e) (by ((same at w.master && same from (w.slave s)) && (sender == s)))
@@ -153,9 +172,11 @@ module _ (w : Parties) (rd : ReadsMessages w) (agree : (bytes : List ℕ) → Ag
   here : (b : Address) → same b (w.slave s) ≡ same_address b d.address
   here b = same_as b (w.slave s) ∙ ap (same_address b) place
 
+  -- the network and the master do at an entry what they may
   abbrev Fair : LogEntry → List LogEntry → Type 0
   Fair e log = IsFair w rd agree s d e log
 
+  -- how the conversation stands after a log
   abbrev Speaks : List LogEntry → ForeignState → List DecidedRequest → List Send → Type 0
   Speaks log x es owed = Converse w rd agree s d log x es owed
 
@@ -178,6 +199,7 @@ module _ (w : Parties) (rd : ReadsMessages w) (agree : (bytes : List ℕ) → Ag
 
   -- ---- an entry of another end
 
+  -- it changes nothing
   away : (e : LogEntry) (rest log : List LogEntry) → entries_of d.address (e ∷ rest) ≡ entries_of d.address rest → length (events_at d.address (e ∷ log)) ≡ length (events_at d.address log)
       → Free w s is apart (move w s e) → Fair e log → (end_of_entry e ≡ w.master) ⊎ AsksNothing w e → At (e ∷ rest) log → At rest (e ∷ log)
   away e rest log same_entries same_count free fair o a = record {
@@ -195,6 +217,7 @@ module _ (w : Parties) (rd : ReadsMessages w) (agree : (bytes : List ℕ) → Ag
 
   -- ---- a Sent
 
+  -- a Sent of the slave is the next that it owes
   sent_here : (from to : Address) (bytes : List ℕ) (rest log : List LogEntry) → same from (w.slave s) ≡ true → Fair (Sent from to bytes) log → At (Sent from to bytes ∷ rest) log → At rest (Sent from to bytes ∷ log)
   sent_here from to bytes rest log f fair a =
       let e : LogEntry = Sent from to bytes in
@@ -221,6 +244,7 @@ module _ (w : Parties) (rd : ReadsMessages w) (agree : (bytes : List ℕ) → Ag
             (λ served. subst (λ m. N m served) (sym mv) (refl, sym (ap (λ (o : List Send). tail (map post o)) z.is))) a.converse;
       }
 
+  -- any Sent
   sent_at : (from to : Address) (bytes : List ℕ) (rest log : List LogEntry) → Fair (Sent from to bytes) log → (from ≡ w.master) ⊎ ((from ≡ w.slave s) ⊎ AsksNothing w (Sent from to bytes)) → At (Sent from to bytes ∷ rest) log → At rest (Sent from to bytes ∷ log)
   sent_at from to bytes rest log fair o a = by (same from (w.slave s)) refl
     where
@@ -240,26 +264,32 @@ module _ (w : Parties) (rd : ReadsMessages w) (agree : (bytes : List ℕ) → Ag
 
   -- ---- a Got
 
+  -- where nothing is owed, a datagram may come
   got_may : (from : Address) (k : Role) → SlaveMay (got_so from k) []
   got_may from (Request receiver n) = refl
   got_may from (Answer sender n) = refl
   got_may from (Value id n) = refl
   got_may from Else = refl
 
+  -- one event more so far is one less that is left
   one_more : (n m k : ℕ) → m ≡ n + 1 → m + k ≡ n + suc k
   one_more n m k e = omega (arith, e)
 
+  -- a Got is one event more
   got_counts : (b : Bool) (from : Address) (bytes : List ℕ) (events : List Event) → b ≡ true → length ((if b then Gram from bytes ∷ [] else []) ++ events) ≡ length events + 1
   got_counts true from bytes events e = omega arith
   got_counts false from bytes events e = absurd cc
 
+  -- a Turn is one event more
   turn_counts : (b : Bool) (events : List Event) → b ≡ true → length ((if b then Tick ∷ [] else []) ++ events) ≡ length events + 1
   turn_counts true events e = omega arith
   turn_counts false events e = absurd cc
 
+  -- the entry is the slave's, whichever way one asks
   turned : (at : Address) (b : Bool) → same at (w.slave s) ≡ b → same_address d.address at ≡ b
   turned at b f = turned_about d.address at ∙ sym (here at) ∙ f
 
+  -- a Got of the slave begins its next piece
   got_piece : (at from : Address) (bytes : List ℕ) (rest log : List LogEntry) (x : ForeignState) (left : List Piece) (allowed : AreAllowed d x left) (es : List DecidedRequest) → SoFar log x left allowed es
       → Got at from bytes ∷ entries_of d.address rest ≡ cut_entries d.address left → same at (w.slave s) ≡ true → MasterAlone w log → Fair (Got at from bytes) log → Speaks log x es [] → At rest (Got at from bytes ∷ log)
   got_piece at from bytes rest log x [] allowed es so cut f alone fair c = absurd (none_left _ _ cut)
@@ -286,6 +316,7 @@ module _ (w : Parties) (rd : ReadsMessages w) (agree : (bytes : List ℕ) → Ag
         converse = got_on w rd agree s d e log x allowed.0 es g b sent alone fair mv (subst M (sym mv) (got_may g (role_heard w b))) allowed.1 c;
       }
 
+  -- any Got
   got_at : (at from : Address) (bytes : List ℕ) (rest log : List LogEntry) → Fair (Got at from bytes) log → At (Got at from bytes ∷ rest) log → At rest (Got at from bytes ∷ log)
   got_at at from bytes rest log fair a = by (same at (w.slave s)) refl
     where
@@ -305,6 +336,7 @@ module _ (w : Parties) (rd : ReadsMessages w) (agree : (bytes : List ℕ) → Ag
 
   -- ---- a Turn
 
+  -- a Turn of the slave begins its next piece
   turn_piece : (at : Address) (rest log : List LogEntry) (x : ForeignState) (left : List Piece) (allowed : AreAllowed d x left) (es : List DecidedRequest) → SoFar log x left allowed es
       → Turn at ∷ entries_of d.address rest ≡ cut_entries d.address left → same at (w.slave s) ≡ true → MasterAlone w log → Fair (Turn at) log → Speaks log x es [] → At rest (Turn at ∷ log)
   turn_piece at rest log x [] allowed es so cut f alone fair c = absurd (none_left _ _ cut)
@@ -329,6 +361,7 @@ module _ (w : Parties) (rd : ReadsMessages w) (agree : (bytes : List ℕ) → Ag
         converse = turn_on w rd agree s d e log x allowed.0 es sent alone fair mv (subst M (sym mv) refl) allowed.1 c;
       }
 
+  -- any Turn
   turn_at : (at : Address) (rest log : List LogEntry) → Fair (Turn at) log → At (Turn at ∷ rest) log → At rest (Turn at ∷ log)
   turn_at at rest log fair a = by (same at (w.slave s)) refl
     where
@@ -349,6 +382,7 @@ module _ (w : Parties) (rd : ReadsMessages w) (agree : (bytes : List ℕ) → Ag
 
   -- ---- an Idle
 
+  -- an Idle of the slave is its next piece
   idle_piece : (at : Address) (rest log : List LogEntry) (x : ForeignState) (left : List Piece) (allowed : AreAllowed d x left) (es : List DecidedRequest) → SoFar log x left allowed es
       → Idle at ∷ entries_of d.address rest ≡ cut_entries d.address left → same at (w.slave s) ≡ true → MasterAlone w log → Fair (Idle at) log → Speaks log x es [] → At rest (Idle at ∷ log)
   idle_piece at rest log x [] allowed es so cut f alone fair c = absurd (none_left _ _ cut)
@@ -372,6 +406,7 @@ module _ (w : Parties) (rd : ReadsMessages w) (agree : (bytes : List ℕ) → Ag
         converse = passes w rd agree s d e log x es [] [] alone fair (subst M (sym mv) refl) (λ served. subst (λ m. N m served) (sym mv) (record { served = refl; owes = refl })) c;
       }
 
+  -- any Idle
   idle_at : (at : Address) (rest log : List LogEntry) → Fair (Idle at) log → At (Idle at ∷ rest) log → At rest (Idle at ∷ log)
   idle_at at rest log fair a = by (same at (w.slave s)) refl
     where
@@ -391,6 +426,7 @@ module _ (w : Parties) (rd : ReadsMessages w) (agree : (bytes : List ℕ) → Ag
 
   -- ---- all entries
 
+  -- before all entries
   start : (log : List LogEntry) → entries_of d.address log ≡ cut_entries d.address pieces → At log []
   start log cut = record {
     x = foreign_fresh;
@@ -414,10 +450,12 @@ module _ (w : Parties) (rd : ReadsMessages w) (agree : (bytes : List ℕ) → Ag
       no_pairs : Pairs [] []
       no_pairs = tt
 
+  -- at each entry so far
   abbrev pub AllFair : List LogEntry → Type 0
   AllFair [] = Unit {0}
   AllFair (e ∷ log) = Fair e log × AllFair log
 
+  -- any entry
   one : (e : LogEntry) (rest log : List LogEntry) → Fair e log → (end_of_entry e ≡ w.master) ⊎ ((end_of_entry e ≡ w.slave s) ⊎ AsksNothing w e) → At (e ∷ rest) log → At rest (e ∷ log)
   one (Sent from to bytes) rest log fair o a = sent_at from to bytes rest log fair o a
   one (Got at from bytes) rest log fair o a = got_at at from bytes rest log fair a
@@ -432,6 +470,7 @@ module _ (w : Parties) (rd : ReadsMessages w) (agree : (bytes : List ℕ) → Ag
       let same_log : reverse (e ∷ log) ++ rest ≡ reverse log ++ e ∷ rest = ap (λ (z : List LogEntry). z ++ rest) (reverse-append (e ∷ []) log) ∙ append_assoc (reverse log) (e ∷ []) rest in
       one e rest log f.0 o.0 (reach log (e ∷ rest) (subst P same_log cut) o.1 f.1)
 
+  -- in no event nothing is taken
   nothing_first : (x : ForeignState) (left : List Piece) (allowed : AreAllowed d x left) → first_served w d 0 x left allowed ≡ []
   nothing_first x [] allowed = refl
   nothing_first x (Rests ∷ left) allowed = nothing_first x left allowed

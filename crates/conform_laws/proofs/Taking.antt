@@ -33,38 +33,46 @@ use Rattle.conform_laws.proofs.Asides.{AreAside, aside_none, aside_joined, notic
 
 -- ---- numbers
 
+-- the place of the next number
 is_next : (number expected : ℕ) → number < 65536 → expected < 65536 → place number expected ≡ places.Next → number ≡ expected
 is_next number expected a b h = grind (arith, nat_tests)
 
+-- the place of the number before
 is_again : (number many : ℕ) → place number (many % 65536) ≡ places.Repeat → (number + 1) % 65536 ≡ many % 65536
 is_again number many h = grind (arith, nat_tests)
 
+-- numbers have sixteen bits
 small : (many : ℕ) → many % 65536 < 65536
 small many = omega arith
 
 -- ---- the exchanges of the slave and those of its desk
 
+-- each exchange of the desk has the answer of that of the slave
 abbrev pub Pairs : List Exchange → List DecidedRequest → Type 0
 Pairs [] [] = Unit {0}
 Pairs (e ∷ served) (d ∷ es) = (d.answer ≡ answer_note e.request (expected (e ∷ served)) e.answer) × Pairs served es
 Pairs _ _ = ⊥
 
+-- they are as many
 pub pairs_length : (served : List Exchange) (es : List DecidedRequest) → Pairs served es → length es ≡ length served
 pairs_length [] [] p = refl
 pairs_length [] (d ∷ es) p = absurd p
 pairs_length (e ∷ served) [] p = absurd p
 pairs_length (e ∷ served) (d ∷ es) p = let h = pairs_length served es p.1 in omega (arith, h)
 
+-- where the slave has none, the desk has none
 no_exchanges : (served : List Exchange) (es : List DecidedRequest) → served ≡ [] → Pairs served es → es ≡ []
 no_exchanges [] [] z p = refl
 no_exchanges [] (d ∷ es) z p = absurd p
 no_exchanges (e ∷ served) es z p = absurd cc
 
+-- nothing is taken before a session
 abbrev pub SessionFits : Session → List Exchange → Type 0
 SessionFits Before served = served ≡ []
 SessionFits (During master id) served = Unit {0}
 SessionFits (After master id) served = Unit {0}
 
+-- a session has begun
 abbrev pub IsBegun : Session → Type 0
 IsBegun Before = ⊥
 IsBegun (During master id) = Unit {0}
@@ -80,11 +88,13 @@ begun_after (During master id) from r a = by (transport.is_last r.asked a)
     by false = tt
 begun_after (After master id) from r a = tt
 
+-- so anything may be taken
 begun_fits : (session : Session) (served : List Exchange) → IsBegun session → SessionFits session served
 begun_fits Before served h = absurd h
 begun_fits (During master id) served h = tt
 begun_fits (After master id) served h = tt
 
+-- the desk with these exchanges, which owes these sends
 abbrev pub desk : List DecidedRequest → List Send → Desk
 desk es owed = record { served = es; owed = map post owed }
 
@@ -132,6 +142,7 @@ module _ (w : Parties) (rd : ReadsMessages w) (d : SlaveDesc) where
     pub serves : ServesNote w accepts mv (desk es []) (desk es sent)
     pub mute : IsMuteOver y es
 
+  -- an event does the one or the other
   abbrev pub Makes : Move → (es exchange : List DecidedRequest) → List Send → ForeignState → Type 0
   Makes mv es exchange sent y = Goes mv es exchange sent y ⊎ Loses mv es exchange sent y
 
@@ -141,15 +152,19 @@ module _ (w : Parties) (rd : ReadsMessages w) (d : SlaveDesc) where
     abbrev Out : Fate → Type 0
     Out f = Makes (Comes from receiver n) es (exchange_of x r n c.answer f) (transport.request_sends (foreign d c) x from r f ++ ns) (transport.after_request (foreign d c) x from r f)
 
+    -- the choice is free where this happens to the request
     abbrev Free : Fate → Type 0
     Free f = IsFateChoice d x.inner r.asked f c
 
+    -- a request that is dropped
     dropped : Out Dropped
     dropped = inl (record { serves = inl (record { served = refl; owes = aside_none w ns aside }); stands = st })
 
+    -- the number after it
     abbrev many : ℕ
     many = expected (record { request = r; answer = c.answer } ∷ x.served)
 
+    -- a request that is taken
     taken : n.number ≡ length es % 65536 → Free Taken → Out Taken
     taken next free = by (read_or_mute w rd d x.inner r.asked c.answer free)
       where
@@ -192,6 +207,7 @@ module _ (w : Parties) (rd : ReadsMessages w) (d : SlaveDesc) where
               };
             })
 
+    -- the answer that is kept
     again_by : (served : List Exchange) (es : List DecidedRequest) → Pairs served es → AreAnswersKept w from served → (n.number + 1) % 65536 ≡ length es % 65536 → Handles w accepts n (desk es []) (desk es (transport.again from served ++ ns))
     again_by [] [] q k a = inl (record { served = refl; owes = aside_none w ns aside })
     again_by [] (z ∷ es) q k a = absurd q
@@ -207,12 +223,15 @@ module _ (w : Parties) (rd : ReadsMessages w) (d : SlaveDesc) where
           owes = ap (λ k. cons_option (answer_in k) (answers_of w (map post ns))) k ∙ ap (λ l. note ∷ l) (aside_none w ns aside) ∙ ap (λ l. l ∷ []) (sym q.0);
         })))
 
+    -- a request that comes again
     repeated : (n.number + 1) % 65536 ≡ length es % 65536 → Out Repeated
     repeated a = inl (record { serves = again_by x.served es st.pairs (st.kept from) a; stands = st })
 
+    -- the desk has as many exchanges as the slave
     l : length es ≡ length x.served
     l = pairs_length x.served es st.pairs
 
+    -- by its place, in a session
     placed : n.number < 65536 → (q : seq.Place) → place r.number (expected x.served) ≡ q → Free (transport.placed q) → Out (transport.placed q)
     placed lt places.Next h free = taken (sym e ∙ is_next r.number (expected x.served) (omega (arith, e, lt)) (small (length x.served)) h ∙ ap (λ k. k % 65536) (sym l)) free
     placed lt places.Repeat h free = repeated (ap (λ k. (k + 1) % 65536) (sym e) ∙ is_again r.number (length x.served) h ∙ ap (λ k. k % 65536) (sym l))
@@ -223,12 +242,14 @@ module _ (w : Parties) (rd : ReadsMessages w) (d : SlaveDesc) where
           stands = st;
         })
 
+    -- by its place, after a session
     placed_late : (q : seq.Place) → place r.number (expected x.served) ≡ q → Out (transport.placed_late q)
     placed_late places.Next h = dropped
     placed_late places.Repeat h = repeated (ap (λ k. (k + 1) % 65536) (sym e) ∙ is_again r.number (length x.served) h ∙ ap (λ k. k % 65536) (sym l))
     placed_late places.Old h = dropped
     placed_late places.Ahead h = dropped
 
+    -- the register that begins a session
     admitted : spec.heard_as (Some n.message) ≡ spec.Asks r → es ≡ [] → r.number ≡ 0 → (o : Option ErrorCode) → (foreign d c).refuses r.asked ≡ o → Free (transport.admitted o) → Out (transport.admitted o)
     admitted read none zero' None h free = taken (omega (arith, e, zero', ap length none)) free
     admitted read none zero' (Some code) h free =
@@ -237,6 +258,7 @@ module _ (w : Parties) (rd : ReadsMessages w) (d : SlaveDesc) where
           stands = st;
         })
 
+    -- any request
     request_makes : n.number < 65536 → spec.heard_as (Some n.message) ≡ spec.Asks r → (session : Session) → SessionFits session x.served → Free (transport.fate_in (foreign d c) session x.served from r) → Out (transport.fate_in (foreign d c) session x.served from r)
     request_makes lt read Before fits = by (transport.is_register r.asked && (r.number == 0)) refl
       where
@@ -269,6 +291,7 @@ module _ (w : Parties) (rd : ReadsMessages w) (d : SlaveDesc) where
         kept = subst K (sym e) st.kept;
       }
 
+  -- any datagram, by both readings of it
   heard_makes : (c : Choice) (x : ForeignState) (es : List DecidedRequest) (from : Address) (bytes : List ℕ) (ns : List Send) → AreAside w ns → Stands x es → (k : Role) (h : spec.Heard) → spec.heard bytes ≡ h → Agree k h → IsHeardChoice d x from h c
       → Makes (got_so from k) es (exchange_heard d c x from k h) (transport.heard_sends (foreign d c) x from h ++ ns) (transport.after_heard (foreign d c) x from h)
   heard_makes c x es from bytes ns aside st (Request receiver n) (spec.Asks r) is a free = request_makes c x es st from receiver n bytes r is a.0 ns aside a.1 a.2 x.session st.session free
