@@ -15,7 +15,7 @@ use Rattle.conform_laws.specs.Runs.{PiecesFollow, IsCutRun}
 
 -- ---- addresses
 
-turned_about : (a b : Address) → same_address a b ≡ same_address b a
+pub turned_about : (a b : Address) → same_address a b ≡ same_address b a
 turned_about a b = by (same_address a b) (same_address b a) refl refl
   where
     by : (s t : Bool) → same_address a b ≡ s → same_address b a ≡ t → s ≡ t

@@ -6,3 +6,12 @@ pub mod Stepping
 pub mod Following
 pub mod Cutting
 pub mod Fronts
+pub mod Roles
+pub mod Asides
+pub mod Taking
+pub mod Muted
+pub mod Conversing
+pub mod Serving
+pub mod Once
+pub mod Behind
+pub mod Decided
