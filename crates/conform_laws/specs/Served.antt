@@ -39,8 +39,8 @@ first_served w d zero x (Acts event sent ∷ pieces) h = []
 first_served w d (suc n) x (Acts event sent ∷ pieces) h = first_served w d n h.0 pieces h.2 ++ exchange_at w d (h.1).choice x event
 
 -- what a slave with allowed entries has taken in so many of its events
-abbrev pub served_after : Parties → (d : SlaveDesc) → (entries : List LogEntry) → Allowed d entries → (events : ℕ) → List DecidedRequest
-served_after w d entries h n = first_served w d n foreign_fresh h.pieces h.allowed
+abbrev pub allowed_served : Parties → (d : SlaveDesc) → (entries : List LogEntry) → Allowed d entries → (events : ℕ) → List DecidedRequest
+allowed_served w d entries h n = first_served w d n foreign_fresh h.pieces h.allowed
 
 -- the answer of an exchange is the first that is sent at its event
 abbrev pub AnswersStandBehind : Type 0

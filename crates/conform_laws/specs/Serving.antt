@@ -17,7 +17,7 @@ use Rattle.scenario.specs.Sound.{IsScenario}
 use Rattle.master_spec.specs.Rules.{MasterRun}
 use Rattle.run_laws.specs.Laws.{parties, IsRunInRounds}
 use Rattle.foreign_spec.specs.Allowed.{end_of_entry, IsAllowedFront}
-use Rattle.conform_laws.specs.Served.{served_after}
+use Rattle.conform_laws.specs.Served.{allowed_served}
 
 -- no request is sent
 abbrev pub AsksNothing : Parties → LogEntry → Type 0
@@ -41,7 +41,7 @@ pub record IsRunWith (sc : Scenario) (other : SlaveDesc) (s : ℕ) (log : List L
 
 -- what slave s has taken so far, the newest first
 abbrev pub taken_so_far : (sc : Scenario) (other : SlaveDesc) (s : ℕ) (log : List LogEntry) → IsRunWith sc other s log → (sofar : List LogEntry) → List DecidedRequest
-taken_so_far sc other s log run sofar = served_after (parties sc other) (slave_numbered sc other s) (log ++ (run.allowed).0) (run.allowed).1 (length (events_at (slave_numbered sc other s).address sofar))
+taken_so_far sc other s log run sofar = allowed_served (parties sc other) (slave_numbered sc other s) (log ++ (run.allowed).0) (run.allowed).1 (length (events_at (slave_numbered sc other s).address sofar))
 
 abbrev pub AtEachMoment : ((sc : Scenario) (other : SlaveDesc) (s : ℕ) → List DecidedRequest → List LogEntry → Type 0) → Type 0
 AtEachMoment Holds = (sc : Scenario) (other : SlaveDesc) → IsScenario sc → (s : ℕ) (log : List LogEntry) (run : IsRunWith sc other s log) (later sofar : List LogEntry) → reverse log ≡ later ++ sofar
