@@ -1,7 +1,6 @@
 //! The worked rows of the commands over the network in memory.
 
-use crate::calls::{COUNTER, Came, call};
-use crate::tables::bytes_of;
+use crate::calls::{COUNTER, Came, call, text_of};
 use dcp_net::NoWait;
 use net_world::MemoryNet;
 use std::alloc::Global;
@@ -46,7 +45,7 @@ fn the_ends_that_the_words_name_are_run(rt: HostRuntime) -> Result<(), Fail> {
     for (words, input, status, out, head) in rows {
         let came = came_of(&rt, rt.alloc(), words, input)?;
         assert_eq!(rt; came.status.code(), status);
-        assert!(rt; came.out == bytes_of(rt.alloc(), out)?, "{out}");
+        assert!(rt; came.out == text_of(rt.alloc(), out)?, "{out}");
         assert!(rt; came.trace.as_slice().starts_with(head));
         assert!(rt; came.is_live);
     }
@@ -75,7 +74,7 @@ fn what_is_refused_leaves_a_line_and_no_trace(rt: HostRuntime) -> Result<(), Fai
     for (words, input, status, out) in rows {
         let came = came_of(&rt, rt.alloc(), words, input)?;
         assert_eq!(rt; came.status.code(), status, "{words}");
-        assert!(rt; came.out == bytes_of(rt.alloc(), out)?, "{words}");
+        assert!(rt; came.out == text_of(rt.alloc(), out)?, "{words}");
         assert!(rt; came.trace.is_empty());
         assert_eq!(rt; came.is_live, status == 2, "{words}");
     }

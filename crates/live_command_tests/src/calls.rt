@@ -1,6 +1,5 @@
 //! A call of a command over sockets, over objects in memory.
 
-use crate::tables::bytes_of;
 use commands::{Status, Words};
 use dcp_io::{MemorySink, MemorySource};
 use dcp_net::{Net, Ready};
@@ -26,6 +25,15 @@ pub(crate) struct Came {
     pub(crate) trace: Vec<u8>,
 }
 
+/// The text of a cell, in which `/` stands for a line feed.
+pub(crate) fn text_of(alloc: Global, cell: &str) -> Result<Vec<u8>, Fail> {
+    let mut bytes = Vec::new(alloc);
+    for byte in cell.as_bytes() {
+        bytes.push(if *byte == b'/' { b'\n' } else { *byte })?;
+    }
+    Ok(bytes)
+}
+
 /// A sink that takes this many bytes.
 fn sink_of(alloc: Global, size: usize) -> Result<MemorySink, Fail> {
     let mut room = Vec::new(alloc);
@@ -48,7 +56,7 @@ pub(crate) fn call<W: Wait, N: Net, P: Ready>(
     for word in words.split_whitespace() {
         given.push(alloc, word)?;
     }
-    let input = bytes_of(alloc, input)?;
+    let input = text_of(alloc, input)?;
     let mut source = MemorySource::new(input, Vec::new(alloc), Vec::new(alloc));
     let mut out = sink_of(alloc, 1_024)?;
     let mut trace = sink_of(alloc, 65_536)?;
