@@ -107,7 +107,10 @@ class Played:
 
     def running(self):
         """The device in RUNNING, with an input for its first step."""
-        self.configured()
+        return self.configured().started()
+
+    def started(self):
+        """The configured device, brought to RUNNING."""
         for name in ("STC_prepare", "STC_configure", "STC_initialize", "STC_send_outputs"):
             self.change(name)
         self.change("STC_run", 0)

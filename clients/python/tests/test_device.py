@@ -161,9 +161,7 @@ class Runs(unittest.TestCase):
     def test_an_interval(self):
         played = Played().configured()
         self.assertEqual((played.code_of("CFG_steps", 17, 2), played.code_of("CFG_steps", 2, 2)), (0, 0))
-        for name in ("STC_prepare", "STC_configure", "STC_initialize", "STC_send_outputs"):
-            played.change(name)
-        played.change("STC_run", 0)
+        played.started()
         played.feed(0, 1)
         self.assertEqual([to_kind(played.step()), to_kind(played.step())], [[0xe0, 0xe0], [0xe0, 0xf0, 0xe0]])
         self.assertEqual(played.code_of("STC_do_step", State.RUNNING, 1), Refusal.INPUTS_MISSING)
@@ -261,9 +259,7 @@ class Logs(unittest.TestCase):
     def test_sixty_four_entries_are_kept(self):
         played = Played().configured()
         played.code_of("CFG_logging", 2, 2, 0)
-        for name in ("STC_prepare", "STC_configure", "STC_initialize", "STC_send_outputs"):
-            played.change(name)
-        played.change("STC_run", 0)
+        played.started()
         for _ in range(66):
             played.code_of("STC_do_step", State.RUNNING, 1)
         entries = played.ask("INF_log", 2, 255)[4:]
@@ -272,9 +268,7 @@ class Logs(unittest.TestCase):
     def test_sent_entries(self):
         played = Played().configured()
         played.code_of("CFG_logging", 0, 3, 1)
-        for name in ("STC_prepare", "STC_configure", "STC_initialize", "STC_send_outputs"):
-            played.change(name)
-        played.change("STC_run", 0)
+        played.started()
         played.feed(0, 2)
         sends = [message for _, message in played.change("STC_do_step", 1)]
         step = struct.pack("<BBBB", 0xe1, 2, 2, 3) + struct.pack("<IBI", 0, 0, 1)
