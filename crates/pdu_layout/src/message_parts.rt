@@ -41,7 +41,7 @@ pub struct Parts<'a> {
 pub const NONE: FieldContent<'static> = FieldContent::Number(0);
 
 /// A layout that the table lists under its code, with its name and with its fields' names and kinds.
-pub fn listed(code: u8, name: &'static str, fields: &[Field])
+pub(crate) fn listed(code: u8, name: &'static str, fields: &[Field])
     requires { row_of code ≡ Some (record { code = code; name = name.now; fields = rows_of fields.now }) }
 {}
 
