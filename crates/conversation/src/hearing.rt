@@ -17,6 +17,7 @@ use pdu_layout::{Cfg, Pdu};
 /// A message comes from the slave that the conversation is with. `size` is the length of all its
 /// outputs, `setup` the list of the present task. Where the message brings the outputs that the task
 /// needs, they are the answer.
+#[inline(always)]
 fn take_message<'a>(
     talk: &mut Conversation,
     size: usize,
@@ -48,6 +49,7 @@ fn take_message<'a>(
     }
 }
 
+#[inline(always)]
 fn take_outputs<'a>(
     talk: &mut Conversation,
     size: usize,
@@ -69,12 +71,14 @@ fn take_outputs<'a>(
 }
 
 /// The values are all outputs of the slave with this id.
+#[inline(always)]
 fn are_all(id: u8, size: usize, data_id: u16, payload: &[u8]) -> bool
     ensures { result ≡ ((data_id == id) && (length payload.now == size)) }
 {
     data_id == u16::from(id) && payload.len() == size
 }
 
+#[inline(always)]
 fn take_hint(talk: &mut Conversation, sender: u8)
     requires { talk.old.is_due ≡ false }
     ensures stands { (marks : List Mark) (slave : Slave) → Stands talk.old marks → slave.id ≡ talk.old.id → Stands talk.new (extended talk.old.limits (mark_for slave marks (Hints sender)) marks) }
@@ -89,6 +93,7 @@ fn take_hint(talk: &mut Conversation, sender: u8)
 /// A datagram comes from the slave that the conversation is with. `size` is the length of all its
 /// outputs, `setup` the list of the present task. Where the datagram brings the outputs that the task
 /// needs, they are the answer.
+#[inline(always)]
 pub fn hear<'a>(
     talk: &mut Conversation,
     size: usize,

@@ -103,6 +103,7 @@ fn cut_turn(bytes: &[u8]) -> Result<(EntryRef<'_>, &[u8]), TraceWhy>
 }
 
 /// The entry with this tag, whose other bytes are at the front of these; and what is left.
+#[inline(always)]
 pub fn cut_entry(tag: u8, bytes: &[u8]) -> Result<(EntryRef<'_>, &[u8]), TraceWhy>
     ensures ok { IfOk result (λ cut. IsFirstEntry (tag ∷ bytes.now) (entry_told cut.0) cut.1.now) }
     ensures err { IfErr result (λ why. EntryRefused (tag ∷ bytes.now) why) }

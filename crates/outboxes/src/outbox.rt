@@ -43,6 +43,7 @@ impl<const ROOM: usize> Outbox<ROOM> {
     }
 
     /// Puts a message behind the others.
+    #[inline(always)]
     pub fn put(&mut self, to: Address, message: &Pdu<'_>)
         requires room { length self.old < ROOM }
         requires spelled { HasSpelling (message_of message.now) }
@@ -63,6 +64,7 @@ impl<const ROOM: usize> Outbox<ROOM> {
     }
 
     /// The message with this number, from 0.
+    #[inline(always)]
     pub fn get(&self, i: usize) -> Option<(Address, &[u8])>
         ensures value { option_map (λ out. record { to = out.0; bytes = out.1.now }) result ≡ slice_get self.now i }
         ensures sized { IfSome result (λ out. IsSendSized out.1.now) }
@@ -76,6 +78,7 @@ impl<const ROOM: usize> Outbox<ROOM> {
     }
 
     /// Gives up all messages.
+    #[inline(always)]
     pub fn clear(&mut self)
         ensures { self.new ≡ [] }
     {

@@ -31,6 +31,7 @@ impl Slot {
     }
 
     /// Writes a message over what was there.
+    #[inline(always)]
     pub fn spell(&mut self, to: Address, message: &Pdu<'_>)
         requires { HasSpelling (message_of message.now) }
         ensures send { send_in self.new ≡ record { to = to; bytes = spelling (message_of message.now) } }
@@ -52,6 +53,7 @@ impl Slot {
     }
 
     /// To whom the message goes, and its bytes.
+    #[inline(always)]
     pub fn message(&self) -> (Address, &[u8])
         requires { IsFilled self.now }
         ensures send { record { to = result.0; bytes = result.1.now } ≡ send_in self.now }

@@ -28,6 +28,7 @@ pub struct Cut<'a, 'f, const N: usize> {
 }
 
 /// Where field `i` begins.
+#[inline(always)]
 fn start_of(ends: &[usize], i: usize) -> usize
     requires { i ≤ length ends.now }
     ensures { result ≡ begin_of ends.now i }
@@ -35,6 +36,7 @@ fn start_of(ends: &[usize], i: usize) -> usize
     if i == 0 { 1 } else { ends[i - 1] }
 }
 
+#[inline(always)]
 fn part(bytes: &[u8], from: usize, to: usize) -> &[u8]
     requires order { from ≤ to }
     requires within { to ≤ length bytes.now }
@@ -44,6 +46,7 @@ fn part(bytes: &[u8], from: usize, to: usize) -> &[u8]
 }
 
 /// The bytes of field `i`.
+#[inline(always)]
 fn piece_of<'a>(fields: &[Field], bytes: &'a [u8], ends: &[usize], i: usize) -> &'a [u8]
     requires cut { AreEnds (kinds_of fields.now) 0 bytes.now 1 ends.now }
     requires there { i < length fields.now }

@@ -22,6 +22,7 @@ use pdu_layout::{
     stc_send_outputs, stc_stop,
 };
 
+#[inline(always)]
 fn read_stc_register(bytes: &[u8]) -> Result<Pdu<'_>, DecodeFault>
     requires some { 0 < length bytes.now }
     requires code { slice_index bytes.now 0 ≡ 1 }
@@ -31,6 +32,7 @@ fn read_stc_register(bytes: &[u8]) -> Result<Pdu<'_>, DecodeFault>
     Ok(stc_register(&cut_by::<7>(STC_REGISTER.code, &STC_REGISTER.fields, bytes)?))
 }
 
+#[inline(always)]
 fn read_stc_deregister(bytes: &[u8]) -> Result<Pdu<'_>, DecodeFault>
     requires some { 0 < length bytes.now }
     requires code { slice_index bytes.now 0 ≡ 2 }
@@ -40,6 +42,7 @@ fn read_stc_deregister(bytes: &[u8]) -> Result<Pdu<'_>, DecodeFault>
     Ok(stc_deregister(&cut_by::<3>(STC_DEREGISTER.code, &STC_DEREGISTER.fields, bytes)?))
 }
 
+#[inline(always)]
 fn read_stc_prepare(bytes: &[u8]) -> Result<Pdu<'_>, DecodeFault>
     requires some { 0 < length bytes.now }
     requires code { slice_index bytes.now 0 ≡ 3 }
@@ -49,6 +52,7 @@ fn read_stc_prepare(bytes: &[u8]) -> Result<Pdu<'_>, DecodeFault>
     Ok(stc_prepare(&cut_by::<3>(STC_PREPARE.code, &STC_PREPARE.fields, bytes)?))
 }
 
+#[inline(always)]
 fn read_stc_configure(bytes: &[u8]) -> Result<Pdu<'_>, DecodeFault>
     requires some { 0 < length bytes.now }
     requires code { slice_index bytes.now 0 ≡ 4 }
@@ -58,6 +62,7 @@ fn read_stc_configure(bytes: &[u8]) -> Result<Pdu<'_>, DecodeFault>
     Ok(stc_configure(&cut_by::<3>(STC_CONFIGURE.code, &STC_CONFIGURE.fields, bytes)?))
 }
 
+#[inline(always)]
 fn read_stc_initialize(bytes: &[u8]) -> Result<Pdu<'_>, DecodeFault>
     requires some { 0 < length bytes.now }
     requires code { slice_index bytes.now 0 ≡ 5 }
@@ -67,6 +72,7 @@ fn read_stc_initialize(bytes: &[u8]) -> Result<Pdu<'_>, DecodeFault>
     Ok(stc_initialize(&cut_by::<3>(STC_INITIALIZE.code, &STC_INITIALIZE.fields, bytes)?))
 }
 
+#[inline(always)]
 fn read_stc_run(bytes: &[u8]) -> Result<Pdu<'_>, DecodeFault>
     requires some { 0 < length bytes.now }
     requires code { slice_index bytes.now 0 ≡ 6 }
@@ -76,6 +82,7 @@ fn read_stc_run(bytes: &[u8]) -> Result<Pdu<'_>, DecodeFault>
     Ok(stc_run(&cut_by::<4>(STC_RUN.code, &STC_RUN.fields, bytes)?))
 }
 
+#[inline(always)]
 fn read_stc_do_step(bytes: &[u8]) -> Result<Pdu<'_>, DecodeFault>
     requires some { 0 < length bytes.now }
     requires code { slice_index bytes.now 0 ≡ 7 }
@@ -85,6 +92,7 @@ fn read_stc_do_step(bytes: &[u8]) -> Result<Pdu<'_>, DecodeFault>
     Ok(stc_do_step(&cut_by::<4>(STC_DO_STEP.code, &STC_DO_STEP.fields, bytes)?))
 }
 
+#[inline(always)]
 fn read_stc_send_outputs(bytes: &[u8]) -> Result<Pdu<'_>, DecodeFault>
     requires some { 0 < length bytes.now }
     requires code { slice_index bytes.now 0 ≡ 8 }
@@ -94,6 +102,7 @@ fn read_stc_send_outputs(bytes: &[u8]) -> Result<Pdu<'_>, DecodeFault>
     Ok(stc_send_outputs(&cut_by::<3>(STC_SEND_OUTPUTS.code, &STC_SEND_OUTPUTS.fields, bytes)?))
 }
 
+#[inline(always)]
 fn read_stc_stop(bytes: &[u8]) -> Result<Pdu<'_>, DecodeFault>
     requires some { 0 < length bytes.now }
     requires code { slice_index bytes.now 0 ≡ 9 }
@@ -103,6 +112,7 @@ fn read_stc_stop(bytes: &[u8]) -> Result<Pdu<'_>, DecodeFault>
     Ok(stc_stop(&cut_by::<3>(STC_STOP.code, &STC_STOP.fields, bytes)?))
 }
 
+#[inline(always)]
 fn read_stc_reset(bytes: &[u8]) -> Result<Pdu<'_>, DecodeFault>
     requires some { 0 < length bytes.now }
     requires code { slice_index bytes.now 0 ≡ 10 }
@@ -113,6 +123,7 @@ fn read_stc_reset(bytes: &[u8]) -> Result<Pdu<'_>, DecodeFault>
 }
 
 /// Reads a state request.
+#[inline(always)]
 fn read_state_request(bytes: &[u8]) -> Result<Pdu<'_>, DecodeFault>
     requires some { 0 < length bytes.now }
     requires low { 1 ≤ slice_index bytes.now 0 }
@@ -135,6 +146,7 @@ fn read_state_request(bytes: &[u8]) -> Result<Pdu<'_>, DecodeFault>
     }
 }
 
+#[inline(always)]
 fn read_cfg_time_res(bytes: &[u8]) -> Result<Pdu<'_>, DecodeFault>
     requires some { 0 < length bytes.now }
     requires code { slice_index bytes.now 0 ≡ 32 }
@@ -144,6 +156,7 @@ fn read_cfg_time_res(bytes: &[u8]) -> Result<Pdu<'_>, DecodeFault>
     Ok(cfg_time_res(&cut_by::<4>(CFG_TIME_RES.code, &CFG_TIME_RES.fields, bytes)?))
 }
 
+#[inline(always)]
 fn read_cfg_steps(bytes: &[u8]) -> Result<Pdu<'_>, DecodeFault>
     requires some { 0 < length bytes.now }
     requires code { slice_index bytes.now 0 ≡ 33 }
@@ -153,6 +166,7 @@ fn read_cfg_steps(bytes: &[u8]) -> Result<Pdu<'_>, DecodeFault>
     Ok(cfg_steps(&cut_by::<4>(CFG_STEPS.code, &CFG_STEPS.fields, bytes)?))
 }
 
+#[inline(always)]
 fn read_cfg_input(bytes: &[u8]) -> Result<Pdu<'_>, DecodeFault>
     requires some { 0 < length bytes.now }
     requires code { slice_index bytes.now 0 ≡ 34 }
@@ -162,6 +176,7 @@ fn read_cfg_input(bytes: &[u8]) -> Result<Pdu<'_>, DecodeFault>
     Ok(cfg_input(&cut_by::<6>(CFG_INPUT.code, &CFG_INPUT.fields, bytes)?))
 }
 
+#[inline(always)]
 fn read_cfg_output(bytes: &[u8]) -> Result<Pdu<'_>, DecodeFault>
     requires some { 0 < length bytes.now }
     requires code { slice_index bytes.now 0 ≡ 35 }
@@ -171,6 +186,7 @@ fn read_cfg_output(bytes: &[u8]) -> Result<Pdu<'_>, DecodeFault>
     Ok(cfg_output(&cut_by::<5>(CFG_OUTPUT.code, &CFG_OUTPUT.fields, bytes)?))
 }
 
+#[inline(always)]
 fn read_cfg_clear(bytes: &[u8]) -> Result<Pdu<'_>, DecodeFault>
     requires some { 0 < length bytes.now }
     requires code { slice_index bytes.now 0 ≡ 36 }
@@ -180,6 +196,7 @@ fn read_cfg_clear(bytes: &[u8]) -> Result<Pdu<'_>, DecodeFault>
     Ok(cfg_clear(&cut_by::<2>(CFG_CLEAR.code, &CFG_CLEAR.fields, bytes)?))
 }
 
+#[inline(always)]
 fn read_cfg_target_network_information(bytes: &[u8]) -> Result<Pdu<'_>, DecodeFault>
     requires some { 0 < length bytes.now }
     requires code { slice_index bytes.now 0 ≡ 37 }
@@ -193,6 +210,7 @@ fn read_cfg_target_network_information(bytes: &[u8]) -> Result<Pdu<'_>, DecodeFa
     )?))
 }
 
+#[inline(always)]
 fn read_cfg_source_network_information(bytes: &[u8]) -> Result<Pdu<'_>, DecodeFault>
     requires some { 0 < length bytes.now }
     requires code { slice_index bytes.now 0 ≡ 38 }
@@ -206,6 +224,7 @@ fn read_cfg_source_network_information(bytes: &[u8]) -> Result<Pdu<'_>, DecodeFa
     )?))
 }
 
+#[inline(always)]
 fn read_cfg_parameter(bytes: &[u8]) -> Result<Pdu<'_>, DecodeFault>
     requires some { 0 < length bytes.now }
     requires code { slice_index bytes.now 0 ≡ 39 }
@@ -215,6 +234,7 @@ fn read_cfg_parameter(bytes: &[u8]) -> Result<Pdu<'_>, DecodeFault>
     Ok(cfg_parameter(&cut_by::<5>(CFG_PARAMETER.code, &CFG_PARAMETER.fields, bytes)?))
 }
 
+#[inline(always)]
 fn read_cfg_tunable_parameter(bytes: &[u8]) -> Result<Pdu<'_>, DecodeFault>
     requires some { 0 < length bytes.now }
     requires code { slice_index bytes.now 0 ≡ 40 }
@@ -228,6 +248,7 @@ fn read_cfg_tunable_parameter(bytes: &[u8]) -> Result<Pdu<'_>, DecodeFault>
     )?))
 }
 
+#[inline(always)]
 fn read_cfg_param_network_information(bytes: &[u8]) -> Result<Pdu<'_>, DecodeFault>
     requires some { 0 < length bytes.now }
     requires code { slice_index bytes.now 0 ≡ 41 }
@@ -241,6 +262,7 @@ fn read_cfg_param_network_information(bytes: &[u8]) -> Result<Pdu<'_>, DecodeFau
     )?))
 }
 
+#[inline(always)]
 fn read_cfg_logging(bytes: &[u8]) -> Result<Pdu<'_>, DecodeFault>
     requires some { 0 < length bytes.now }
     requires code { slice_index bytes.now 0 ≡ 42 }
@@ -250,6 +272,7 @@ fn read_cfg_logging(bytes: &[u8]) -> Result<Pdu<'_>, DecodeFault>
     Ok(cfg_logging(&cut_by::<5>(CFG_LOGGING.code, &CFG_LOGGING.fields, bytes)?))
 }
 
+#[inline(always)]
 fn read_cfg_scope(bytes: &[u8]) -> Result<Pdu<'_>, DecodeFault>
     requires some { 0 < length bytes.now }
     requires code { slice_index bytes.now 0 ≡ 43 }
@@ -260,6 +283,7 @@ fn read_cfg_scope(bytes: &[u8]) -> Result<Pdu<'_>, DecodeFault>
 }
 
 /// Reads a request that configures.
+#[inline(always)]
 fn read_configuration(bytes: &[u8]) -> Result<Pdu<'_>, DecodeFault>
     requires some { 0 < length bytes.now }
     requires low { 32 ≤ slice_index bytes.now 0 }
@@ -284,6 +308,7 @@ fn read_configuration(bytes: &[u8]) -> Result<Pdu<'_>, DecodeFault>
     }
 }
 
+#[inline(always)]
 fn read_inf_state(bytes: &[u8]) -> Result<Pdu<'_>, DecodeFault>
     requires some { 0 < length bytes.now }
     requires code { slice_index bytes.now 0 ≡ 128 }
@@ -293,6 +318,7 @@ fn read_inf_state(bytes: &[u8]) -> Result<Pdu<'_>, DecodeFault>
     Ok(inf_state(&cut_by::<2>(INF_STATE.code, &INF_STATE.fields, bytes)?))
 }
 
+#[inline(always)]
 fn read_inf_error(bytes: &[u8]) -> Result<Pdu<'_>, DecodeFault>
     requires some { 0 < length bytes.now }
     requires code { slice_index bytes.now 0 ≡ 129 }
@@ -302,6 +328,7 @@ fn read_inf_error(bytes: &[u8]) -> Result<Pdu<'_>, DecodeFault>
     Ok(inf_error(&cut_by::<2>(INF_ERROR.code, &INF_ERROR.fields, bytes)?))
 }
 
+#[inline(always)]
 fn read_inf_log(bytes: &[u8]) -> Result<Pdu<'_>, DecodeFault>
     requires some { 0 < length bytes.now }
     requires code { slice_index bytes.now 0 ≡ 130 }
@@ -312,6 +339,7 @@ fn read_inf_log(bytes: &[u8]) -> Result<Pdu<'_>, DecodeFault>
 }
 
 /// Reads a question.
+#[inline(always)]
 fn read_question(bytes: &[u8]) -> Result<Pdu<'_>, DecodeFault>
     requires some { 0 < length bytes.now }
     requires low { 128 ≤ slice_index bytes.now 0 }
@@ -327,6 +355,7 @@ fn read_question(bytes: &[u8]) -> Result<Pdu<'_>, DecodeFault>
     }
 }
 
+#[inline(always)]
 fn read_rsp_ack(bytes: &[u8]) -> Result<Pdu<'_>, DecodeFault>
     requires some { 0 < length bytes.now }
     requires code { slice_index bytes.now 0 ≡ 176 }
@@ -336,6 +365,7 @@ fn read_rsp_ack(bytes: &[u8]) -> Result<Pdu<'_>, DecodeFault>
     Ok(rsp_ack(&cut_by::<2>(RSP_ACK.code, &RSP_ACK.fields, bytes)?))
 }
 
+#[inline(always)]
 fn read_rsp_nack(bytes: &[u8]) -> Result<Pdu<'_>, DecodeFault>
     requires some { 0 < length bytes.now }
     requires code { slice_index bytes.now 0 ≡ 177 }
@@ -345,6 +375,7 @@ fn read_rsp_nack(bytes: &[u8]) -> Result<Pdu<'_>, DecodeFault>
     Ok(rsp_nack(&cut_by::<4>(RSP_NACK.code, &RSP_NACK.fields, bytes)?))
 }
 
+#[inline(always)]
 fn read_rsp_state_ack(bytes: &[u8]) -> Result<Pdu<'_>, DecodeFault>
     requires some { 0 < length bytes.now }
     requires code { slice_index bytes.now 0 ≡ 178 }
@@ -354,6 +385,7 @@ fn read_rsp_state_ack(bytes: &[u8]) -> Result<Pdu<'_>, DecodeFault>
     Ok(rsp_state_ack(&cut_by::<3>(RSP_STATE_ACK.code, &RSP_STATE_ACK.fields, bytes)?))
 }
 
+#[inline(always)]
 fn read_rsp_error_ack(bytes: &[u8]) -> Result<Pdu<'_>, DecodeFault>
     requires some { 0 < length bytes.now }
     requires code { slice_index bytes.now 0 ≡ 179 }
@@ -363,6 +395,7 @@ fn read_rsp_error_ack(bytes: &[u8]) -> Result<Pdu<'_>, DecodeFault>
     Ok(rsp_error_ack(&cut_by::<3>(RSP_ERROR_ACK.code, &RSP_ERROR_ACK.fields, bytes)?))
 }
 
+#[inline(always)]
 fn read_rsp_log_ack(bytes: &[u8]) -> Result<Pdu<'_>, DecodeFault>
     requires some { 0 < length bytes.now }
     requires code { slice_index bytes.now 0 ≡ 180 }
@@ -373,6 +406,7 @@ fn read_rsp_log_ack(bytes: &[u8]) -> Result<Pdu<'_>, DecodeFault>
 }
 
 /// Reads an answer.
+#[inline(always)]
 fn read_answer(bytes: &[u8]) -> Result<Pdu<'_>, DecodeFault>
     requires some { 0 < length bytes.now }
     requires low { 176 ≤ slice_index bytes.now 0 }
@@ -390,6 +424,7 @@ fn read_answer(bytes: &[u8]) -> Result<Pdu<'_>, DecodeFault>
     }
 }
 
+#[inline(always)]
 fn read_ntf_state_changed(bytes: &[u8]) -> Result<Pdu<'_>, DecodeFault>
     requires some { 0 < length bytes.now }
     requires code { slice_index bytes.now 0 ≡ 224 }
@@ -399,6 +434,7 @@ fn read_ntf_state_changed(bytes: &[u8]) -> Result<Pdu<'_>, DecodeFault>
     Ok(ntf_state_changed(&cut_by::<2>(NTF_STATE_CHANGED.code, &NTF_STATE_CHANGED.fields, bytes)?))
 }
 
+#[inline(always)]
 fn read_ntf_log(bytes: &[u8]) -> Result<Pdu<'_>, DecodeFault>
     requires some { 0 < length bytes.now }
     requires code { slice_index bytes.now 0 ≡ 225 }
@@ -408,6 +444,7 @@ fn read_ntf_log(bytes: &[u8]) -> Result<Pdu<'_>, DecodeFault>
     Ok(ntf_log(&cut_by::<4>(NTF_LOG.code, &NTF_LOG.fields, bytes)?))
 }
 
+#[inline(always)]
 fn read_dat_input_output(bytes: &[u8]) -> Result<Pdu<'_>, DecodeFault>
     requires some { 0 < length bytes.now }
     requires code { slice_index bytes.now 0 ≡ 240 }
@@ -417,6 +454,7 @@ fn read_dat_input_output(bytes: &[u8]) -> Result<Pdu<'_>, DecodeFault>
     Ok(dat_input_output(&cut_by::<3>(DAT_INPUT_OUTPUT.code, &DAT_INPUT_OUTPUT.fields, bytes)?))
 }
 
+#[inline(always)]
 fn read_dat_parameter(bytes: &[u8]) -> Result<Pdu<'_>, DecodeFault>
     requires some { 0 < length bytes.now }
     requires code { slice_index bytes.now 0 ≡ 241 }
@@ -427,6 +465,7 @@ fn read_dat_parameter(bytes: &[u8]) -> Result<Pdu<'_>, DecodeFault>
 }
 
 /// Reads a notice or data message.
+#[inline(always)]
 fn read_notice(bytes: &[u8]) -> Result<Pdu<'_>, DecodeFault>
     requires some { 0 < length bytes.now }
     requires code { (slice_index bytes.now 0 ≡ 224) ⊎ (slice_index bytes.now 0 ≡ 225) ⊎ (slice_index bytes.now 0 ≡ 240) ⊎ (slice_index bytes.now 0 ≡ 241) }
@@ -449,6 +488,7 @@ fn read_notice(bytes: &[u8]) -> Result<Pdu<'_>, DecodeFault>
 /// and `BadType` at a state above 18 or a type above 7, `Short` where the bytes end before their
 /// layout, `Long` where a layout of fixed length ends before the bytes, `TooLong` at 1,024 where
 /// there are more bytes than a message has.
+#[inline(always)]
 pub fn decode(bytes: &[u8]) -> Result<Pdu<'_>, DecodeFault>
     ensures ok { IfOk result (λ p. Spells (message_of p) bytes.now) }
     ensures err { IfErr result (λ fault. Refusal bytes.now fault.at fault.why) }

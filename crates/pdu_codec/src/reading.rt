@@ -8,6 +8,7 @@ use crate::from_bytes::decode;
 use pdu_layout::Pdu;
 
 /// The message that the bytes spell, where they spell one. A payload is a part of the bytes.
+#[inline(always)]
 pub fn read(bytes: &[u8]) -> Option<Pdu<'_>>
     ensures { MatchOption result (message_in bytes.now ≡ None) (λ p. message_in bytes.now ≡ Some (message_of p)) }
 {

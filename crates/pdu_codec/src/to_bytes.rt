@@ -16,6 +16,7 @@ use byteorder::{BigEndian, ByteOrder, LittleEndian};
 use dcp_types::{DataType, put_value};
 use pdu_layout::{Field, FieldContent, FieldKind, Pdu, parts_of, type_after};
 
+#[inline(always)]
 fn put_u8(n: u8, room: &mut [u8]) -> usize
     requires { 1 ≤ length room.old }
     ensures length { result ≡ 1 }
@@ -25,6 +26,7 @@ fn put_u8(n: u8, room: &mut [u8]) -> usize
     1
 }
 
+#[inline(always)]
 fn put_u16(n: u16, room: &mut [u8]) -> usize
     requires { 2 ≤ length room.old }
     ensures length { result ≡ 2 }
@@ -34,6 +36,7 @@ fn put_u16(n: u16, room: &mut [u8]) -> usize
     2
 }
 
+#[inline(always)]
 fn put_u32(n: u32, room: &mut [u8]) -> usize
     requires { 4 ≤ length room.old }
     ensures length { result ≡ 4 }
@@ -43,6 +46,7 @@ fn put_u32(n: u32, room: &mut [u8]) -> usize
     4
 }
 
+#[inline(always)]
 fn put_u64(n: u64, room: &mut [u8]) -> usize
     requires { 8 ≤ length room.old }
     ensures length { result ≡ 8 }
@@ -53,6 +57,7 @@ fn put_u64(n: u64, room: &mut [u8]) -> usize
 }
 
 /// An identity stands in the order of its printed form, the highest byte first.
+#[inline(always)]
 fn put_uuid(n: u128, room: &mut [u8]) -> usize
     requires { 16 ≤ length room.old }
     ensures length { result ≡ 16 }
@@ -62,6 +67,7 @@ fn put_uuid(n: u128, room: &mut [u8]) -> usize
     16
 }
 
+#[inline(always)]
 fn put_number(kind: FieldKind, n: u128, room: &mut [u8]) -> usize
     requires fits { n < limit kind }
     requires room { field_width kind 0 ≤ length room.old }
@@ -81,6 +87,7 @@ fn put_number(kind: FieldKind, n: u128, room: &mut [u8]) -> usize
     }
 }
 
+#[inline(always)]
 fn put_typed(kind: DataType, value: i128, room: &mut [u8]) -> usize
     requires fits { IsTrue (fits kind value) }
     requires room { values.width kind ≤ length room.old }
@@ -92,6 +99,7 @@ fn put_typed(kind: DataType, value: i128, room: &mut [u8]) -> usize
     width
 }
 
+#[inline(always)]
 fn put_signed(kind: FieldKind, last: DataType, value: i128, room: &mut [u8]) -> usize
     requires fits { Fits kind (type_code last) (Signed value) }
     requires room { field_width kind (type_code last) ≤ length room.old }
@@ -105,6 +113,7 @@ fn put_signed(kind: FieldKind, last: DataType, value: i128, room: &mut [u8]) -> 
     }
 }
 
+#[inline(always)]
 fn put_bytes(bytes: &[u8], room: &mut [u8]) -> usize
     requires { length bytes.now ≤ length room.old }
     ensures length { result ≡ length bytes.now }
@@ -115,6 +124,7 @@ fn put_bytes(bytes: &[u8], room: &mut [u8]) -> usize
 }
 
 /// Writes what a field holds to the front of the room.
+#[inline(always)]
 fn put_field(kind: FieldKind, last: DataType, content: FieldContent<'_>, room: &mut [u8]) -> usize
     requires fits { Fits kind (type_code last) (value_of content) }
     requires room { length (bytes_of kind (type_code last) (value_of content)) ≤ length room.old }
@@ -129,6 +139,7 @@ fn put_field(kind: FieldKind, last: DataType, content: FieldContent<'_>, room: &
 }
 
 /// Writes what a field holds from a place of the room on.
+#[inline(always)]
 fn put_field_at(
     at: usize,
     kind: FieldKind,
@@ -149,6 +160,7 @@ fn put_field_at(
 ///
 /// Each of the contents fits its field, and with the code they have at most 1,024 bytes. Contents
 /// past the fields mean nothing.
+#[inline(always)]
 pub fn put_message(
     code: u8,
     fields: &[Field],
@@ -179,6 +191,7 @@ pub fn put_message(
 /// room stays.
 ///
 /// The message is in range: each value fits its type, and it has at most 1,024 bytes.
+#[inline(always)]
 pub fn encode(pdu: &Pdu<'_>, room: &mut [u8; 1024]) -> usize
     requires { HasSpelling (message_of pdu.now) }
     ensures at_most { result ≤ 1024 }

@@ -91,30 +91,35 @@ pub fn answer_row(code: u8) -> ListedRow
     }
 }
 
+#[inline(always)]
 fn rsp_ack_parts(seq: u16, sender: u8) -> Parts<'static>
     ensures { AreParts (message_of (pdu.Rsp seq sender rsp.Ack)) result }
 {
     message!(RSP_ACK, RSP_ACK_FIELDS, number seq, number sender)
 }
 
+#[inline(always)]
 fn rsp_nack_parts(seq: u16, sender: u8, expected: u16, code: u16) -> Parts<'static>
     ensures { AreParts (message_of (pdu.Rsp seq sender (rsp.Nack expected code))) result }
 {
     message!(RSP_NACK, RSP_NACK_FIELDS, number seq, number sender, number expected, number code)
 }
 
+#[inline(always)]
 fn rsp_state_ack_parts(seq: u16, sender: u8, state: State) -> Parts<'static>
     ensures { AreParts (message_of (pdu.Rsp seq sender (rsp.StateAck state))) result }
 {
     message!(RSP_STATE_ACK, RSP_STATE_ACK_FIELDS, number seq, number sender, code state)
 }
 
+#[inline(always)]
 fn rsp_error_ack_parts(seq: u16, sender: u8, code: u16) -> Parts<'static>
     ensures { AreParts (message_of (pdu.Rsp seq sender (rsp.ErrorAck code))) result }
 {
     message!(RSP_ERROR_ACK, RSP_ERROR_ACK_FIELDS, number seq, number sender, number code)
 }
 
+#[inline(always)]
 fn rsp_log_ack_parts(seq: u16, sender: u8, entries: &[u8]) -> Parts<'_>
     ensures { AreParts (message_of (pdu.Rsp seq sender (rsp.LogAck entries.entry))) result }
 {
@@ -122,6 +127,7 @@ fn rsp_log_ack_parts(seq: u16, sender: u8, entries: &[u8]) -> Parts<'_>
 }
 
 /// The parts of the answers.
+#[inline(always)]
 pub fn answer_parts(seq: u16, sender: u8, body: Rsp<'_>) -> Parts<'_>
     ensures { AreParts (message_of (pdu.Rsp seq sender body.entry)) result }
 {

@@ -186,18 +186,21 @@ pub fn configuration_row(code: u8) -> ListedRow
     }
 }
 
+#[inline(always)]
 fn cfg_time_res_parts(seq: u16, receiver: u8, numerator: u32, denominator: u32) -> Parts<'static>
     ensures { AreParts (message_of (pdu.Cfg seq receiver (cfg.TimeRes numerator denominator))) result }
 {
     message!(CFG_TIME_RES, CFG_TIME_RES_FIELDS, number seq, number receiver, number numerator, number denominator)
 }
 
+#[inline(always)]
 fn cfg_steps_parts(seq: u16, receiver: u8, data_id: u16, steps: u32) -> Parts<'static>
     ensures { AreParts (message_of (pdu.Cfg seq receiver (cfg.Steps data_id steps))) result }
 {
     message!(CFG_STEPS, CFG_STEPS_FIELDS, number seq, number receiver, number data_id, number steps)
 }
 
+#[inline(always)]
 fn cfg_input_parts(
     seq: u16,
     receiver: u8,
@@ -211,30 +214,35 @@ fn cfg_input_parts(
     message!(CFG_INPUT, CFG_INPUT_FIELDS, number seq, number receiver, number data_id, number pos, number vr, code source)
 }
 
+#[inline(always)]
 fn cfg_output_parts(seq: u16, receiver: u8, data_id: u16, pos: u16, vr: u64) -> Parts<'static>
     ensures { AreParts (message_of (pdu.Cfg seq receiver (cfg.Output data_id pos vr))) result }
 {
     message!(CFG_OUTPUT, CFG_OUTPUT_FIELDS, number seq, number receiver, number data_id, number pos, number vr)
 }
 
+#[inline(always)]
 fn cfg_clear_parts(seq: u16, receiver: u8) -> Parts<'static>
     ensures { AreParts (message_of (pdu.Cfg seq receiver cfg.Clear)) result }
 {
     message!(CFG_CLEAR, CFG_CLEAR_FIELDS, number seq, number receiver)
 }
 
+#[inline(always)]
 fn cfg_target_network_information_parts(seq: u16, receiver: u8, net: NetInfo) -> Parts<'static>
     ensures { AreParts (message_of (pdu.Cfg seq receiver (cfg.Target net))) result }
 {
     message!(CFG_TARGET_NETWORK_INFORMATION, NETWORK_FIELDS, number seq, number receiver, number net.data_id, number net.protocol, number net.port, number net.ip)
 }
 
+#[inline(always)]
 fn cfg_source_network_information_parts(seq: u16, receiver: u8, net: NetInfo) -> Parts<'static>
     ensures { AreParts (message_of (pdu.Cfg seq receiver (cfg.Source net))) result }
 {
     message!(CFG_SOURCE_NETWORK_INFORMATION, NETWORK_FIELDS, number seq, number receiver, number net.data_id, number net.protocol, number net.port, number net.ip)
 }
 
+#[inline(always)]
 fn cfg_parameter_parts(
     seq: u16,
     receiver: u8,
@@ -247,6 +255,7 @@ fn cfg_parameter_parts(
     message!(CFG_PARAMETER, CFG_PARAMETER_FIELDS, number seq, number receiver, number vr, code kind, signed value)
 }
 
+#[inline(always)]
 fn cfg_tunable_parameter_parts(
     seq: u16,
     receiver: u8,
@@ -260,6 +269,7 @@ fn cfg_tunable_parameter_parts(
     message!(CFG_TUNABLE_PARAMETER, CFG_TUNABLE_PARAMETER_FIELDS, number seq, number receiver, number param_id, number pos, number vr, code kind)
 }
 
+#[inline(always)]
 fn cfg_param_network_information_parts(
     seq: u16,
     receiver: u8,
@@ -273,12 +283,14 @@ fn cfg_param_network_information_parts(
     message!(CFG_PARAM_NETWORK_INFORMATION, CFG_PARAM_NETWORK_INFORMATION_FIELDS, number seq, number receiver, number param_id, number protocol, number port, number ip)
 }
 
+#[inline(always)]
 fn cfg_logging_parts(seq: u16, receiver: u8, category: u8, level: u8, mode: u8) -> Parts<'static>
     ensures { AreParts (message_of (pdu.Cfg seq receiver (cfg.Logging category level mode))) result }
 {
     message!(CFG_LOGGING, CFG_LOGGING_FIELDS, number seq, number receiver, number category, number level, number mode)
 }
 
+#[inline(always)]
 fn cfg_scope_parts(seq: u16, receiver: u8, data_id: u16, scope: u8) -> Parts<'static>
     ensures { AreParts (message_of (pdu.Cfg seq receiver (cfg.Scope data_id scope))) result }
 {
@@ -286,6 +298,7 @@ fn cfg_scope_parts(seq: u16, receiver: u8, data_id: u16, scope: u8) -> Parts<'st
 }
 
 /// The parts of the requests that configure.
+#[inline(always)]
 pub fn configuration_parts(seq: u16, receiver: u8, body: Cfg) -> Parts<'static>
     ensures { AreParts (message_of (pdu.Cfg seq receiver body)) result }
 {

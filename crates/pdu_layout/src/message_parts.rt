@@ -84,6 +84,7 @@ macro_rules! message {
 pub(crate) use message;
 
 /// The parts of a message.
+#[inline(always)]
 pub fn parts_of<'a>(pdu: &Pdu<'a>) -> Parts<'a>
     ensures { AreParts (message_of pdu.now) result }
 {

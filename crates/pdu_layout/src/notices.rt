@@ -78,24 +78,28 @@ pub fn notice_row(code: u8) -> ListedRow
     }
 }
 
+#[inline(always)]
 pub fn ntf_state_changed_parts(sender: u8, state: State) -> Parts<'static>
     ensures { AreParts (message_of (pdu.StateChanged sender state)) result }
 {
     message!(NTF_STATE_CHANGED, NTF_STATE_CHANGED_FIELDS, number sender, code state)
 }
 
+#[inline(always)]
 pub fn ntf_log_parts(sender: u8, category: u8, level: u8, text: &[u8]) -> Parts<'_>
     ensures { AreParts (message_of (pdu.LogNote sender category level text.entry)) result }
 {
     message!(NTF_LOG, NTF_LOG_FIELDS, number sender, number category, number level, bytes text)
 }
 
+#[inline(always)]
 pub fn dat_input_output_parts(seq: u16, data_id: u16, payload: &[u8]) -> Parts<'_>
     ensures { AreParts (message_of (pdu.DataIo seq data_id payload.entry)) result }
 {
     message!(DAT_INPUT_OUTPUT, DAT_INPUT_OUTPUT_FIELDS, number seq, number data_id, bytes payload)
 }
 
+#[inline(always)]
 pub fn dat_parameter_parts(seq: u16, param_id: u16, payload: &[u8]) -> Parts<'_>
     ensures { AreParts (message_of (pdu.DataParameter seq param_id payload.entry)) result }
 {

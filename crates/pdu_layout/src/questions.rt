@@ -61,18 +61,21 @@ pub fn question_row(code: u8) -> ListedRow
     }
 }
 
+#[inline(always)]
 fn inf_state_parts(seq: u16, receiver: u8) -> Parts<'static>
     ensures { AreParts (message_of (pdu.Inf seq receiver inf.State)) result }
 {
     message!(INF_STATE, INF_FIELDS, number seq, number receiver)
 }
 
+#[inline(always)]
 fn inf_error_parts(seq: u16, receiver: u8) -> Parts<'static>
     ensures { AreParts (message_of (pdu.Inf seq receiver inf.Error)) result }
 {
     message!(INF_ERROR, INF_FIELDS, number seq, number receiver)
 }
 
+#[inline(always)]
 fn inf_log_parts(seq: u16, receiver: u8, category: u8, max_entries: u8) -> Parts<'static>
     ensures { AreParts (message_of (pdu.Inf seq receiver (inf.Log category max_entries))) result }
 {
@@ -80,6 +83,7 @@ fn inf_log_parts(seq: u16, receiver: u8, category: u8, max_entries: u8) -> Parts
 }
 
 /// The parts of the questions.
+#[inline(always)]
 pub fn question_parts(seq: u16, receiver: u8, body: Inf) -> Parts<'static>
     ensures { AreParts (message_of (pdu.Inf seq receiver body)) result }
 {

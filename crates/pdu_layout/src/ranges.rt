@@ -98,6 +98,7 @@ fn named_type(content: FieldContent<'_>) -> DataType
 }
 
 /// The type that the fields after this one go by.
+#[inline(always)]
 pub fn type_after(kind: FieldKind, last: DataType, content: FieldContent<'_>) -> DataType
     requires { Fits kind (type_code last) (value_of content) }
     ensures { type_code result ≡ type_after kind (type_code last) (bytes_of kind (type_code last) (value_of content.entry)) }

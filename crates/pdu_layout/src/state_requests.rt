@@ -150,6 +150,7 @@ pub fn state_request_row(code: u8) -> ListedRow
     }
 }
 
+#[inline(always)]
 fn stc_register_parts(
     seq: u16,
     receiver: u8,
@@ -164,54 +165,63 @@ fn stc_register_parts(
     message!(STC_REGISTER, STC_REGISTER_FIELDS, number seq, number receiver, code state, number uuid, number op_mode, number major, number minor)
 }
 
+#[inline(always)]
 fn stc_deregister_parts(seq: u16, receiver: u8, state: State) -> Parts<'static>
     ensures { AreParts (message_of (pdu.Stc seq receiver state stc.Deregister)) result }
 {
     message!(STC_DEREGISTER, STC_FIELDS, number seq, number receiver, code state)
 }
 
+#[inline(always)]
 fn stc_prepare_parts(seq: u16, receiver: u8, state: State) -> Parts<'static>
     ensures { AreParts (message_of (pdu.Stc seq receiver state stc.Prepare)) result }
 {
     message!(STC_PREPARE, STC_FIELDS, number seq, number receiver, code state)
 }
 
+#[inline(always)]
 fn stc_configure_parts(seq: u16, receiver: u8, state: State) -> Parts<'static>
     ensures { AreParts (message_of (pdu.Stc seq receiver state stc.Configure)) result }
 {
     message!(STC_CONFIGURE, STC_FIELDS, number seq, number receiver, code state)
 }
 
+#[inline(always)]
 fn stc_initialize_parts(seq: u16, receiver: u8, state: State) -> Parts<'static>
     ensures { AreParts (message_of (pdu.Stc seq receiver state stc.Initialize)) result }
 {
     message!(STC_INITIALIZE, STC_FIELDS, number seq, number receiver, code state)
 }
 
+#[inline(always)]
 fn stc_run_parts(seq: u16, receiver: u8, state: State, start_time: i64) -> Parts<'static>
     ensures { AreParts (message_of (pdu.Stc seq receiver state (stc.Run start_time))) result }
 {
     message!(STC_RUN, STC_RUN_FIELDS, number seq, number receiver, code state, signed start_time)
 }
 
+#[inline(always)]
 fn stc_do_step_parts(seq: u16, receiver: u8, state: State, steps: u32) -> Parts<'static>
     ensures { AreParts (message_of (pdu.Stc seq receiver state (stc.DoStep steps))) result }
 {
     message!(STC_DO_STEP, STC_DO_STEP_FIELDS, number seq, number receiver, code state, number steps)
 }
 
+#[inline(always)]
 fn stc_send_outputs_parts(seq: u16, receiver: u8, state: State) -> Parts<'static>
     ensures { AreParts (message_of (pdu.Stc seq receiver state stc.SendOutputs)) result }
 {
     message!(STC_SEND_OUTPUTS, STC_FIELDS, number seq, number receiver, code state)
 }
 
+#[inline(always)]
 fn stc_stop_parts(seq: u16, receiver: u8, state: State) -> Parts<'static>
     ensures { AreParts (message_of (pdu.Stc seq receiver state stc.Stop)) result }
 {
     message!(STC_STOP, STC_FIELDS, number seq, number receiver, code state)
 }
 
+#[inline(always)]
 fn stc_reset_parts(seq: u16, receiver: u8, state: State) -> Parts<'static>
     ensures { AreParts (message_of (pdu.Stc seq receiver state stc.Reset)) result }
 {
@@ -219,6 +229,7 @@ fn stc_reset_parts(seq: u16, receiver: u8, state: State) -> Parts<'static>
 }
 
 /// The parts of the state requests.
+#[inline(always)]
 pub fn state_request_parts(seq: u16, receiver: u8, state: State, body: Stc) -> Parts<'static>
     ensures { AreParts (message_of (pdu.Stc seq receiver state body)) result }
 {

@@ -20,6 +20,7 @@ pub enum Hearing<'a> {
 }
 
 /// What a slave hears in a message.
+#[inline(always)]
 fn hearing_of(message: Pdu<'_>) -> Hearing<'_>
     ensures { as_heard result ≡ heard_of message.entry }
 {
@@ -72,6 +73,7 @@ fn hearing_of(message: Pdu<'_>) -> Hearing<'_>
 }
 
 /// What a slave hears in these bytes.
+#[inline(always)]
 pub fn hear(bytes: &[u8]) -> Hearing<'_>
     ensures { as_heard result ≡ heard bytes.now }
 {
