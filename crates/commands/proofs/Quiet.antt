@@ -13,9 +13,9 @@ use Rattle.host.specs.Hosting.{all_ends, opening_of}
 use Rattle.host.specs.Views.{HostView, Tells}
 use Rattle.run_laws.specs.Laws.{parties}
 use Rattle.completeness_laws.specs.Timely.{Timely}
-use Rattle.quiet_laws.specs.Quiet.{IsQuietPlan}
-use Rattle.quiet_laws.specs.Rounded.{IsPatient}
-use Rattle.quiet_laws.proofs.Patient.{patient_timely}
+use Rattle.completeness_laws.specs.Quiet.{IsQuietPlan}
+use Rattle.completeness_laws.specs.Rounded.{IsPatient}
+use Rattle.completeness_laws.proofs.Quiet.Patient.{patient_timely}
 use Rattle.commands.specs.Programs.{ToldInMemory}
 use Rattle.commands.specs.SaysRun.{IsNetRun, NetTold, report_after}
 use Rattle.commands.proofs.InStep.{HasRounds, is_run, report_is}

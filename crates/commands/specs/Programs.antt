@@ -21,8 +21,8 @@ use Rattle.commands.specs.SaysRun.{NetTold, RunsTo}
 use Rattle.commands.specs.SaysSoak.{SoaksTo, rows_after}
 use Rattle.commands.specs.Statuses.{judgement_of_report, status_after, status_code}
 use Rattle.completeness_laws.specs.Timely.{Roomy, Timely}
-use Rattle.quiet_laws.specs.Quiet.{IsQuietPlan}
-use Rattle.quiet_laws.specs.Rounded.{IsPatient}
+use Rattle.completeness_laws.specs.Quiet.{IsQuietPlan}
+use Rattle.completeness_laws.specs.Rounded.{IsPatient}
 
 -- an object that has had no fault before
 abbrev pub change_of : Option (List ℕ) → Option (List ℕ) → ℕ → RunChange

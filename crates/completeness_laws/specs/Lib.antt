@@ -11,3 +11,5 @@ pub mod Inputs
 pub mod Reasons
 pub mod Completes
 pub mod Honest
+pub mod Quiet
+pub mod Rounded

@@ -1,5 +1,6 @@
 //! Why a run of a scenario's own ends reports what it reports: over an honest network each cause of a failure has
-//! its reason, and where nothing is lost or late, the run reports what the reference gives.
+//! its reason, and where nothing is lost or late, the run reports what the reference gives. In rounds over a network in
+//! memory whose plan does nothing to the messages, nothing is lost, and nothing is late where the master is patient.
 //!
 //! No code stands here; each function is a law.
 #![tactic(auto)]
@@ -9,6 +10,8 @@ ghost use Rattle.completeness_laws.specs.AnswerCauses.{FaultsAreOfTheReference, 
 ghost use Rattle.completeness_laws.specs.Completes.{HeartsAreKept, RowsBeforeFault, StepsWait, TimelyReportsReference};
 ghost use Rattle.completeness_laws.specs.Honest.{CausesAreHonest};
 ghost use Rattle.completeness_laws.specs.Lacking.{QuickSlavesLeaveTime, ShortHeartbeatsDoNot, SlowSlavesDoNot, TimelyLacksNoAnswer};
+ghost use Rattle.completeness_laws.specs.Quiet.{OneRequestWaits, QuietLooksTakeAll, QuietNetsLoseNothing, SlavesSendLittle};
+ghost use Rattle.completeness_laws.specs.Rounded.{NoneAskedAgain, QuietIsTimely, RoundsBringAll};
 ghost use Rattle.completeness_laws.specs.Small.{small_setup, in_time, unreported, late_answer, late_data};
 ghost use Rattle.completeness_laws.specs.Timely.{Timely};
 ghost use Rattle.completeness_laws.specs.Undelivered.{OutputsWereUnshown, ReportedEnded, StuckWereBusy, UnansweredWereUnheard};
@@ -111,4 +114,41 @@ pub fn steps_wait_to_be_asked_again()
 /// In a timely run no slave that is asked again was left alone for longer than the waits of the master.
 pub fn timely_runs_leave_no_slave_alone()
     ensures { HeartsAreKept }
+{}
+
+/// A look at an end of a quiet network takes all that waits for it, where that is no more than 64 messages of the
+/// last 32,767.
+pub fn quiet_looks_take_all()
+    ensures { QuietLooksTakeAll }
+{}
+
+/// A quiet network loses nothing: what was sent was got, or still waits.
+pub fn quiet_nets_lose_nothing()
+    ensures { QuietNetsLoseNothing }
+{}
+
+/// A slave sends at most one message at a datagram, to the master, and at a turn two to the master and one to each
+/// other end.
+pub fn slaves_send_little()
+    ensures { SlavesSendLittle }
+{}
+
+/// Over a quiet network one request waits for a slave at most, where the master sends it no request again.
+pub fn one_request_waits()
+    ensures { OneRequestWaits }
+{}
+
+/// Where each round brings all that was sent before it, a patient master sends no request again.
+pub fn none_is_asked_again()
+    ensures { NoneAskedAgain }
+{}
+
+/// Over a quiet network each round of a patient master's run brings all that was sent before it.
+pub fn rounds_bring_all()
+    ensures { RoundsBringAll }
+{}
+
+/// Over a quiet network the log of a patient master is timely wherever it has its report.
+pub fn quiet_logs_are_timely()
+    ensures { QuietIsTimely }
 {}

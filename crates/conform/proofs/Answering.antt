@@ -22,8 +22,8 @@ use Rattle.slave_spec.specs.Heard.{Heard}
 use Rattle.slave_spec.specs.Requests.{is_category}
 use Rattle.slave_spec.specs.Transport.{SlaveAnswer, Ack, Nack, StateAck, ErrorAck, LogAck, sends, after, heard_sends, request_sends, after_heard, after_request, is_last, session_after}
 use Rattle.slave_core.specs.Standing.{session_with}
-use Rattle.foreign_spec.specs.Foreign.{ForeignState, ForeignPlant, Choice, Stays, foreign, foreign_answers, foreign_answered, setting_answers, parameter_answers, logging_answers, fault_answers, log_answers, verdict, hands_out, MayAnswer, IsChoice, IsHeardChoice, IsFateChoice, AreNotices, MaySendAt, after_answer, answer_to}
-use Rattle.foreign_spec.specs.Standpoints.{Within, MayGoOn}
+use Rattle.slave_spec.specs.Foreign.{ForeignState, ForeignPlant, Choice, Stays, foreign, foreign_answers, foreign_answered, setting_answers, parameter_answers, logging_answers, fault_answers, log_answers, verdict, hands_out, MayAnswer, IsChoice, IsHeardChoice, IsFateChoice, AreNotices, MaySendAt, after_answer, answer_to}
+use Rattle.slave_spec.specs.Standpoints.{Within, MayGoOn}
 use Rattle.conform.specs.declared.followers.Follower.{Follower}
 use Rattle.conform.specs.declared.followers.Awaited.TheVariants as awaited
 use Rattle.conform.specs.declared.meanings.Meaning.{Meaning}

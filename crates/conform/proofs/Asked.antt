@@ -15,7 +15,7 @@ use Rattle.slave_spec.specs.declared.words.Asked.TheVariants.{Change, Setting, Q
 use Rattle.slave_spec.specs.declared.words.SlaveRequest.{SlaveRequest}
 use Rattle.slave_spec.specs.Transport.{SlaveAnswer, Ack, Nack, is_last}
 use Rattle.slave_spec.specs.Requests.{is_category}
-use Rattle.foreign_spec.specs.Foreign.{ForeignPlant, table_refusal, foreign_answers, foreign_answered, verdict, log_answers}
+use Rattle.slave_spec.specs.Foreign.{ForeignPlant, table_refusal, foreign_answers, foreign_answered, verdict, log_answers}
 use Rattle.conform.specs.declared.meanings.Meaning.{Meaning}
 use Rattle.conform.specs.declared.meanings.Meaning.TheVariants as meanings
 use Rattle.conform.specs.declared.plants.ForeignDevice.{ForeignDevice}

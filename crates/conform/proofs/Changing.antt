@@ -7,7 +7,7 @@ use Rattle.slave_states.specs.Transitions.{next_on}
 use Rattle.slave_spec.specs.declared.words.Asked.TheVariants.{Change}
 use Rattle.slave_spec.specs.Transport.{Ack}
 use Rattle.slave_spec.specs.Requests.{accepted, changed_to}
-use Rattle.foreign_spec.specs.Foreign.{ForeignPlant, setup_for, known_plant, taken_over, foreign_answered}
+use Rattle.slave_spec.specs.Foreign.{ForeignPlant, setup_for, known_plant, taken_over, foreign_answered}
 use Rattle.conform.specs.declared.plants.ForeignDevice.{ForeignDevice}
 use Rattle.conform.specs.Plants.{ForeignFor}
 

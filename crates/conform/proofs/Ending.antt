@@ -20,8 +20,8 @@ use Rattle.slave_spec.specs.declared.words.Asked.{Asked}
 use Rattle.slave_spec.specs.declared.words.Asked.TheVariants.{Change, Setting, Question}
 use Rattle.slave_spec.specs.Requests.{is_category}
 use Rattle.slave_spec.specs.Transport.{SlaveAnswer, Parcel, parcel_send, quieter}
-use Rattle.foreign_spec.specs.Foreign.{ForeignState, ForeignPlant, Stays, Passes, passed, may_turn, foreign_answers, setting_answers, parameter_answers, logging_answers, fault_answers, log_answers, values_size, IsParcel, FirstThen, AreParcels, MaySendAt, after_answer}
-use Rattle.foreign_spec.specs.Standpoints.{Within, MayGoOn}
+use Rattle.slave_spec.specs.Foreign.{ForeignState, ForeignPlant, Stays, Passes, passed, may_turn, foreign_answers, setting_answers, parameter_answers, logging_answers, fault_answers, log_answers, values_size, IsParcel, FirstThen, AreParcels, MaySendAt, after_answer}
+use Rattle.slave_spec.specs.Standpoints.{Within, MayGoOn}
 use Rattle.conform.specs.declared.followers.Awaited.{Awaited}
 use Rattle.conform.specs.declared.followers.Awaited.TheVariants as awaited
 use Rattle.conform.specs.declared.followers.Follower.{Follower}

@@ -7,11 +7,11 @@ use Rattle.dcp_ends.specs.declared.entries.LogEntry.TheVariants.{Sent, Got, Idle
 use Rattle.dcp_ends.specs.Events.{Event}
 use Rattle.dcp_ends.specs.Logs.{same_address, event_at, events_at}
 use Rattle.slave_desc.specs.declared.descriptions.SlaveDesc.{SlaveDesc}
-use Rattle.foreign_spec.specs.Allowed.{Allowed, IsAllowedFront}
+use Rattle.slave_spec.specs.Allowed.{Allowed, IsAllowedFront}
 use Rattle.scenario.specs.Lookups.{slave_at}
-use Rattle.foreign_spec.specs.Foreign.{foreign_fresh}
-use Rattle.foreign_spec.specs.Standpoints.{Between}
-use Rattle.foreign_spec.proofs.Walking.{come_begins, none_yet}
+use Rattle.slave_spec.specs.Foreign.{foreign_fresh}
+use Rattle.slave_spec.specs.Standpoints.{Between}
+use Rattle.slave_spec.proofs.Walking.{come_begins, none_yet}
 use Rattle.conform.specs.declared.followers.Awaited.TheVariants as awaited
 use Rattle.conform.specs.declared.answers.BadWhy.{BadWhy}
 use Rattle.conform.specs.declared.answers.BadWhy.TheVariants as whys

@@ -12,8 +12,8 @@ use Rattle.slave_states.specs.Transitions.{next_on_turn}
 use Rattle.slave_spec.specs.declared.words.Session.TheVariants.{During}
 use Rattle.slave_spec.specs.Transport.{Parcel, Changed, notice_message, parcel_send, quieter}
 use Rattle.slave_spec.specs.Turns.{is_missed, is_sending_state}
-use Rattle.foreign_spec.specs.Foreign.{ForeignState, Stays, Passes, Falls, passed, fallen, may_turn, SendsData, IsNotice, AreNotices, MaySendAt}
-use Rattle.foreign_spec.specs.Standpoints.{Within, MayGoOn}
+use Rattle.slave_spec.specs.Foreign.{ForeignState, Stays, Passes, Falls, passed, fallen, may_turn, SendsData, IsNotice, AreNotices, MaySendAt}
+use Rattle.slave_spec.specs.Standpoints.{Within, MayGoOn}
 use Rattle.conform.specs.declared.followers.Follower.{Follower}
 use Rattle.conform.specs.declared.followers.Awaited.{Awaited}
 use Rattle.conform.specs.declared.followers.Awaited.TheVariants as awaited

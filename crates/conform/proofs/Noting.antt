@@ -9,8 +9,8 @@ use Rattle.pdu_layout.specs.Reading.{spelling}
 use Rattle.slave_desc.specs.declared.descriptions.SlaveDesc.{SlaveDesc}
 use Rattle.slave_spec.specs.declared.words.Session.{Session}
 use Rattle.slave_spec.specs.declared.words.Session.TheVariants.{Before, During, After}
-use Rattle.foreign_spec.specs.Foreign.{ForeignState, IsNotice, AreNotices, AreNoticesIn, AreNoticesFrom, notice_from, MaySendAt}
-use Rattle.foreign_spec.specs.Standpoints.{Within, MayGoOn}
+use Rattle.slave_spec.specs.Foreign.{ForeignState, IsNotice, AreNotices, AreNoticesIn, AreNoticesFrom, notice_from, MaySendAt}
+use Rattle.slave_spec.specs.Standpoints.{Within, MayGoOn}
 use Rattle.conform.specs.Notices.{is_note, MayTellOne}
 use Rattle.conform.specs.Standing.{IsOver, HasOne}
 

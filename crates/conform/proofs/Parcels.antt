@@ -5,8 +5,8 @@ use Rattle.dcp_ends.specs.Events.{Event, Send}
 use Rattle.slave_desc.specs.declared.descriptions.SlaveDesc.{SlaveDesc}
 use Rattle.slave_spec.specs.Changes.{Change, output, ids, target, is_due}
 use Rattle.slave_spec.specs.Transport.{Parcel, parcel_send}
-use Rattle.foreign_spec.specs.Foreign.{ForeignState, IsParcel, AreParcels, FirstThen, due_ids, MaySendAt}
-use Rattle.foreign_spec.specs.Standpoints.{Within, MayGoOn}
+use Rattle.slave_spec.specs.Foreign.{ForeignState, IsParcel, AreParcels, FirstThen, due_ids, MaySendAt}
+use Rattle.slave_spec.specs.Standpoints.{Within, MayGoOn}
 use Rattle.conform.specs.Sending.{goes_out, ids_from, IsDataTo}
 use Rattle.conform.specs.Standing.{HasOne, HasData}
 

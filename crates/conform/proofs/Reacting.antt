@@ -10,7 +10,7 @@ use Rattle.slave_spec.specs.declared.words.Session.{Session}
 use Rattle.slave_spec.specs.declared.words.SlaveRequest.{SlaveRequest}
 use Rattle.slave_spec.specs.Heard.{Heard, Asks, Brings, Nothing, heard}
 use Rattle.slave_spec.specs.Transport.{Nack, Exchange, fate, fate_in, heard_sends, request_sends, after_heard, after_request, again, send, answer_message, expected}
-use Rattle.foreign_spec.specs.Foreign.{ForeignState, Choice, foreign, IsHeardChoice, IsFateChoice, AreNotices}
+use Rattle.slave_spec.specs.Foreign.{ForeignState, Choice, foreign, IsHeardChoice, IsFateChoice, AreNotices}
 use Rattle.conform.specs.declared.followers.Follower.{Follower}
 use Rattle.conform.specs.Standing.{StandsBetween, Awaits, StandsWithin, awaited_for, no_choice, IsOver, HasOne, Reacts}
 use Rattle.conform.specs.declared.followers.Awaited.{Awaited}

@@ -13,8 +13,8 @@ use Rattle.slave_desc.specs.declared.descriptions.SlaveDesc.{SlaveDesc}
 use Rattle.slave_spec.specs.Changes.{Change, output, target, ordinal}
 use Rattle.slave_spec.specs.Payloads.{payload, data_message, values_fit_ports, IsMessage, IsBuilt}
 use Rattle.slave_spec.specs.Transport.{Parcel, parcel_send}
-use Rattle.foreign_spec.specs.Foreign.{values_size}
-use Rattle.foreign_spec.proofs.Sizes.{payload_length}
+use Rattle.slave_spec.specs.Foreign.{values_size}
+use Rattle.slave_spec.proofs.Sizes.{payload_length}
 use Rattle.conform.specs.Sending.{goes_out, IsDataTo, IsSample}
 
 -- ---- zeros

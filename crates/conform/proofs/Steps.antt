@@ -6,10 +6,10 @@ use Rattle.dcp_ends.specs.declared.entries.LogEntry.TheVariants.{Sent, Got, Idle
 use Rattle.dcp_ends.specs.Events.{Event, Gram, Tick, Send}
 use Rattle.dcp_ends.specs.Logs.{same_address}
 use Rattle.slave_desc.specs.declared.descriptions.SlaveDesc.{SlaveDesc}
-use Rattle.foreign_spec.specs.Foreign.{ForeignState}
-use Rattle.foreign_spec.specs.Allowed.{end_of_entry, Allowed}
-use Rattle.foreign_spec.specs.Standpoints.{Standpoint, Between, Within, FromBetween, LeadsOn, Walks, MayEnd, MayGoOn, HasComeTo}
-use Rattle.foreign_spec.proofs.Walking.{goes_front, other_entry, own_entry, never_begins, come_allowed, come_refused}
+use Rattle.slave_spec.specs.Foreign.{ForeignState}
+use Rattle.slave_spec.specs.Allowed.{end_of_entry, Allowed}
+use Rattle.slave_spec.specs.Standpoints.{Standpoint, Between, Within, FromBetween, LeadsOn, Walks, MayEnd, MayGoOn, HasComeTo}
+use Rattle.slave_spec.proofs.Walking.{goes_front, other_entry, own_entry, never_begins, come_allowed, come_refused}
 use Rattle.conform.specs.declared.answers.BadWhy.TheVariants as whys
 use Rattle.conform.specs.declared.followers.Awaited.{Awaited}
 use Rattle.conform.specs.declared.followers.Awaited.TheVariants as awaited

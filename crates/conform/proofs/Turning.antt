@@ -10,7 +10,7 @@ use Rattle.slave_spec.specs.declared.words.Session.{Session}
 use Rattle.slave_spec.specs.declared.words.Session.TheVariants.{Before, During, After}
 use Rattle.slave_spec.specs.Transport.{Ack, Parcel, sends, after, turn_sends, turned_sends, parcel_send, quieter, is_open}
 use Rattle.slave_spec.specs.Turns.{is_missed, is_sending_state}
-use Rattle.foreign_spec.specs.Foreign.{ForeignState, ForeignAct, Stays, Passes, Falls, Choice, foreign, foreign_turned, passed, fallen, may_act, may_turn, is_fall, steps_passed, SendsData, AreParcels, due_ids, IsChoice, IsTurnChoice, AreNotices, MaySendAt}
+use Rattle.slave_spec.specs.Foreign.{ForeignState, ForeignAct, Stays, Passes, Falls, Choice, foreign, foreign_turned, passed, fallen, may_act, may_turn, is_fall, steps_passed, SendsData, AreParcels, due_ids, IsChoice, IsTurnChoice, AreNotices, MaySendAt}
 use Rattle.conform.specs.Standing.{is_model, IsOver, HasOne, HasData, Reacts, state_notice, turned_to}
 
 abbrev plain_turn : Bool → ForeignAct → Bool

@@ -9,7 +9,7 @@ use Rattle.slave_desc.specs.declared.descriptions.SlaveDesc.{SlaveDesc}
 use Rattle.slave_spec.specs.declared.words.SlaveRequest.{SlaveRequest}
 use Rattle.slave_spec.specs.Transport.{SlaveAnswer, LogAck, answer_message, send, is_last}
 use Rattle.slave_spec.specs.Requests.{is_category}
-use Rattle.foreign_spec.specs.Foreign.{ForeignPlant, foreign_answers, foreign_answered, hands_out}
+use Rattle.slave_spec.specs.Foreign.{ForeignPlant, foreign_answers, foreign_answered, hands_out}
 use Rattle.conform.specs.declared.faults.Faults.{Faults}
 use Rattle.conform.specs.declared.faults.Faults.TheVariants as faults
 use Rattle.conform.specs.declared.meanings.Meaning.{Meaning}

@@ -9,7 +9,7 @@ use Rattle.conform.specs.declared.answers.BadWhy.{BadWhy}
 use Rattle.conform.specs.declared.answers.BadWhy.TheVariants as whys
 use Rattle.conform.specs.declared.answers.Conformance.{Conformance}
 use Rattle.conform.specs.declared.answers.Conformance.TheVariants.{Follows, Bad}
-use Rattle.foreign_spec.specs.Allowed.{Allowed, IsAllowedFront}
+use Rattle.slave_spec.specs.Allowed.{Allowed, IsAllowedFront}
 
 -- a Sent of the slave stands there; or another entry, or none
 abbrev pub bad_why_of : Address → Option LogEntry → BadWhy

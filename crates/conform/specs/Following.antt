@@ -2,8 +2,8 @@
 use Rattle.std.specs.Prelude.{◌≡◌, List, [], ◌∷◌, ◌++◌, Option, Some, MatchOption}
 use Rattle.dcp_ends.specs.declared.entries.LogEntry.{LogEntry}
 use Rattle.slave_desc.specs.declared.descriptions.SlaveDesc.{SlaveDesc}
-use Rattle.foreign_spec.specs.Allowed.{IsAllowedFront}
-use Rattle.foreign_spec.specs.Standpoints.{Standpoint, Between, Within, HasComeTo}
+use Rattle.slave_spec.specs.Allowed.{IsAllowedFront}
+use Rattle.slave_spec.specs.Standpoints.{Standpoint, Between, Within, HasComeTo}
 use Rattle.conform.specs.declared.answers.BadWhy.{BadWhy}
 use Rattle.conform.specs.declared.followers.Awaited.TheVariants as awaited
 use Rattle.conform.specs.declared.followers.Follower.{Follower}

@@ -5,11 +5,11 @@ use Rattle.dcp_types.specs.declared.fault_codes.FaultCode.{FaultCode}
 use Rattle.dcp_types.specs.declared.fault_codes.FaultCode.TheVariants.{ModelOverflow, DivideByZero, OutOfRange}
 use Rattle.slave_desc.specs.declared.descriptions.SlaveDesc.{SlaveDesc}
 use Rattle.slave_spec.specs.Transport.{SlaveAnswer, Ack, Nack}
-use Rattle.wirings.specs.Standing.{WiringFor}
+use Rattle.slave_device.specs.Wiring.Standing.{WiringFor}
 use Rattle.pdu_layout.specs.declared.messages.Cfg.{Cfg}
 use Rattle.pdu_layout.specs.declared.messages.Cfg.TheVariants as cfg
 use Rattle.slave_spec.specs.declared.words.Asked.TheVariants as asks
-use Rattle.foreign_spec.specs.Foreign.{ForeignPlant, verdict, setting_answers, foreign_answered}
+use Rattle.slave_spec.specs.Foreign.{ForeignPlant, verdict, setting_answers, foreign_answered}
 use Rattle.conform.specs.declared.faults.Faults.{Faults}
 use Rattle.conform.specs.declared.faults.Faults.TheVariants as faults
 use Rattle.conform.specs.declared.plants.ForeignDevice.{ForeignDevice}

@@ -7,7 +7,7 @@ use Rattle.slave_desc.specs.declared.descriptions.SlaveDesc.{SlaveDesc}
 use Rattle.slave_spec.specs.Changes.{Change, output, ids, target, is_due, ordinal}
 use Rattle.slave_spec.specs.Payloads.{data_message}
 use Rattle.slave_spec.specs.Transport.{Parcel, parcel_send}
-use Rattle.foreign_spec.specs.Foreign.{IsParcel, values_size}
+use Rattle.slave_spec.specs.Foreign.{IsParcel, values_size}
 
 -- the ids from a place on of which a message is due and goes somewhere
 abbrev pub goes_out : List Change → (steps : ℕ) → ℕ → Bool

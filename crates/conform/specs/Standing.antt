@@ -15,7 +15,7 @@ use Rattle.conform.specs.Sending.{goes_out, ids_from}
 use Rattle.dcp_types.specs.declared.states.State.{State}
 use Rattle.dcp_types.specs.declared.states.State.TheVariants.{Initializing, Computing, ErrorHandling}
 use Rattle.slave_core.specs.Standing.{newest_answer, session_with}
-use Rattle.foreign_spec.specs.Foreign.{ForeignState, ForeignPlant, Choice, Stays, foreign, IsChoice, AreNotices, AreParcels, MaySendAt}
+use Rattle.slave_spec.specs.Foreign.{ForeignState, ForeignPlant, Choice, Stays, foreign, IsChoice, AreNotices, AreParcels, MaySendAt}
 use Rattle.conform.specs.declared.meanings.Meaning.{Meaning}
 use Rattle.conform.specs.declared.plants.ForeignDevice.{ForeignDevice}
 use Rattle.conform.specs.declared.followers.Awaited.{Awaited}

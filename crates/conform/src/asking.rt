@@ -2,7 +2,7 @@
 
 ghost use Rattle.std.specs.Prelude.{◌≡◌, ◌≤◌, ◌<◌, ◌+◌, ◌++◌, ◌∷◌, [], map, length, ℕ};
 ghost use Rattle.slave_desc.specs.declared.descriptions.SlaveDesc.{SlaveDesc};
-ghost use Rattle.foreign_spec.specs.Foreign.{ForeignPlant, verdict, fault_answers, log_answers};
+ghost use Rattle.slave_spec.specs.Foreign.{ForeignPlant, verdict, fault_answers, log_answers};
 ghost use Rattle.conform.specs.Plants.{ForeignFor, verdicts_of, faults_of};
 ghost use Rattle.conform.specs.Asking.{HasAnswersOut, reply, heads, change_meaning, setting_meaning, log_meaning};
 

@@ -12,8 +12,8 @@ ghost use Rattle.slave_spec.specs.Requests.{register_refusal};
 ghost use Rattle.slave_spec.specs.Turns.{is_missed, is_sending_state};
 ghost use Rattle.slave_states.specs.Transitions.{next_on_turn};
 ghost use Rattle.slave_core.specs.Core.{bytes_again};
-ghost use Rattle.foreign_spec.specs.Foreign.{ForeignState, ForeignPlant, foreign, foreign_fresh, after_answer, AreNotices, Stays, may_turn, model_faults, passed};
-ghost use Rattle.foreign_spec.specs.Standpoints.{Within, MayGoOn};
+ghost use Rattle.slave_spec.specs.Foreign.{ForeignState, ForeignPlant, foreign, foreign_fresh, after_answer, AreNotices, Stays, may_turn, model_faults, passed};
+ghost use Rattle.slave_spec.specs.Standpoints.{Within, MayGoOn};
 ghost use Rattle.dcp_types.specs.declared.addresses.Address.{Address};
 ghost use Rattle.dcp_types.specs.declared.states.State.{State};
 ghost use Rattle.slave_spec.specs.declared.words.SlaveRequest.{SlaveRequest};
@@ -40,7 +40,7 @@ use slave_desc::SlaveDesc;
 use slave_spec::{Asked, Fate, Session, SlaveRequest};
 use slave_states::{is_passing, next_on_turn};
 use std::alloc::Global;
-use wirings::Wiring;
+use slave_device::Wiring;
 
 /// The place in the outbox of the message that is awaited, or of the first of two.
 const FIRST: usize = 0;

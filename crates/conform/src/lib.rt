@@ -1,7 +1,7 @@
 //! A check of the recorded entries of one slave whose model is not known.
 //!
 //! What it promises: `check` says that the entries follow exactly where such a slave may have them
-//! (`foreign_spec`), and else names the longest front of them with which some allowed list begins, and
+//! (`Allowed` of `slave_spec`), and else names the longest front of them with which some allowed list begins, and
 //! whether a message of the slave stands there or one is missing. It keeps one state and goes through the
 //! entries once; only the start takes memory.
 #![tactic(auto)]

@@ -1,7 +1,7 @@
 //! Notices of log entries.
 
 ghost use Rattle.std.specs.Prelude.{◌≡◌, MatchBool};
-ghost use Rattle.foreign_spec.specs.Foreign.{AreNoticesFrom, AreNoticesIn};
+ghost use Rattle.slave_spec.specs.Foreign.{AreNoticesFrom, AreNoticesIn};
 ghost use Rattle.conform.specs.Notices.{is_note, MayTellOne};
 
 use crate::matching::MOST_BYTES;

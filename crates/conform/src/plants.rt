@@ -7,7 +7,7 @@ ghost use Rattle.slave_log.specs.Shelves as shelves;
 ghost use Rattle.slave_spec.specs.Transport.{Ack};
 ghost use Rattle.slave_spec.specs.Turns as turns;
 ghost use Rattle.slave_spec.specs.Requests.{refusal, accepted, change_refusal, changed_to, plant_reset, is_in_error};
-ghost use Rattle.foreign_spec.specs.Foreign.{ForeignPlant, setup_for, known_plant, table_refusal, taken_over, foreign_answered, foreign_brings, passed, verdict};
+ghost use Rattle.slave_spec.specs.Foreign.{ForeignPlant, setup_for, known_plant, table_refusal, taken_over, foreign_answered, foreign_brings, passed, verdict};
 ghost use Rattle.conform.specs.Plants.{ForeignFor, SetTo, faults_of, is_of_wiring};
 
 use crate::faults::Faults;
@@ -15,7 +15,7 @@ use dcp_types::{Address, DataType, ErrorCode, State};
 use pdu_layout::{Cfg, Stc};
 use slave_spec::{Asked, Wired};
 use slave_states::{next_on, next_on_turn};
-use wirings::Wiring;
+use slave_device::Wiring;
 
 /// What is known of the machine under the transport of a slave.
 #[derive(Drop)]

@@ -5,7 +5,7 @@ ghost use Rattle.dcp_types.specs.declared.addresses.Address.{Address};
 ghost use Rattle.slave_desc.specs.declared.descriptions.SlaveDesc.{SlaveDesc};
 ghost use Rattle.slave_spec.specs.Changes.{output, ids};
 ghost use Rattle.slave_spec.specs.Changes as wiring;
-ghost use Rattle.foreign_spec.specs.Foreign.{ForeignPlant};
+ghost use Rattle.slave_spec.specs.Foreign.{ForeignPlant};
 ghost use Rattle.conform.specs.Plants.{ForeignFor};
 ghost use Rattle.conform.specs.Sending.{goes_out, ids_from, IsDataTo, IsSample, IsNextId};
 

@@ -24,7 +24,7 @@ use Rattle.slave_spec.specs.declared.words.Asked.TheVariants.{Change, Setting, Q
 use Rattle.slave_spec.specs.Transport.{SlaveAnswer, Ack, Nack, StateAck, Answered}
 use Rattle.slave_spec.specs.Plants.{Plant}
 use Rattle.slave_spec.specs.Requests.{first_true, refusal, moved_refusal, parameter_refusal, body_refusal, is_in_error, is_left_out, is_category, state_or, changed_to, set_to, accepted, answer, answered_plant, answers, accepted_notes, refused_notes, code_or_zero}
-use Rattle.foreign_spec.specs.Foreign.{ForeignPlant, setup_for, known_plant, table_refusal, verdict, parameter_answers, logging_answers, foreign_answers, MayAnswer, logs_after, taken_over, foreign_answered}
+use Rattle.slave_spec.specs.Foreign.{ForeignPlant, setup_for, known_plant, table_refusal, verdict, parameter_answers, logging_answers, foreign_answers, MayAnswer, logs_after, taken_over, foreign_answered}
 use Rattle.conform_laws.proofs.Shelves.{HaveLevels, AreNotes, no_notes, are_notes, all_noted, left_stands, configured_stands, fetched_few}
 use Rattle.conform_laws.proofs.Faces.{face, Behind, first_one, later_one, fault_named, fault_kept}
 

@@ -48,7 +48,7 @@ use Rattle.slave_laws.specs.Talk.Ranges.{AreBytes, RequestFits, AnswerFits}
 use Rattle.slave_laws.specs.Talk.Sends.{ReadsMessages}
 use Rattle.slave_laws.proofs.Talk.Bytes.{bytes_at}
 use Rattle.slave_laws.proofs.Talk.Spelt.{answer_is, fault_small}
-use Rattle.foreign_spec.specs.Foreign.{ForeignPlant, ForeignState, ForeignAct, Stays, Passes, Falls, Choice, passed, foreign, foreign_answers, setting_answers, parameter_answers, logging_answers, fault_answers, log_answers, verdict, table_refusal, MayAnswer, foreign_turned, IsParcel, AreParcels, FirstThen, due_ids, ActSends, IsNotice, notice_from, AreNoticesFrom, AreNoticesIn, AreNotices, IsChoice, IsTurnChoice, MaySendAt}
+use Rattle.slave_spec.specs.Foreign.{ForeignPlant, ForeignState, ForeignAct, Stays, Passes, Falls, Choice, passed, foreign, foreign_answers, setting_answers, parameter_answers, logging_answers, fault_answers, log_answers, verdict, table_refusal, MayAnswer, foreign_turned, IsParcel, AreParcels, FirstThen, due_ids, ActSends, IsNotice, notice_from, AreNoticesFrom, AreNoticesIn, AreNotices, IsChoice, IsTurnChoice, MaySendAt}
 use Rattle.conform_laws.proofs.Roles.{IsAside, IsOfClass, spelled_fits}
 
 -- ---- sends that are neither requests nor answers

@@ -11,7 +11,7 @@ use Rattle.slave_spec.specs.declared.words.Fate.TheVariants.{Dropped, Refused, R
 use Rattle.slave_spec.specs.Heard.{Heard, Asks, Brings, Nothing, heard}
 use Rattle.slave_spec.specs.Transport.{expected, fate, send, request_sends, heard_sends}
 use Rattle.slave_laws.specs.Talk.Desks.{answer_note}
-use Rattle.foreign_spec.specs.Foreign.{ForeignState, Choice, foreign}
+use Rattle.slave_spec.specs.Foreign.{ForeignState, Choice, foreign}
 use Rattle.conform_laws.specs.Served.{exchange_of, exchange_heard, AnswersStandBehind}
 
 -- no exchange is not one

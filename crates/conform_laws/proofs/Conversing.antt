@@ -22,8 +22,8 @@ use Rattle.slave_desc.specs.declared.descriptions.SlaveDesc.{SlaveDesc}
 use Rattle.slave_spec.specs.Heard as spec
 use Rattle.slave_laws.specs.Talk.Desks.{Agree, post}
 use Rattle.slave_laws.specs.Talk.Sends.{ReadsMessages}
-use Rattle.foreign_spec.specs.Foreign.{ForeignState, setup_for, MaySendAt}
-use Rattle.foreign_spec.specs.Allowed.{end_of_entry}
+use Rattle.slave_spec.specs.Foreign.{ForeignState, setup_for, MaySendAt}
+use Rattle.slave_spec.specs.Allowed.{end_of_entry}
 use Rattle.conform_laws.specs.Served.{exchange_at}
 use Rattle.conform_laws.specs.Serving.{AsksNothing}
 use Rattle.conform_laws.proofs.Taking.{desk, got_so, accepts, Stands, IsMuteOver, Goes, Makes, got_makes, turn_makes}

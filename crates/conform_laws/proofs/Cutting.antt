@@ -9,8 +9,8 @@ use Rattle.dcp_ends.specs.Events.{Event, Gram, Tick, Send, Rules}
 use Rattle.dcp_ends.specs.Logs.{same_address, entry_of, sent_by, event_at, events_at, own_entry, own_at, answered}
 use Rattle.rounds.specs.Rounds.{AllSent, IsGot, IsTurn, Gots, IsLook, EachEnd, IfFirst, places_of, has_report, IsLooks, IsTurns, IsRound, Rounds}
 use Rattle.rounds.specs.Told.{Follows}
-use Rattle.foreign_spec.specs.Allowed.{end_of_entry, entries_of, Piece, Rests, Acts, piece_entries, cut_entries}
-use Rattle.foreign_spec.proofs.Walking.{address_is, same_self}
+use Rattle.slave_spec.specs.Allowed.{end_of_entry, entries_of, Piece, Rests, Acts, piece_entries, cut_entries}
+use Rattle.slave_spec.proofs.Walking.{address_is, same_self}
 use Rattle.conform_laws.specs.Runs.{PiecesFollow, IsCutRun}
 
 -- ---- addresses

@@ -8,7 +8,7 @@ use Rattle.slave_spec.specs.declared.words.SlaveSetup.{SlaveSetup}
 use Rattle.slave_spec.specs.Transport.{SlaveState, ErrorAck}
 use Rattle.slave_spec.specs.Plants.{Plant, start_plant}
 use Rattle.slave_spec.specs.Requests.{code_or_zero}
-use Rattle.foreign_spec.specs.Foreign.{ForeignPlant, ForeignState, fault_answers}
+use Rattle.slave_spec.specs.Foreign.{ForeignPlant, ForeignState, fault_answers}
 use Rattle.conform_laws.proofs.Shelves.{LogStands, empty_stands}
 
 -- what is known of a machine, where its fault is known to be one of these and whether a setting of its log was accepted

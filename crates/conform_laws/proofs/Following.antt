@@ -7,8 +7,8 @@ use Rattle.slave_spec.specs.declared.words.SlaveSetup.{SlaveSetup}
 use Rattle.slave_spec.specs.Transport.{Machine, SlaveState, after, after_all, sends}
 use Rattle.slave_spec.specs.Plants.{Plant}
 use Rattle.slave_spec.specs.Slaves.{machine, slave_after, slave_rules_from}
-use Rattle.foreign_spec.specs.Foreign.{MaySendAt}
-use Rattle.foreign_spec.specs.Allowed.{Piece, Rests, Acts, AreAllowed, Allowed}
+use Rattle.slave_spec.specs.Foreign.{MaySendAt}
+use Rattle.slave_spec.specs.Allowed.{Piece, Rests, Acts, AreAllowed, Allowed}
 use Rattle.conform_laws.specs.Runs.{PiecesFollow, IsCutRun}
 use Rattle.conform_laws.proofs.Faces.{faced, Behind, start_behind}
 use Rattle.conform_laws.proofs.Stepping.{IsStep, is_step}

@@ -9,8 +9,8 @@ use Rattle.dcp_ends.specs.Events.{Event, Gram, Tick, Send, Rules}
 use Rattle.dcp_ends.specs.Logs.{same_address, entry_of, sent_by, events_at, own_at, answered}
 use Rattle.rounds.specs.Rounds.{IsLook, IsTurn, IsLookPart, IsTurnPart, EachPart, IfFirst, places_of, IsLooksPart, IsTurnsPart, IsRoundPart, Rounds}
 use Rattle.rounds.specs.Told.{EndsIn, FollowsUpTo}
-use Rattle.foreign_spec.specs.Allowed.{end_of_entry, entries_of, Piece, Rests, Acts, cut_entries}
-use Rattle.foreign_spec.proofs.Walking.{same_self}
+use Rattle.slave_spec.specs.Allowed.{end_of_entry, entries_of, Piece, Rests, Acts, cut_entries}
+use Rattle.slave_spec.proofs.Walking.{same_self}
 use Rattle.conform_laws.specs.Runs.{IsCutRun}
 use Rattle.conform_laws.proofs.Cutting.{HasPieces, none_has, both_have, turn_has, gots_have, look_has, first_has, looks_have, rounds_have, own_sends, events_in, acts_in, keeps_own, keeps_events, own_cut, events_cut, NoSent, sents_same, answered_no_sent, pieces_follow}
 

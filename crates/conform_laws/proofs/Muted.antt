@@ -24,7 +24,7 @@ use Rattle.slave_spec.specs.Transport as transport
 use Rattle.slave_spec.specs.Transport.{Exchange, expected}
 use Rattle.slave_laws.specs.Talk.Desks.{Agree}
 use Rattle.slave_laws.specs.Talk.Sends.{ReadsMessages}
-use Rattle.foreign_spec.specs.Foreign.{ForeignState, Choice, foreign, MaySendAt}
+use Rattle.slave_spec.specs.Foreign.{ForeignState, Choice, foreign, MaySendAt}
 use Rattle.conform_laws.specs.Served.{exchange_of, exchange_heard, exchange_at}
 use Rattle.conform_laws.proofs.Asides.{AreAside, aside_none, aside_joined, notices_aside, turn_aside}
 use Rattle.conform_laws.proofs.Taking.{IsBegun, desk, got_so, accepts, IsMuteOver}

@@ -33,9 +33,9 @@ use Rattle.conform_laws.proofs.Following.{cut_allowed}
 use Rattle.slave_laws.specs.Talk.Desks.{post}
 use Rattle.slave_laws.specs.Talk.Sends.{ReadsMessages}
 use Rattle.slave_laws.proofs.Talk.Agreeing.{readings_agree}
-use Rattle.foreign_spec.specs.Foreign.{ForeignState, foreign_fresh}
-use Rattle.foreign_spec.specs.Allowed.{end_of_entry, entries_of, Piece, Rests, Acts, cut_entries, AreAllowed, Allowed, IsAllowedFront}
-use Rattle.foreign_spec.proofs.Walking.{same_self}
+use Rattle.slave_spec.specs.Foreign.{ForeignState, foreign_fresh}
+use Rattle.slave_spec.specs.Allowed.{end_of_entry, entries_of, Piece, Rests, Acts, cut_entries, AreAllowed, Allowed, IsAllowedFront}
+use Rattle.slave_spec.proofs.Walking.{same_self}
 use Rattle.conform_laws.specs.Serving.{AsksNothing, OthersAskNothing, IsRunWith, taken_so_far, AtEachMoment, TakenOnce, DecidedAsTaken, DecidedAsGiven, AllowedAskNothing, HostRunsAreSuch}
 use Rattle.conform_laws.proofs.Asides.{sends_ask_nothing}
 use Rattle.conform_laws.proofs.Conversing.{taken_in_order, decided_as_taken, is_ordered}

@@ -18,8 +18,8 @@ use Rattle.slave_desc.specs.declared.descriptions.SlaveDesc.{SlaveDesc}
 use Rattle.slave_spec.specs.Heard as spec
 use Rattle.slave_laws.specs.Talk.Desks.{Agree, post}
 use Rattle.slave_laws.specs.Talk.Sends.{ReadsMessages}
-use Rattle.foreign_spec.specs.Foreign.{ForeignState, foreign_fresh}
-use Rattle.foreign_spec.specs.Allowed.{end_of_entry, entries_of, Piece, Rests, Acts, cut_entries, AreAllowed}
+use Rattle.slave_spec.specs.Foreign.{ForeignState, foreign_fresh}
+use Rattle.slave_spec.specs.Allowed.{end_of_entry, entries_of, Piece, Rests, Acts, cut_entries, AreAllowed}
 use Rattle.conform_laws.specs.Served.{exchange_at, first_served}
 use Rattle.conform_laws.specs.Serving.{AsksNothing, OthersAskNothing}
 use Rattle.conform_laws.proofs.Cutting.{turned_about}

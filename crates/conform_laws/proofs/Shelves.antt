@@ -8,7 +8,7 @@ use Rattle.slave_log.specs.Shelves.{Shelf, Log, empty, shelf, with_shelf, shelf_
 use Rattle.slave_spec.specs.declared.words.LogRemark.{LogRemark}
 use Rattle.slave_spec.specs.Transport.{Notice, notice_sends}
 use Rattle.slave_spec.specs.Requests.{noted_all, notices, told}
-use Rattle.foreign_spec.specs.Foreign.{AreNoticesFrom}
+use Rattle.slave_spec.specs.Foreign.{AreNoticesFrom}
 
 -- whether a setting of the log was accepted
 pub record ShelfStands (logs : Bool) (s : Shelf) : Type 0 where

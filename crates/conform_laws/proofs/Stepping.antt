@@ -22,8 +22,8 @@ use Rattle.slave_spec.specs.Requests.{answers}
 use Rattle.slave_spec.specs.Turns.{turns, brings, is_listening}
 use Rattle.slave_spec.specs.Slaves.{machine}
 use Rattle.slave_spec.specs.Payloads.{WiringState, brought}
-use Rattle.foreign_spec.specs.Foreign.{ForeignPlant, ForeignState, Choice, Stays, foreign, foreign_brings, IsFateChoice, IsHeardChoice, AreNotices, AreNoticesIn, AreNoticesFrom, MaySendAt}
-use Rattle.foreign_spec.proofs.Walking.{address_is}
+use Rattle.slave_spec.specs.Foreign.{ForeignPlant, ForeignState, Choice, Stays, foreign, foreign_brings, IsFateChoice, IsHeardChoice, AreNotices, AreNoticesIn, AreNoticesFrom, MaySendAt}
+use Rattle.slave_spec.proofs.Walking.{address_is}
 use Rattle.conform_laws.proofs.Shelves.{AreNotes}
 use Rattle.conform_laws.proofs.Faces.{face, faced, Behind}
 use Rattle.conform_laws.proofs.Answering.{IsAnswered, is_answered}

@@ -27,7 +27,7 @@ use Rattle.slave_spec.specs.Slaves.{machine}
 use Rattle.slave_laws.specs.Talk.Desks.{post, answer_note, accepts_asked, accepts_heard, accepts_note, Agree, IsAnswer, AreAnswersKept}
 use Rattle.slave_laws.specs.Talk.Sends.{ReadsMessages}
 use Rattle.slave_laws.proofs.Talk.Hearing.{asks_fit}
-use Rattle.foreign_spec.specs.Foreign.{ForeignState, Choice, foreign, setup_for, IsFateChoice, IsHeardChoice, MaySendAt}
+use Rattle.slave_spec.specs.Foreign.{ForeignState, Choice, foreign, setup_for, IsFateChoice, IsHeardChoice, MaySendAt}
 use Rattle.conform_laws.specs.Served.{exchange_of, exchange_heard, exchange_at}
 use Rattle.conform_laws.proofs.Asides.{AreAside, aside_none, aside_joined, notices_aside, turn_aside, IsMute, IsRead, read_or_mute}
 

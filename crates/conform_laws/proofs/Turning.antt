@@ -24,8 +24,8 @@ use Rattle.slave_spec.specs.Transport.{Ack, Notice, Changed, Parcel, Turned, tur
 use Rattle.slave_spec.specs.Plants.{Plant}
 use Rattle.slave_spec.specs.Requests.{note, notices}
 use Rattle.slave_spec.specs.Turns.{Act, Stay, Wait, Fault, Step, Pass, act, step_act, computing, state_act, is_missed, values, parcel, data_parcels, is_sending_state, parcels, sent_after, counted, turned, turns}
-use Rattle.foreign_spec.specs.Foreign.{ForeignPlant, ForeignAct, Stays, Passes, Falls, Choice, may_turn, is_fall, model_faults, turn_faults, steps_passed, foreign_turned, IsParcel, FirstThen, AreParcels, due_ids, SendsData, IsTurnChoice}
-use Rattle.foreign_spec.proofs.Sizes.{payload_length}
+use Rattle.slave_spec.specs.Foreign.{ForeignPlant, ForeignAct, Stays, Passes, Falls, Choice, may_turn, is_fall, model_faults, turn_faults, steps_passed, foreign_turned, IsParcel, FirstThen, AreParcels, due_ids, SendsData, IsTurnChoice}
+use Rattle.slave_spec.proofs.Sizes.{payload_length}
 use Rattle.conform_laws.proofs.Shelves.{HaveLevels, AreNotes, no_notes, are_notes, all_noted}
 use Rattle.conform_laws.proofs.Faces.{face, Behind, first_one}
 

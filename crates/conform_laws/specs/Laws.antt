@@ -6,7 +6,7 @@ use Rattle.rounds.specs.Rounds.{IsRoundPart, Rounds}
 use Rattle.rounds.specs.Told.{Follows, FollowsUpTo}
 use Rattle.slave_spec.specs.declared.words.SlaveSetup.{SlaveSetup}
 use Rattle.slave_spec.specs.Slaves.{slave_rules_from}
-use Rattle.foreign_spec.specs.Allowed.{Allowed, IsAllowedFront}
+use Rattle.slave_spec.specs.Allowed.{Allowed, IsAllowedFront}
 use Rattle.conform_laws.specs.Runs.{IsCutRun}
 
 -- in a log of whole rounds the sends of an end stand right behind their events

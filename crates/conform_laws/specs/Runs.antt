@@ -2,7 +2,7 @@
 use Rattle.std.specs.Prelude.{◌≡◌, List, [], ◌∷◌, ◌++◌}
 use Rattle.dcp_ends.specs.declared.entries.LogEntry.{LogEntry}
 use Rattle.dcp_ends.specs.Events.{Event, Rules}
-use Rattle.foreign_spec.specs.Allowed.{Piece, Rests, Acts, entries_of, cut_entries}
+use Rattle.slave_spec.specs.Allowed.{Piece, Rests, Acts, entries_of, cut_entries}
 
 -- each event has the sends that the rules give after the events before it
 abbrev pub PiecesFollow : Rules → (before : List Event) → List Piece → Type 0

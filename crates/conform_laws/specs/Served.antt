@@ -12,8 +12,8 @@ use Rattle.slave_spec.specs.declared.words.Fate.TheVariants.{Dropped, Refused, R
 use Rattle.slave_spec.specs.Heard.{Heard, Asks, heard}
 use Rattle.slave_spec.specs.Transport.{SlaveAnswer, expected, fate, send}
 use Rattle.slave_laws.specs.Talk.Desks.{answer_note}
-use Rattle.foreign_spec.specs.Foreign.{ForeignState, Choice, foreign, foreign_fresh, MaySendAt}
-use Rattle.foreign_spec.specs.Allowed.{Piece, Rests, Acts, AreAllowed, Allowed}
+use Rattle.slave_spec.specs.Foreign.{ForeignState, Choice, foreign, foreign_fresh, MaySendAt}
+use Rattle.slave_spec.specs.Allowed.{Piece, Rests, Acts, AreAllowed, Allowed}
 
 -- a request that is taken, with the answer that is chosen for it
 abbrev pub exchange_of : ForeignState → req.SlaveRequest → Note → SlaveAnswer → Fate → List DecidedRequest

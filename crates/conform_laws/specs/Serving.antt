@@ -16,7 +16,7 @@ use Rattle.scenario.specs.declared.scenarios.Scenario.{Scenario}
 use Rattle.scenario.specs.Sound.{IsScenario}
 use Rattle.master_spec.specs.Rules.{MasterRun}
 use Rattle.run_laws.specs.Laws.{parties, IsRunInRounds}
-use Rattle.foreign_spec.specs.Allowed.{end_of_entry, IsAllowedFront}
+use Rattle.slave_spec.specs.Allowed.{end_of_entry, IsAllowedFront}
 use Rattle.conform_laws.specs.Served.{allowed_served}
 
 -- no request is sent

@@ -7,7 +7,7 @@ use slave_spec::Wired;
 use std::alloc::Global;
 use std::process::Abort;
 use std::test::Fail;
-use wirings::Wiring;
+use slave_device::Wiring;
 
 const TEXT: &[u8] = b"slave acc
 uuid 00000000-0000-0000-0000-000000000002

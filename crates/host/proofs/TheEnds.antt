@@ -7,8 +7,8 @@ use Rattle.slave_core.specs.declared.cores.SlaveCore.{SlaveCore}
 use Rattle.slave_core.specs.Core.{CoreStandsFor}
 use Rattle.slave_device.specs.declared.devices.Device.{Device}
 use Rattle.slave_device.specs.Devices.{DeviceFor}
-use Rattle.wirings.specs.declared.wirings.Wiring.{Wiring}
-use Rattle.wirings.specs.Standing.{WiringFor}
+use Rattle.slave_device.specs.declared.wirings.Wiring.{Wiring}
+use Rattle.slave_device.specs.Wiring.Standing.{WiringFor}
 
 abbrev pub slave_setup_in : SlaveCore (Device Wiring) → SlaveSetup
 slave_setup_in s = s.inner.works.setup

@@ -4,7 +4,7 @@ use dcp_ends::End;
 use dcp_types::{Address, OutOfMemory};
 use futures::Future;
 use futures::task::{Doorbell, Solo};
-use poll_loop::EndTask;
+use rounds::EndTask;
 use rounds::Seat;
 use std::alloc::{Alloc, Global};
 use std::io;

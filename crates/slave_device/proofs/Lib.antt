@@ -1,3 +1,4 @@
+pub mod Wiring
 pub mod Shown
 pub mod Telling
 pub mod Stepping

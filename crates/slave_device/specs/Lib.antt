@@ -1,3 +1,4 @@
+pub mod Wiring
 pub mod Devices
 pub mod Made
 pub mod Sending

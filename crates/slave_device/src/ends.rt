@@ -10,7 +10,7 @@ use dcp_types::OutOfMemory;
 use slave_core::SlaveCore;
 use slave_desc::SlaveDesc;
 use std::alloc::Global;
-use wirings::Wiring;
+use crate::wirings::Wiring;
 
 /// A slave: the transport over a machine over a wiring.
 pub type SlaveEnd = SlaveCore<Device<Wiring>>;

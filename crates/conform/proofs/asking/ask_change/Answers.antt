@@ -1,6 +1,6 @@
 use Rattle.std.proofs.Common.{◌≡◌, sym, ◌∙◌, ap, List, [], ◌∷◌, ◌++◌, subst, Bool, is_none, rules}
 use Rattle.dcp_ends.specs.Events.{Send}
-use Rattle.foreign_spec.specs.Foreign.{verdict}
+use Rattle.slave_spec.specs.Foreign.{verdict}
 use Rattle.conform.specs.declared.meanings.Meaning.{Meaning}
 use Rattle.conform.specs.Asking.{HasAnswersOut, reply, change_meaning}
 use Rattle.conform.proofs.Asked.{change_asked}

@@ -1,7 +1,7 @@
 use Rattle.std.proofs.Common.{sym, subst, ap, ◌∙◌, map, ◌++◌}
 use Rattle.pdu_layout.specs.declared.messages.Inf.{Inf}
 use Rattle.slave_spec.specs.declared.words.Asked.TheVariants.{Question}
-use Rattle.foreign_spec.specs.Foreign.{log_answers}
+use Rattle.slave_spec.specs.Foreign.{log_answers}
 use Rattle.conform.specs.declared.meanings.Meaning.{Meaning}
 use Rattle.conform.specs.Asking.{HasAnswersOut, reply, heads}
 use Rattle.conform.proofs.Asked.{log_asked}

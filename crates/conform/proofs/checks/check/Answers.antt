@@ -2,7 +2,7 @@ use Rattle.std.proofs.Common.{◌≡◌, List, Some, ap, subst, ◌∙◌}
 use Rattle.scenario.specs.Lookups.{slave_at}
 use Rattle.slave_desc.specs.declared.descriptions.SlaveDesc.{SlaveDesc}
 use Rattle.slave_desc.specs.Descriptions.{IsDesc}
-use Rattle.foreign_spec.specs.Foreign.{foreign_fresh}
+use Rattle.slave_spec.specs.Foreign.{foreign_fresh}
 use Rattle.conform.specs.Standing.{StandsBetween}
 use Rattle.conform.proofs.Judging.{slave_is, not_yet}
 use Rattle.conform.proofs.checks.check.Goals as goal

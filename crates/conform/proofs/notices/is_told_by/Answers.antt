@@ -1,6 +1,6 @@
 use Rattle.std.proofs.Common.{◌≡◌, true, arith, rules}
 use Rattle.slave_spec.specs.Transport as transport
-use Rattle.foreign_spec.proofs.Walking.{address_is}
+use Rattle.slave_spec.proofs.Walking.{address_is}
 use Rattle.conform.proofs.Noting.{told_by}
 use Rattle.conform.proofs.notices.is_told_by.Goals as goal
 

@@ -7,7 +7,7 @@ use Rattle.dcp_ends.specs.Events.{Tick}
 use Rattle.slave_states.specs.Transitions.{is_passing, next_on_turn}
 use Rattle.slave_spec.specs.Transport.{quieter}
 use Rattle.slave_spec.specs.Turns.{is_missed, is_sending_state}
-use Rattle.foreign_spec.specs.Foreign.{fallen, passed, turn_faults, due_ids, steps_passed}
+use Rattle.slave_spec.specs.Foreign.{fallen, passed, turn_faults, due_ids, steps_passed}
 use Rattle.conform.specs.declared.followers.Follower.{Follower}
 use Rattle.conform.specs.declared.followers.Awaited.{Awaited}
 use Rattle.conform.specs.Standing.{StandsBetween, Awaits, AwaitsModel, HasData, is_model, awaited_in, state_notice, turned_to}

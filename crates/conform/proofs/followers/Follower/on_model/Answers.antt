@@ -5,7 +5,7 @@ use Rattle.dcp_types.specs.declared.fault_codes.FaultCode.{FaultCode}
 use Rattle.dcp_ends.specs.Events.{Send}
 use Rattle.slave_spec.specs.Transport.{quieter}
 use Rattle.slave_spec.specs.Turns.{is_missed}
-use Rattle.foreign_spec.specs.Foreign.{passed, fallen, model_faults, turn_faults}
+use Rattle.slave_spec.specs.Foreign.{passed, fallen, model_faults, turn_faults}
 use Rattle.conform.specs.declared.followers.Follower.{Follower}
 use Rattle.conform.specs.declared.followers.Awaited.TheVariants as awaited
 use Rattle.conform.specs.Plants.{ForeignFor, faults_of}

@@ -1,8 +1,8 @@
 use Rattle.std.proofs.Common.{Bool, true, false, List, [], ◌∷◌, ◌++◌, MatchBool}
 use Rattle.dcp_ends.specs.Events.{Event, Send}
 use Rattle.slave_desc.specs.declared.descriptions.SlaveDesc.{SlaveDesc}
-use Rattle.foreign_spec.specs.Foreign.{ForeignState, AreNotices}
-use Rattle.foreign_spec.specs.Standpoints.{Within, MayGoOn}
+use Rattle.slave_spec.specs.Foreign.{ForeignState, AreNotices}
+use Rattle.slave_spec.specs.Standpoints.{Within, MayGoOn}
 use Rattle.conform.specs.declared.followers.Follower.{Follower}
 use Rattle.conform.specs.declared.followers.Awaited.TheVariants as awaited
 use Rattle.conform.specs.Standing.{StandsBetween, StandsWithin, IsOver}

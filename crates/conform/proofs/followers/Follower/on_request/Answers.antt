@@ -4,7 +4,7 @@ use Rattle.slave_spec.specs.declared.words.Fate.TheVariants as fates
 use Rattle.slave_spec.specs.Transport.{Nack, fate, again, send, answer_message, expected}
 use Rattle.slave_core.specs.Core.{bytes_again}
 use Rattle.slave_core.proofs.Spelled.{again_is}
-use Rattle.foreign_spec.specs.Foreign.{foreign}
+use Rattle.slave_spec.specs.Foreign.{foreign}
 use Rattle.conform.specs.declared.followers.Follower.{Follower}
 use Rattle.conform.specs.Standing.{StandsBetween, StandsWithin, no_choice}
 use Rattle.conform.proofs.Reacting.{silent, one, dropped, refused, repeated, fated, again_stands}

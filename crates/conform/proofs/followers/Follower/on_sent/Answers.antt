@@ -2,8 +2,8 @@ use Rattle.std.proofs.Common.{◌≡◌, Bool, List, [], ◌∷◌, ◌++◌, Ma
 use Rattle.dcp_types.specs.declared.states.State.TheVariants.{Initializing, Computing}
 use Rattle.dcp_ends.specs.Events.{Event, Send}
 use Rattle.slave_desc.specs.declared.descriptions.SlaveDesc.{SlaveDesc}
-use Rattle.foreign_spec.specs.Foreign.{ForeignState}
-use Rattle.foreign_spec.specs.Standpoints.{Within, MayGoOn}
+use Rattle.slave_spec.specs.Foreign.{ForeignState}
+use Rattle.slave_spec.specs.Standpoints.{Within, MayGoOn}
 use Rattle.conform.specs.declared.followers.Follower.{Follower}
 use Rattle.conform.specs.declared.followers.Awaited.{Awaited}
 use Rattle.conform.specs.declared.followers.Awaited.TheVariants as awaited

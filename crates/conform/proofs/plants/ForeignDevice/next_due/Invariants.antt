@@ -1,7 +1,7 @@
 use Rattle.std.proofs.Common.{◌≡◌, ◌-◌, length}
 use Rattle.slave_desc.specs.declared.descriptions.SlaveDesc.{SlaveDesc}
 use Rattle.slave_spec.specs.Changes.{output, ids}
-use Rattle.foreign_spec.specs.Foreign.{ForeignPlant}
+use Rattle.slave_spec.specs.Foreign.{ForeignPlant}
 use Rattle.conform.specs.Plants.{ForeignFor}
 use Rattle.conform.specs.Sending.{ids_from}
 use Rattle.conform.proofs.plants.ForeignDevice.next_due.Given as goal

@@ -1,5 +1,0 @@
-use Rattle.quiet_laws.proofs.Emptied.{looks_take_all}
-use Rattle.quiet_laws.proofs.quiet_looks_take_all.Goals as goal
-
-pub returns : goal.returns
-returns c = looks_take_all

@@ -1,0 +1,5 @@
+use Rattle.slave_device.proofs.Wiring.Building.{Written}
+use Rattle.slave_device.proofs.payloads.write_payload.Given as goal
+
+abbrev pub invariant-loop-place : goal.invariant-loop-place
+invariant-loop-place l = Written l.outputs l.places l.room l.at l.place-index

@@ -1,5 +1,0 @@
-use Rattle.wirings.proofs.Wired.{TakenUpTo}
-use Rattle.wirings.proofs.segments.take_values.Given as goal
-
-abbrev pub invariant-loop-i : goal.invariant-loop-i
-invariant-loop-i l = TakenUpTo l.segments l.fn.values l.values l.id l.payload l.i

@@ -1,6 +1,0 @@
-use Rattle.std.proofs.Common.{◌∙◌}
-use Rattle.wirings.proofs.Sending.{has_found}
-use Rattle.wirings.proofs.tables.Outputs.has.Goals as goal
-
-pub returns : goal.returns
-returns c = λ d changes h. c.is_ok.ensures.value ∙ has_found d changes c.args.self.now c.args.id c.find.result h c.find.ensures

@@ -1,6 +1,0 @@
-use Rattle.std.proofs.Common.{◌≡◌, ◌++◌, take, drop, map}
-use Rattle.wirings.specs.Sending.{row_restarted}
-use Rattle.wirings.proofs.tables.Outputs.restart.Given as goal
-
-abbrev pub invariant-loop-row : goal.invariant-loop-row
-invariant-loop-row l = l.row-items ≡ map (row_restarted l.fn.steps) (take l.row-index l.initial.row-items) ++ drop l.row-index l.initial.row-items

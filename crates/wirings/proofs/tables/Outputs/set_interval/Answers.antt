@@ -1,9 +1,0 @@
-use Rattle.std.proofs.Common.{refl}
-use Rattle.wirings.proofs.Sending.{paced, unpaced}
-use Rattle.wirings.proofs.tables.Outputs.set_interval.Goals as goal
-
-pub returns-in-Ok : goal.returns-in-Ok
-returns-in-Ok c = λ d changes h. paced d changes c.args.self.now _ _ _ c.in-Ok.i c.index_mut.result.now h c.in-Ok.ensures c.index_mut.ensures.value refl refl refl
-
-pub returns-in_default : goal.returns-in_default
-returns-in_default c = λ d changes h. unpaced d changes c.args.self.now _ _ _ h c.in_default.ensures

@@ -1,6 +1,0 @@
-use Rattle.std.proofs.Common.{◌∙◌}
-use Rattle.wirings.proofs.Whole.{complete_is}
-use Rattle.wirings.proofs.wirings.WiringWired.complete.Goals as goal
-
-pub returns : goal.returns
-returns c = λ d x h. c.is_complete.ensures ∙ complete_is c.args.self.now d x h

@@ -1,6 +1,0 @@
-use Rattle.std.proofs.Common.{◌∙◌}
-use Rattle.wirings.proofs.Whole.{ready_is}
-use Rattle.wirings.proofs.wirings.WiringWired.ready.Goals as goal
-
-pub returns : goal.returns
-returns c = λ d x h. c.ready.ensures ∙ ready_is c.args.self.now d x c.args.steps h
