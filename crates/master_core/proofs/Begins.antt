@@ -16,7 +16,7 @@ use Rattle.master_spec.specs.Course as course
 use Rattle.master_core.specs.declared.records.Talk.{Talk}
 use Rattle.master_core.specs.declared.stages.Stage.{Stage}
 use Rattle.master_core.specs.Stages.{job_at, part_task, list_in}
-use Rattle.master_core.specs.Askable.{IsJobAskable}
+use Rattle.master_spec.specs.Askable.{IsJobAskable}
 use Rattle.master_core.specs.Sends.{sends_to}
 use Rattle.master_core.specs.Talking.{TalkStandsAt, Now, at_stage}
 use Rattle.master_core.proofs.Spelled.{job_askable}

@@ -16,7 +16,7 @@ use Rattle.master_spec.specs.Course.{payload_size, marked}
 use Rattle.master_spec.specs.Course as course
 use Rattle.master_spec.specs.declared.setups.Slave.{Slave}
 use Rattle.master_core.specs.declared.records.Talk.{Talk}
-use Rattle.master_core.specs.Askable.{IsLatestAskable, IsPresentAskable, IsScriptAskable, IsJobAskable}
+use Rattle.master_spec.specs.Askable.{IsLatestAskable, IsPresentAskable, IsScriptAskable, IsJobAskable}
 use Rattle.master_core.specs.Talking.{Now, HasKept, TalkStandsAt}
 use Rattle.master_core.proofs.Cleared.{clear_stands}
 use Rattle.master_core.proofs.Sendable.{Sendable, sendable, IsFine, IsHeard, OnMark, heard_fine, heard_job}

@@ -13,7 +13,7 @@ use Rattle.master_spec.specs.declared.setups.Slave.{Slave}
 use Rattle.conversation.specs.declared.records.Conversation.{Conversation}
 use Rattle.conversation.specs.Standing.{Stands, CanSend, CanSendAfter}
 use Rattle.master_core.specs.declared.records.Talk.{Talk}
-use Rattle.master_core.specs.Askable.{IsJobAskable, IsPresentAskable}
+use Rattle.master_spec.specs.Askable.{IsJobAskable, IsPresentAskable}
 use Rattle.master_core.specs.Sends.{sends_to}
 use Rattle.master_core.specs.Talking.{TalkStandsAt, Now}
 use Rattle.master_core.proofs.Sendable.{IsHeard, OnMark, sendable, can_send, all_sent, heard_fine, heard_job}

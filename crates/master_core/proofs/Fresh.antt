@@ -19,7 +19,7 @@ use Rattle.master_spec.specs.Course.{fresh_talk}
 use Rattle.master_core.specs.declared.records.Talk.{Talk}
 use Rattle.master_core.specs.declared.stages.Schedule.{Schedule}
 use Rattle.master_core.specs.Each.{Each}
-use Rattle.master_core.specs.Askable.{IsScriptAskable}
+use Rattle.master_spec.specs.Askable.{IsScriptAskable}
 use Rattle.master_core.specs.Talking.{TalkStandsAt, IsFreshTalk, now_in, slave_talked_to}
 
 pub fresh_stand : (limits : Limits) (s : Schedule) (ts : List Talk) → AllByRecursion (λ t. IsFreshTalk limits t) ts → AllByRecursion (λ slave. IsScriptAskable slave) (map slave_talked_to ts)

@@ -15,7 +15,6 @@ pub mod Failing
 pub mod Within
 pub mod Counting
 pub mod Onward
-pub mod Planned
 pub mod Fresh
 pub mod Happening
 pub mod Placing

@@ -28,10 +28,10 @@ use Rattle.master_spec.specs.Conversation.{reaction, reaction_in, on_mark, on_an
 use Rattle.master_spec.specs.Tasks.{target_of, passing_of, asks_step, task_step, is_by_end, is_at_once}
 use Rattle.master_spec.specs.Course.{mark_for, send_to, payload_size}
 use Rattle.master_spec.specs.declared.setups.Slave.{Slave}
-use Rattle.conversation.specs.Askable.{IsSpelled}
+use Rattle.master_spec.specs.Askable.{IsSpelled}
 use Rattle.conversation.specs.Standing.{CanSend, CanSendAfter}
 use Rattle.conversation.proofs.Spelling.{spelled_is}
-use Rattle.master_core.specs.Askable.{IsAskable, AreAskable, IsLatestAskable, IsJobAskable, IsPresentAskable}
+use Rattle.master_spec.specs.Askable.{IsAskable, AreAskable, IsLatestAskable, IsJobAskable, IsPresentAskable}
 use Rattle.master_core.specs.Sends.{sends_to}
 
 -- what a reaction sends has a spelling under every number

@@ -2,7 +2,6 @@ pub mod Stages
 pub mod Rest
 pub mod Sends
 pub mod Each
-pub mod Askable
 pub mod Talking
 pub mod Columns
 pub mod Scheduled

@@ -13,7 +13,7 @@ use Rattle.master_core.specs.declared.records.Talk.{Talk}
 use Rattle.master_core.specs.declared.stages.Schedule.{Schedule}
 use Rattle.master_core.specs.declared.stages.Stage.{Stage}
 use Rattle.master_core.specs.Stages.{job_at, list_in}
-use Rattle.master_core.specs.Askable.{IsLatestAskable, IsPresentAskable, IsScriptAskable}
+use Rattle.master_spec.specs.Askable.{IsLatestAskable, IsPresentAskable, IsScriptAskable}
 
 -- the job that each slave has now, if any
 abbrev pub Now : Type 0

@@ -1,6 +1,6 @@
 -- A sound scenario gives a setup that is heard.
 use Rattle.std.proofs.Common.{◌≡◌, ℕ, zero, suc, ◌+◌, ◌-◌, ◌<◌, ◌≤◌, ◌⊎◌, inl, inr, true, Some, List, [], ◌∷◌, ◌++◌, refl, sym, ap, ◌∙◌, subst, arith}
-use Rattle.std.specs.Prelude.{◌==◌, slice_get}
+use Rattle.std.specs.Prelude.{◌==◌, slice_get, slice_index_or}
 use Rattle.std.specs.List.{AllByRecursion, flat_map, range_with_len}
 use Rattle.std.proofs.lemmas.Bool.{and_parts, eqb-true, cases_lt}
 use Rattle.std.proofs.lemmas.Option.{slice_get_within, get_or_from_slice_get}
@@ -23,10 +23,9 @@ use Rattle.master_spec.specs.Jobs.{Job, asked_by, step_jobs, run_jobs, between_j
 use Rattle.master_spec.specs.News.{pdu_of, request_bytes}
 use Rattle.master_spec.specs.Conversation.{first_of}
 use Rattle.master_spec.specs.Setup.{slaves_from}
-use Rattle.master_core.specs.Askable.{IsAskable, IsJobAskable, IsScriptAskable}
-use Rattle.master_core.specs.declared.stages.Part.TheVariants as parts
-use Rattle.master_core.proofs.Spelled.{job_askable}
-use Rattle.master_core.proofs.Planned.{all_askable}
+use Rattle.master_spec.specs.Askable.{IsAskable, IsJobAskable, IsScriptAskable}
+use Rattle.master_spec.proofs.Spelled.{register, prepare, configure, initialize, first_outputs, run_asked, step, outputs, stop, reset, deregister, all_asked, list_at}
+use Rattle.master_spec.proofs.Planned.{all_askable}
 use Rattle.master_log_laws.specs.Index.Index.{ReadBack, IsGoodJob}
 use Rattle.master_log_laws.specs.Scenarios.Laws.{SetupsAreHeard}
 
@@ -52,22 +51,25 @@ asked_append [] ys a b = b
 asked_append (x ∷ xs) ys a b = (a.0, asked_append xs ys a.1 b)
 
 module _ (steps : ℕ) (slave : Slave) (h : IsScriptAskable slave) where
+  adjusted : (r : ℕ) → IsJobAskable (record { task = tasks.Adjust; list = slice_index_or slave.script.adjusts (r - 1) [] })
+  adjusted r = let l = list_at slave.script.adjusts (r - 1) h.adjusts in record { requests = all_asked (slice_index_or slave.script.adjusts (r - 1) []) l; list = l }
+
   asked_steps : (r a n : ℕ) → AllAsked (flat_map (step_jobs steps r) (range_with_len a n))
   asked_steps r a zero = tt
-  asked_steps r a (suc n) = (job_askable steps r (parts.Step a) slave h, (job_askable steps r (parts.Outputs a) slave h, asked_steps r (a + 1) n))
+  asked_steps r a (suc n) = (record { requests = (step, tt); list = tt }, (record { requests = (outputs, tt); list = tt }, asked_steps r (a + 1) n))
 
   asked_run : (r : ℕ) → AllAsked (run_jobs steps r)
   asked_run r = (
-    job_askable steps r parts.Prepare slave h,
+    record { requests = (prepare, tt); list = tt },
     (
-      job_askable steps r parts.Configure slave h,
+      record { requests = (configure, tt); list = tt },
       (
-        job_askable steps r parts.Initialize slave h,
+        record { requests = (initialize, tt); list = tt },
         (
-          job_askable steps r parts.FirstOutputs slave h,
+          record { requests = (first_outputs, tt); list = tt },
           (
-            job_askable steps r parts.Run slave h,
-            asked_append (flat_map (step_jobs steps r) (range_with_len 1 steps)) (record { task = tasks.Stop; list = [] } ∷ []) (asked_steps r 1 steps) (job_askable steps r parts.Stop slave h, tt),
+            record { requests = (run_asked, tt); list = tt },
+            asked_append (flat_map (step_jobs steps r) (range_with_len 1 steps)) (record { task = tasks.Stop; list = [] } ∷ []) (asked_steps r 1 steps) (record { requests = (stop, tt); list = tt }, tt),
           ),
         ),
       ),
@@ -75,13 +77,13 @@ module _ (steps : ℕ) (slave : Slave) (h : IsScriptAskable slave) where
   )
 
   asked_from : (r more : ℕ) → AllAsked (jobs_from steps slave.script r more)
-  asked_from r zero = asked_append (run_jobs steps r) (record { task = tasks.Deregister; list = [] } ∷ []) (asked_run r) (job_askable steps r parts.Deregister slave h, tt)
+  asked_from r zero = asked_append (run_jobs steps r) (record { task = tasks.Deregister; list = [] } ∷ []) (asked_run r) (record { requests = (deregister, tt); list = tt }, tt)
   asked_from r (suc more) =
       asked_append (run_jobs steps r) (between_jobs slave.script r ++ jobs_from steps slave.script (r + 1) more) (asked_run r)
-      (job_askable steps r parts.Reset slave h, (job_askable steps r parts.Adjust slave h, asked_from (r + 1) more))
+      (record { requests = (reset, tt); list = tt }, (adjusted r, asked_from (r + 1) more))
 
   pub asked_jobs : (runs : ℕ) → AllAsked (jobs steps runs slave.script)
-  asked_jobs runs = (job_askable steps 1 parts.Register slave h, (job_askable steps 1 parts.Setup slave h, asked_from 1 (runs - 1)))
+  asked_jobs runs = (record { requests = (register slave.script.uuid h.uuid, tt); list = tt }, (record { requests = all_asked slave.script.setup h.setup; list = h.setup }, asked_from 1 (runs - 1)))
 
 all_at : {A : Type 0} → (P : A → Type 0) (xs : List A) (i : ℕ) (x : A) → AllByRecursion (λ y. P y) xs → slice_get xs i ≡ Some x → P x
 all_at P [] i x a e = absurd cc

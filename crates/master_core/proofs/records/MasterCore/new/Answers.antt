@@ -4,10 +4,10 @@ use Rattle.std.specs.List.{AllByRecursion}
 use Rattle.std.proofs.lemmas.List.Elements.{recursion_from_All, All-nil}
 use Rattle.master_spec.specs.declared.setups.Slave.{Slave}
 use Rattle.master_core.specs.declared.records.Talk.{Talk}
-use Rattle.master_core.specs.Askable.{IsScriptAskable}
+use Rattle.master_spec.specs.Askable.{IsScriptAskable}
 use Rattle.master_core.specs.Talking.{IsFreshTalk, slave_talked_to, outputs_width}
 use Rattle.master_core.proofs.Fresh.{fresh_stand, slaves_few, first_behind, empty_rows}
-use Rattle.master_core.proofs.Planned.{all_askable}
+use Rattle.master_spec.proofs.Planned.{all_askable}
 use Rattle.master_core.proofs.records.MasterCore.new.Goals as goal
 
 pub width_of-requires : goal.width_of-requires

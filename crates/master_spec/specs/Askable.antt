@@ -1,6 +1,7 @@
 -- Requests that have a spelling under every number, and slaves whose jobs have such requests alone.
 use Rattle.std.specs.Prelude.{ℕ, ◌<◌, ◌^◌, Option, Some, None, List, [], ◌∷◌}
 use Rattle.std.specs.List.{AllByRecursion}
+use Rattle.pdu_layout.specs.Message.{message_of, HasSpelling}
 use Rattle.pdu_layout.specs.declared.messages.Cfg.{Cfg}
 use Rattle.master_spec.specs.declared.requests.Request.{Request}
 use Rattle.master_spec.specs.declared.requests.Request.TheVariants.{Change, Configure, AskState, AskError}
@@ -8,7 +9,10 @@ use Rattle.master_spec.specs.declared.requests.Latest.{Latest}
 use Rattle.master_spec.specs.declared.requests.Latest.TheVariants as latests
 use Rattle.master_spec.specs.declared.setups.Slave.{Slave}
 use Rattle.master_spec.specs.Jobs.{Job, asked_by}
-use Rattle.conversation.specs.Askable.{IsSpelled}
+use Rattle.master_spec.specs.News.{pdu_of}
+
+abbrev pub IsSpelled : (number id : ℕ) → Request → Type 0
+IsSpelled number id request = HasSpelling (message_of (pdu_of number id request))
 
 abbrev pub IsAskable : Request → Type 0
 IsAskable request = (number id : ℕ) → number < 65536 → id < 256 → IsSpelled number id request

@@ -34,12 +34,12 @@ use Rattle.master_spec.specs.declared.links.DataLink.{DataLink}
 use Rattle.master_spec.specs.declared.pairs.Pair.{Pair}
 use Rattle.master_spec.specs.Links.{is_wire, is_wired_pair, pairs_from, positions, wire_links, links_from, wired_pairs, wire_link}
 use Rattle.master_spec.specs.PlanSetup.{settings_of, set_parameter, told_interval, numbered, input_at, output_at, incoming, outgoing, watched, setup_list, adjust_list, net_info, address_at, source_address}
-use Rattle.config_plan.proofs.More.{filter_few, grid_few, pairs_few}
+use Rattle.master_spec.proofs.More.{filter_few, grid_few, pairs_few}
 use Rattle.master_spec.specs.declared.requests.Request.TheVariants.{Configure}
 use Rattle.master_spec.specs.declared.setups.Slave.{Slave}
 use Rattle.master_spec.specs.Setup.{slave_of, slaves_from, script_of}
-use Rattle.master_core.specs.Askable.{IsAskable, AreAskable, IsScriptAskable}
-use Rattle.master_core.proofs.Spelled.{clear, time_res, steps, input, output, target, source, parameter, IsNetInfo}
+use Rattle.master_spec.specs.Askable.{IsAskable, AreAskable, IsScriptAskable}
+use Rattle.master_spec.proofs.Spelled.{clear, time_res, steps, input, output, target, source, parameter, IsNetInfo}
 
 -- ---- lists of configurations
 
