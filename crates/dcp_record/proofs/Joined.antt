@@ -1,6 +1,6 @@
 -- One piece after another.
-use Rattle.std.proofs.Common.{◌≡◌, ℕ, ◌+◌, ◌-◌, ◌<◌, ◌≤◌, List, [], ◌∷◌, ◌++◌, length, take, drop, get_or, Option, refl, sym, ap, subst, ◌∙◌, append_assoc, arith}
-use Rattle.std.proofs.lemmas.List.{append-nil, take_more}
+use Rattle.std.proofs.Common.{◌≡◌, ℕ, ◌+◌, ◌-◌, ◌≤◌, List, [], ◌∷◌, ◌++◌, take, drop, Option, refl, sym, ap, subst, ◌∙◌, append_assoc, arith}
+use Rattle.std.proofs.lemmas.List.{append-nil}
 use Rattle.dcp_io.specs.Spools.{Spooled}
 use Rattle.dcp_io.proofs.Pieces.{take-add}
 use Rattle.dcp_io.specs.Unwritten.{Unwritten}
@@ -18,14 +18,6 @@ module _ (w0 w1 w2 : Option (List ℕ)) (f0 f1 f2 : ℕ) (s0 s1 s2 : Unwritten) 
 pub all_entry_bytes-append : (xs ys : List LogEntry) → all_entry_bytes (xs ++ ys) ≡ all_entry_bytes xs ++ all_entry_bytes ys
 all_entry_bytes-append [] ys = refl
 all_entry_bytes-append (x ∷ xs) ys = ap (λ (bs : List ℕ). log_entry_bytes x ++ bs) (all_entry_bytes-append xs ys) ∙ sym (append_assoc (log_entry_bytes x) (all_entry_bytes xs) (all_entry_bytes ys))
-
-pub one_more_entry : (entries : List LogEntry) (i : ℕ) (d : LogEntry) → i < length entries → all_entry_bytes (take i entries) ++ log_entry_bytes (get_or entries i d) ≡ all_entry_bytes (take (i + 1) entries)
-one_more_entry entries i d here =
-    sym (ap all_entry_bytes (take_more entries i d here) ∙ all_entry_bytes-append (take i entries) (get_or entries i d ∷ [])
-    ∙ ap (λ (bs : List ℕ). all_entry_bytes (take i entries) ++ bs) (append-nil (log_entry_bytes (get_or entries i d))))
-
-pub entry_more : (entries : List LogEntry) (i : ℕ) (x : LogEntry) → i < length entries → x ≡ get_or entries i x → all_entry_bytes (take i entries) ++ log_entry_bytes x ≡ all_entry_bytes (take (i + 1) entries)
-entry_more entries i x here is = ap (λ (e : LogEntry). all_entry_bytes (take i entries) ++ log_entry_bytes e) is ∙ one_more_entry entries i x here
 
 pub piece_more : (text : List ℕ) (at end : ℕ) → at ≤ end → take at text ++ take (end - at) (drop at text) ≡ take end text
 piece_more text at end le = let whole : at + (end - at) ≡ end = omega arith in take-add at (end - at) text ∙ ap (λ (n : ℕ). take n text) whole

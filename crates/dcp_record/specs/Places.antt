@@ -8,6 +8,11 @@ pub record LogPlace : Type 0 where
   pub entries : List LogEntry
   pub at : ℕ
 
+-- a log that grows: its entries, and for how many bytes more there is room
+pub record LogSoFar : Type 0 where
+  pub entries : List LogEntry
+  pub room : ℕ
+
 -- these bytes are these entries, so many
 pub record IsLogIn (b : List ℕ) (count : ℕ) (entries : List LogEntry) : Type 0 where
   pub all : AreEntries b entries

@@ -62,11 +62,20 @@ impl<'a> Entries<'a> {
     pub fn cursor(&self) -> EntryCursor<'a>
         ensures { result ≡ record { entries = self.now; at = 0 } }
     {
-        EntryCursor {
-            rest: self.bytes,
-            at: 0,
-            told: self.told.again(),
-        }
+        first_place(self.bytes, &self.told)
+    }
+}
+
+/// The place before the first of these entries, whose bytes these are.
+pub fn first_place<'a>(bytes: &'a [u8], told: &ToldLog) -> EntryCursor<'a>
+    requires all { AreEntries bytes.now told.now.entries }
+    requires few { length told.now.entries < 2 ^ 64 }
+    ensures { result ≡ record { entries = told.now.entries; at = 0 } }
+{
+    EntryCursor {
+        rest: bytes,
+        at: 0,
+        told: told.again(),
     }
 }
 

@@ -1,14 +1,11 @@
 //! Writing a trace.
 
-ghost use Rattle.std.specs.Prelude.{◌≡◌, ◌≤◌, ◌<◌, ◌^◌, ◌∷◌, ◌++◌, [], length};
-ghost use Rattle.std.specs.List.{All};
+ghost use Rattle.std.specs.Prelude.{◌<◌, ◌^◌, length};
 ghost use Rattle.dcp_record.specs.Puts.{Puts, Records};
-ghost use Rattle.dcp_ends.specs.Logs.{IsInRange};
-ghost use Rattle.dcp_record.specs.Traces.{address_bytes, all_entry_bytes, log_entry_bytes, header_bytes, payload_bytes, trace_bytes};
+ghost use Rattle.dcp_record.specs.Traces.{header_bytes, trace_bytes};
 
-use dcp_ends::LogEntry;
+use crate::run_logs::RunLog;
 use dcp_io::{Delivery, Sink, Spool};
-use dcp_types::Address;
 
 /// The letters DCPR and the version.
 pub const FORM: [u8; 5] = [68, 67, 80, 82, 1];
@@ -28,18 +25,17 @@ pub enum SinkFault {
 pub fn write_record<K: Sink>(
     hosted: u32,
     scenario: &[u8],
-    entries: &[LogEntry],
+    log: &RunLog,
     sink: &mut K,
 ) -> Result<(), SinkFault>
     requires hosted { hosted < 2 ^ 17 }
     requires scenario { length scenario.now < 2 ^ 32 }
-    requires entries { All IsInRange entries.now }
-    ensures { Records (K.written sink.old) (K.written sink.new) (K.faults sink.old) (K.faults sink.new) (trace_bytes hosted scenario.now entries.now) result }
+    ensures { Records (K.written sink.old) (K.written sink.new) (K.faults sink.old) (K.faults sink.new) (trace_bytes hosted scenario.now log.now.entries) result }
 {
     let mut spool = Spool::new();
     put_header(&mut spool, sink, hosted, scenario.len() as u32);
     put_text(&mut spool, sink, scenario);
-    put_entries(&mut spool, sink, entries);
+    put_text(&mut spool, sink, log.as_bytes());
     match spool.finish(sink) {
         Delivery::Whole => Ok(()),
         Delivery::Cut => Err(SinkFault::Failed),
@@ -65,65 +61,4 @@ fn put_text<K: Sink>(spool: &mut Spool, sink: &mut K, text: &[u8])
         spool.put(sink, &text[at..end]);
         at = end;
     }
-}
-
-/// Puts the entries in order.
-fn put_entries<K: Sink>(spool: &mut Spool, sink: &mut K, entries: &[LogEntry])
-    requires { All IsInRange entries.now }
-    ensures { Puts (K.written sink.old) (K.written sink.new) (K.faults sink.old) (K.faults sink.new) spool.old spool.new (all_entry_bytes entries.now) }
-{
-    for entry in entries {
-        put_entry(spool, sink, entry);
-    }
-}
-
-/// Puts one entry: its tag, its addresses and its bytes.
-fn put_entry<K: Sink>(spool: &mut Spool, sink: &mut K, entry: &LogEntry)
-    requires { IsInRange entry.now }
-    ensures { Puts (K.written sink.old) (K.written sink.new) (K.faults sink.old) (K.faults sink.new) spool.old spool.new (log_entry_bytes entry.now) }
-{
-    match entry {
-        LogEntry::Sent { from, to, bytes } => {
-            put_exchange(spool, sink, 1, *from, *to, bytes.as_slice());
-        }
-        LogEntry::Got { at, from, bytes } => {
-            put_exchange(spool, sink, 2, *at, *from, bytes.as_slice());
-        }
-        LogEntry::Idle { at } => put_place(spool, sink, 3, *at),
-        LogEntry::Turn { at } => put_place(spool, sink, 4, *at),
-    }
-}
-
-/// Puts a tag, two addresses, and at most 1,025 bytes behind their length.
-fn put_exchange<K: Sink>(
-    spool: &mut Spool,
-    sink: &mut K,
-    tag: u8,
-    first: Address,
-    second: Address,
-    bytes: &[u8],
-)
-    requires { length bytes.now ≤ 1025 }
-    ensures { Puts (K.written sink.old) (K.written sink.new) (K.faults sink.old) (K.faults sink.new) spool.old spool.new ((tag ∷ []) ++ address_bytes first ++ address_bytes second ++ payload_bytes bytes.now) }
-{
-    put_place(spool, sink, tag, first);
-    put_address(spool, sink, second);
-    spool.put(sink, &(bytes.len() as u16).to_le_bytes());
-    spool.put(sink, bytes);
-}
-
-/// Puts a tag and an address.
-fn put_place<K: Sink>(spool: &mut Spool, sink: &mut K, tag: u8, at: Address)
-    ensures { Puts (K.written sink.old) (K.written sink.new) (K.faults sink.old) (K.faults sink.new) spool.old spool.new ((tag ∷ []) ++ address_bytes at) }
-{
-    spool.put(sink, &[tag]);
-    put_address(spool, sink, at);
-}
-
-/// Puts an address.
-fn put_address<K: Sink>(spool: &mut Spool, sink: &mut K, at: Address)
-    ensures { Puts (K.written sink.old) (K.written sink.new) (K.faults sink.old) (K.faults sink.new) spool.old spool.new (address_bytes at) }
-{
-    spool.put(sink, &at.ip.to_le_bytes());
-    spool.put(sink, &at.port.to_le_bytes());
 }

@@ -11,10 +11,10 @@ ghost use Rattle.rounds.specs.Told.{IsTold, IsToldUpTo};
 
 use crate::rooms::Room;
 use crate::seats::Seat;
-use dcp_ends::{Bytes, LogEntry};
 use dcp_net::{Done, Net, Taken};
+use dcp_record::RunLog;
 use dcp_types::Address;
-use std::alloc::{AllocError, Global};
+use std::alloc::AllocError;
 
 /// The most datagrams that an end takes in one round.
 const MOST: u8 = 64;
@@ -38,9 +38,8 @@ impl From<AllocError> for HostFault {
 /// Sends one message of 1 to 1,024 bytes, and writes it into the log. Room for its entry is there before
 /// the call, so a refusal leaves the log as it was.
 fn send_one<N: Net>(
-    alloc: Global,
     net: &mut N,
-    log: &mut Vec<LogEntry>,
+    log: &mut RunLog,
     from: Address,
     to: Address,
     bytes: &[u8],
@@ -50,20 +49,15 @@ fn send_one<N: Net>(
     requires high { length bytes.now ≤ 1024 }
     ensures is_open { IsTrue (N.is_open net.new) }
     ensures opening { N.opening net.new ≡ N.opening net.old }
-    ensures ok { OnOk result (Added N.calls net.old net.new log.old.items log.new.items (Sent from to bytes.now ∷ [])) }
-    ensures err { OnErr result (Added N.calls net.old net.new log.old.items log.new.items []) }
+    ensures ok { OnOk result (Added N.calls net.old net.new log.old.entries log.new.entries (Sent from to bytes.now ∷ [])) }
+    ensures err { OnErr result (Added N.calls net.old net.new log.old.entries log.new.entries []) }
     ensures cause { Caused (N.count net.old) (N.count net.new) result }
-    ensures range { All IsInRange log.old.items → All IsInRange log.new.items }
+    ensures range { All IsInRange log.old.entries → All IsInRange log.new.entries }
 {
-    log.reserve(1)?;
-    let kept = Bytes::copied(alloc, bytes)?;
+    log.make_room()?;
     match net.send(from, to, bytes) {
         Done::Ok => {
-            log.push_reserved(LogEntry::Sent {
-                from,
-                to,
-                bytes: kept,
-            });
+            log.push_sent(from, to, bytes);
             Ok(())
         }
         Done::Failed => Err(HostFault::Net {
@@ -75,23 +69,22 @@ fn send_one<N: Net>(
 
 /// Sends what is outgoing, in order. After a refusal some first ones of them went out.
 fn send_outgoing<E: Seat, N: Net>(
-    alloc: Global,
     end: &E,
     net: &mut N,
-    log: &mut Vec<LogEntry>,
+    log: &mut RunLog,
 ) -> Result<(), HostFault>
     requires { IsTrue (N.is_open net.old) }
     ensures is_open { IsTrue (N.is_open net.new) }
     ensures opening { N.opening net.new ≡ N.opening net.old }
-    ensures ok { OnOk result (Added N.calls net.old net.new log.old.items log.new.items (sent_by (E.rules end.now).place (E.outs end.now))) }
-    ensures err { OnErr result (SendsSome N.calls (E.rules end.now).place (E.outs end.now) net.old net.new log.old.items log.new.items) }
+    ensures ok { OnOk result (Added N.calls net.old net.new log.old.entries log.new.entries (sent_by (E.rules end.now).place (E.outs end.now))) }
+    ensures err { OnErr result (SendsSome N.calls (E.rules end.now).place (E.outs end.now) net.old net.new log.old.entries log.new.entries) }
     ensures cause { Caused (N.count net.old) (N.count net.new) result }
-    ensures range { All IsInRange log.old.items → All IsInRange log.new.items }
+    ensures range { All IsInRange log.old.entries → All IsInRange log.new.entries }
 {
     let place = end.address();
     let mut i = 0;
     'sends: while let Some((to, bytes)) = end.outgoing(i) {
-        send_one(alloc, net, log, place, to, bytes)?;
+        send_one(net, log, place, to, bytes)?;
         i += 1;
     }
     Ok(())
@@ -99,24 +92,23 @@ fn send_outgoing<E: Seat, N: Net>(
 
 /// Sends what an event made outgoing, and clears it.
 fn answer<E: Seat, N: Net>(
-    alloc: Global,
     end: &mut E,
     net: &mut N,
-    log: &mut Vec<LogEntry>,
+    log: &mut RunLog,
 ) -> Result<(), HostFault>
     requires { IsTrue (N.is_open net.old) }
     ensures is_open { IsTrue (N.is_open net.new) }
     ensures opening { N.opening net.new ≡ N.opening net.old }
-    ensures ok { OnOk result (Added N.calls net.old net.new log.old.items log.new.items (sent_by (E.rules end.old).place (E.outs end.old))) }
-    ensures err { OnErr result (SendsSome N.calls (E.rules end.old).place (E.outs end.old) net.old net.new log.old.items log.new.items) }
+    ensures ok { OnOk result (Added N.calls net.old net.new log.old.entries log.new.entries (sent_by (E.rules end.old).place (E.outs end.old))) }
+    ensures err { OnErr result (SendsSome N.calls (E.rules end.old).place (E.outs end.old) net.old net.new log.old.entries log.new.entries) }
     ensures quiet { OnOk result (E.outs end.new ≡ []) }
     ensures stands { (events : List Event) → E.stands end.old events → E.stands end.new events }
     ensures rules { E.rules end.new ≡ E.rules end.old }
     ensures made { E.made end.new ≡ E.made end.old }
     ensures cause { Caused (N.count net.old) (N.count net.new) result }
-    ensures range { All IsInRange log.old.items → All IsInRange log.new.items }
+    ensures range { All IsInRange log.old.entries → All IsInRange log.new.entries }
 {
-    send_outgoing(alloc, end, net, log)?;
+    send_outgoing(end, net, log)?;
     end.clear_outgoing();
     Ok(())
 }
@@ -130,30 +122,27 @@ struct Gram {
 
 /// Takes once for an end, and writes into the log what came, if anything.
 fn take_gram<N: Net>(
-    alloc: Global,
     net: &mut N,
-    log: &mut Vec<LogEntry>,
+    log: &mut RunLog,
     at: Address,
     room: &mut Room,
 ) -> Result<Option<Gram>, HostFault>
     requires { IsTrue (N.is_open net.old) }
     ensures is_open { IsTrue (N.is_open net.new) }
     ensures opening { N.opening net.new ≡ N.opening net.old }
-    ensures ok { IfOk result (λ gram. TookGram N.calls at gram room.new.bytes net.old net.new log.old.items log.new.items) }
-    ensures err { OnErr result (Added N.calls net.old net.new log.old.items log.new.items []) }
+    ensures ok { IfOk result (λ gram. TookGram N.calls at gram room.new.bytes net.old net.new log.old.entries log.new.entries) }
+    ensures err { OnErr result (Added N.calls net.old net.new log.old.entries log.new.entries []) }
     ensures cause { Caused (N.count net.old) (N.count net.new) result }
-    ensures range { All IsInRange log.old.items → All IsInRange log.new.items }
+    ensures range { All IsInRange log.old.entries → All IsInRange log.new.entries }
 {
-    log.reserve(1)?;
-    room.make_spare()?;
+    log.make_room()?;
     match net.take(at, &mut room.bytes) {
         Taken::Nothing => {
-            log.push_reserved(LogEntry::Idle { at });
+            log.push_idle(at);
             Ok(None)
         }
         Taken::Gram { from, len } => {
-            let bytes = room.taken(alloc, len);
-            log.push_reserved(LogEntry::Got { at, from, bytes });
+            log.push_got(at, from, &room.bytes[..len]);
             Ok(Some(Gram { from, len }))
         }
         Taken::Failed => Err(HostFault::Net {
@@ -166,60 +155,58 @@ fn take_gram<N: Net>(
 /// Takes once for an end. Where a datagram came, the end has it, and its sends went out; the answer says
 /// whether one came.
 fn look_once<E: Seat, N: Net>(
-    alloc: Global,
     end: &mut E,
     net: &mut N,
-    log: &mut Vec<LogEntry>,
+    log: &mut RunLog,
     room: &mut Room,
 ) -> Result<bool, HostFault>
     requires is_open { IsTrue (N.is_open net.old) }
     requires quiet { E.outs end.old ≡ [] }
-    requires told { IsTold E.stands (E.rules end.old) end.old log.old.items }
+    requires told { IsTold E.stands (E.rules end.old) end.old log.old.entries }
     ensures is_open { IsTrue (N.is_open net.new) }
     ensures opening { N.opening net.new ≡ N.opening net.old }
     ensures rules { E.rules end.new ≡ E.rules end.old }
     ensures made { E.made end.new ≡ E.made end.old }
     ensures quiet { OnOk result (E.outs end.new ≡ []) }
-    ensures told { OnOk result (IsTold E.stands (E.rules end.old) end.new log.new.items) }
-    ensures cut { OnErr result (IsToldUpTo E.stands (E.rules end.old) end.new log.new.items) }
-    ensures ok { IfOk result (λ more. AddsPart N.calls (LookForm (E.rules end.old).place more) net.old net.new log.old.items log.new.items) }
-    ensures err { OnErr result (AddsPart N.calls (IsGotPart (E.rules end.old).place) net.old net.new log.old.items log.new.items) }
+    ensures told { OnOk result (IsTold E.stands (E.rules end.old) end.new log.new.entries) }
+    ensures cut { OnErr result (IsToldUpTo E.stands (E.rules end.old) end.new log.new.entries) }
+    ensures ok { IfOk result (λ more. AddsPart N.calls (LookForm (E.rules end.old).place more) net.old net.new log.old.entries log.new.entries) }
+    ensures err { OnErr result (AddsPart N.calls (IsGotPart (E.rules end.old).place) net.old net.new log.old.entries log.new.entries) }
     ensures cause { Caused (N.count net.old) (N.count net.new) result }
-    ensures range { All IsInRange log.old.items → All IsInRange log.new.items }
+    ensures range { All IsInRange log.old.entries → All IsInRange log.new.entries }
 {
-    let Some(gram) = take_gram(alloc, net, log, end.address(), room)? else {
+    let Some(gram) = take_gram(net, log, end.address(), room)? else {
         return Ok(false);
     };
     end.on_gram(gram.from, &room.bytes[..gram.len]);
-    answer(alloc, end, net, log)?;
+    answer(end, net, log)?;
     Ok(true)
 }
 
 /// Takes for an end until nothing comes, at most 64 datagrams, and gives it each.
 pub fn look<E: Seat, N: Net>(
-    alloc: Global,
     end: &mut E,
     net: &mut N,
-    log: &mut Vec<LogEntry>,
+    log: &mut RunLog,
     room: &mut Room,
 ) -> Result<(), HostFault>
     requires is_open { IsTrue (N.is_open net.old) }
     requires quiet { E.outs end.old ≡ [] }
-    requires told { IsTold E.stands (E.rules end.old) end.old log.old.items }
+    requires told { IsTold E.stands (E.rules end.old) end.old log.old.entries }
     ensures is_open { IsTrue (N.is_open net.new) }
     ensures opening { N.opening net.new ≡ N.opening net.old }
     ensures rules { E.rules end.new ≡ E.rules end.old }
     ensures made { E.made end.new ≡ E.made end.old }
     ensures quiet { OnOk result (E.outs end.new ≡ []) }
-    ensures told { OnOk result (IsTold E.stands (E.rules end.old) end.new log.new.items) }
-    ensures cut { OnErr result (IsToldUpTo E.stands (E.rules end.old) end.new log.new.items) }
-    ensures ok { OnOk result (AddsPart N.calls (IsLook (E.rules end.old).place) net.old net.new log.old.items log.new.items) }
-    ensures err { OnErr result (AddsPart N.calls (IsLookPart (E.rules end.old).place) net.old net.new log.old.items log.new.items) }
+    ensures told { OnOk result (IsTold E.stands (E.rules end.old) end.new log.new.entries) }
+    ensures cut { OnErr result (IsToldUpTo E.stands (E.rules end.old) end.new log.new.entries) }
+    ensures ok { OnOk result (AddsPart N.calls (IsLook (E.rules end.old).place) net.old net.new log.old.entries log.new.entries) }
+    ensures err { OnErr result (AddsPart N.calls (IsLookPart (E.rules end.old).place) net.old net.new log.old.entries log.new.entries) }
     ensures cause { Caused (N.count net.old) (N.count net.new) result }
-    ensures range { All IsInRange log.old.items → All IsInRange log.new.items }
+    ensures range { All IsInRange log.old.entries → All IsInRange log.new.entries }
 {
     'looks: for _got in 0..MOST {
-        let more = look_once(alloc, end, net, log, room)?;
+        let more = look_once(end, net, log, room)?;
         if !more {
             return Ok(());
         }
@@ -229,29 +216,28 @@ pub fn look<E: Seat, N: Net>(
 
 /// Gives an end its turn, and sends what it makes it send.
 pub fn turn<E: Seat, N: Net>(
-    alloc: Global,
     end: &mut E,
     net: &mut N,
-    log: &mut Vec<LogEntry>,
+    log: &mut RunLog,
 ) -> Result<(), HostFault>
     requires is_open { IsTrue (N.is_open net.old) }
     requires quiet { E.outs end.old ≡ [] }
-    requires told { IsTold E.stands (E.rules end.old) end.old log.old.items }
+    requires told { IsTold E.stands (E.rules end.old) end.old log.old.entries }
     ensures is_open { IsTrue (N.is_open net.new) }
     ensures opening { N.opening net.new ≡ N.opening net.old }
     ensures rules { E.rules end.new ≡ E.rules end.old }
     ensures made { E.made end.new ≡ E.made end.old }
     ensures quiet { OnOk result (E.outs end.new ≡ []) }
-    ensures told { OnOk result (IsTold E.stands (E.rules end.old) end.new log.new.items) }
-    ensures cut { OnErr result (IsToldUpTo E.stands (E.rules end.old) end.new log.new.items) }
-    ensures ok { OnOk result (AddsPart N.calls (IsTurn (E.rules end.old).place) net.old net.new log.old.items log.new.items) }
-    ensures err { OnErr result (AddsPart N.calls (IsTurnPart (E.rules end.old).place) net.old net.new log.old.items log.new.items) }
+    ensures told { OnOk result (IsTold E.stands (E.rules end.old) end.new log.new.entries) }
+    ensures cut { OnErr result (IsToldUpTo E.stands (E.rules end.old) end.new log.new.entries) }
+    ensures ok { OnOk result (AddsPart N.calls (IsTurn (E.rules end.old).place) net.old net.new log.old.entries log.new.entries) }
+    ensures err { OnErr result (AddsPart N.calls (IsTurnPart (E.rules end.old).place) net.old net.new log.old.entries log.new.entries) }
     ensures cause { Caused (N.count net.old) (N.count net.new) result }
-    ensures range { All IsInRange log.old.items → All IsInRange log.new.items }
+    ensures range { All IsInRange log.old.entries → All IsInRange log.new.entries }
 {
-    log.reserve(1)?;
-    log.push_reserved(LogEntry::Turn { at: end.address() });
+    log.make_room()?;
+    log.push_turn(end.address());
     end.on_turn();
-    answer(alloc, end, net, log)?;
+    answer(end, net, log)?;
     Ok(())
 }

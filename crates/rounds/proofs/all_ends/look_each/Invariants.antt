@@ -15,8 +15,8 @@ invariant-loop-end g l =
       same : map rules l.ends ≡ map rules l.fn.ends;
       made : map g.E.Seat.made l.ends ≡ map g.E.Seat.made l.fn.ends;
       quiet : All (λ end. g.E.Seat.outs end ≡ []) l.ends;
-      told : AllTold g.E.Seat.stands rules l.ends l.log.items;
-      looks : AddsPart g.N.Net.calls (EachEnd IsLook (take l.end-index (places_of (map rules l.fn.ends)))) l.fn.net l.net l.fn.log.items l.log.items;
+      told : AllTold g.E.Seat.stands rules l.ends l.log.entries;
+      looks : AddsPart g.N.Net.calls (EachEnd IsLook (take l.end-index (places_of (map rules l.fn.ends)))) l.fn.net l.net l.fn.log.entries l.log.entries;
       still : g.N.Net.count l.net ≡ g.N.Net.count l.fn.net;
-      range : All IsInRange l.fn.log.items → All IsInRange l.log.items;
+      range : All IsInRange l.fn.log.entries → All IsInRange l.log.entries;
     }

@@ -23,7 +23,7 @@ returns-then-reports-clause-told_slaves g c =
 
 pub returns-then-reports-clause-ok : goal.returns-then-reports-clause-ok
 returns-then-reports-clause-ok g c =
-    let told = rw c.turn_first.ensures.rules at (c.reports.ensures c.turn_first.new.log.items c.in_ok-turn_first.ensures.told) in
+    let told = rw c.turn_first.ensures.rules at (c.reports.ensures c.turn_first.new.log.entries c.in_ok-turn_first.ensures.told) in
     turns_reported _ _ _ _ _ _ _ (sym told ∙ c.if-reports.true) c.in_ok-turn_first.ensures.ok
 
 pub turn_each-requires-clause-apart : goal.turn_each-requires-clause-apart
@@ -44,7 +44,7 @@ returns-in_err-turn_each-clause-cut_master g c =
 pub returns-in_err-turn_each-clause-err : goal.returns-in_err-turn_each-clause-err
 returns-in_err-turn_each-clause-err g c =
     let p = err_from_is_err_and c.from_residual-in_err-turn_each.result c.from_residual-in_err-turn_each.ensures.1 in
-    let told = rw c.turn_first.ensures.rules at (c.reports.ensures c.turn_first.new.log.items c.in_ok-turn_first.ensures.told) in
+    let told = rw c.turn_first.ensures.rules at (c.reports.ensures c.turn_first.new.log.entries c.in_ok-turn_first.ensures.told) in
     rw p.1 (turns_stopped _ _ _ _ _ _ _ _ _ (sym told ∙ c.if-reports.false) c.in_ok-turn_first.ensures.ok c.in_err-turn_each.ensures.err)
 
 pub returns-clause-told_master : goal.returns-clause-told_master
@@ -54,11 +54,11 @@ returns-clause-told_master g c =
 
 pub returns-clause-ok : goal.returns-clause-ok
 returns-clause-ok g c =
-    let told = rw c.turn_first.ensures.rules at (c.reports.ensures c.turn_first.new.log.items c.in_ok-turn_first.ensures.told) in
+    let told = rw c.turn_first.ensures.rules at (c.reports.ensures c.turn_first.new.log.entries c.in_ok-turn_first.ensures.told) in
     turns_all _ _ _ _ _ _ _ _ _ (sym told ∙ c.if-reports.false) c.in_ok-turn_first.ensures.ok c.in_ok-turn_each.ensures.ok
 
 pub returns-clause-report : goal.returns-clause-report
 returns-clause-report g c =
-    let told = rw c.turn_first.ensures.rules at (c.reports.ensures c.turn_first.new.log.items c.in_ok-turn_first.ensures.told) in
+    let told = rw c.turn_first.ensures.rules at (c.reports.ensures c.turn_first.new.log.entries c.in_ok-turn_first.ensures.told) in
     let part = c.in_ok-turn_each.ensures.ok in
     rw part.added.log (sym c.if-reports.false ∙ told ∙ sym (has_report-others _ _ IsTurn turn_silent _ _ c.requires.apart part.form))

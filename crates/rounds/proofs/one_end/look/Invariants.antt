@@ -15,8 +15,8 @@ invariant-looks g l =
       made : g.E.Seat.made l.end ≡ g.E.Seat.made l.fn.end;
       same : g.E.Seat.rules l.end ≡ rules;
       quiet : g.E.Seat.outs l.end ≡ [];
-      told : IsTold g.E.Seat.stands rules l.end l.log.items;
-      gots : AddsPart g.N.Net.calls (Gots rules.place l._got) l.fn.net l.net l.fn.log.items l.log.items;
+      told : IsTold g.E.Seat.stands rules l.end l.log.entries;
+      gots : AddsPart g.N.Net.calls (Gots rules.place l._got) l.fn.net l.net l.fn.log.entries l.log.entries;
       still : g.N.Net.count l.net ≡ g.N.Net.count l.fn.net;
-      range : All IsInRange l.fn.log.items → All IsInRange l.log.items;
+      range : All IsInRange l.fn.log.entries → All IsInRange l.log.entries;
     }

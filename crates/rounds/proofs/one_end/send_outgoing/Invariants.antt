@@ -10,9 +10,9 @@ invariant-sends g l =
       in_range : l.i ≤ length (g.E.Seat.outs l.end);
       is_open : IsTrue (g.N.Net.is_open l.net);
       opening : g.N.Net.opening l.net ≡ g.N.Net.opening l.fn.net;
-      added : Added g.N.Net.calls l.fn.net l.net l.fn.log.items l.log.items (sent_by (g.E.Seat.rules l.end).place (take l.i (g.E.Seat.outs l.end)));
+      added : Added g.N.Net.calls l.fn.net l.net l.fn.log.entries l.log.entries (sent_by (g.E.Seat.rules l.end).place (take l.i (g.E.Seat.outs l.end)));
       still : g.N.Net.count l.net ≡ g.N.Net.count l.fn.net;
-      range : All IsInRange l.fn.log.items → All IsInRange l.log.items;
+      range : All IsInRange l.fn.log.entries → All IsInRange l.log.entries;
     }
 
 abbrev pub decreases-sends : goal.decreases-sends
