@@ -37,10 +37,10 @@ use slave_core::{
     put_nack, same_address, session_with,
 };
 use slave_desc::SlaveDesc;
+use slave_device::Wiring;
 use slave_spec::{Asked, Fate, Session, SlaveRequest};
 use slave_states::{is_passing, next_on_turn};
 use std::alloc::Global;
-use slave_device::Wiring;
 
 /// The place in the outbox of the message that is awaited, or of the first of two.
 const FIRST: usize = 0;

@@ -13,9 +13,9 @@ ghost use Rattle.conform.specs.Plants.{ForeignFor, SetTo, faults_of, is_of_wirin
 use crate::faults::Faults;
 use dcp_types::{Address, DataType, ErrorCode, State};
 use pdu_layout::{Cfg, Stc};
+use slave_device::Wiring;
 use slave_spec::{Asked, Wired};
 use slave_states::{next_on, next_on_turn};
-use slave_device::Wiring;
 
 /// What is known of the machine under the transport of a slave.
 #[derive(Drop)]

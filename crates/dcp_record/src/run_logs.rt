@@ -130,18 +130,15 @@ fn append(bytes: &mut Vec<u8>, piece: &[u8])
 
 /// Appends a tag, two addresses, and at most 1,025 bytes behind their length.
 #[inline(always)]
-fn append_exchange(
-    bytes: &mut Vec<u8>,
-    tag: u8,
-    first: Address,
-    second: Address,
-    payload: &[u8],
-)
+fn append_exchange(bytes: &mut Vec<u8>, tag: u8, first: Address, second: Address, payload: &[u8])
     requires room { vec_len bytes.old + 1040 ≤ vec_capacity bytes.old }
     requires high { length payload.now ≤ 1025 }
     ensures { bytes.new.items ≡ bytes.old.items ++ ((tag ∷ []) ++ address_bytes first ++ address_bytes second ++ payload_bytes payload.now) }
 {
-    append(bytes, &exchange_head(tag, first, second, payload.len() as u16));
+    append(
+        bytes,
+        &exchange_head(tag, first, second, payload.len() as u16),
+    );
     append(bytes, payload);
 }
 

@@ -3,11 +3,11 @@
 use dcp_types::{Address, DataType, ErrorCode};
 use desc_text::read_desc;
 use pdu_layout::{Cfg, NetInfo};
+use slave_device::Wiring;
 use slave_spec::Wired;
 use std::alloc::Global;
 use std::process::Abort;
 use std::test::Fail;
-use slave_device::Wiring;
 
 const TEXT: &[u8] = b"slave acc
 uuid 00000000-0000-0000-0000-000000000002

@@ -15,8 +15,7 @@ use crate::making::{MasterSeat, SlaveSeat};
 use dcp_ends::{End, LogEntry};
 use dcp_types::{FaultCode, State};
 use master_core::{MasterCore, Report};
-use rounds::EndTask;
-use rounds::{HostFault, Seat};
+use rounds::{EndTask, HostFault, Seat};
 use scenario::{Scenario, slave_at};
 use slave_device::SlaveEnd;
 

@@ -68,11 +68,7 @@ fn send_one<N: Net>(
 }
 
 /// Sends what is outgoing, in order. After a refusal some first ones of them went out.
-fn send_outgoing<E: Seat, N: Net>(
-    end: &E,
-    net: &mut N,
-    log: &mut RunLog,
-) -> Result<(), HostFault>
+fn send_outgoing<E: Seat, N: Net>(end: &E, net: &mut N, log: &mut RunLog) -> Result<(), HostFault>
     requires { IsTrue (N.is_open net.old) }
     ensures is_open { IsTrue (N.is_open net.new) }
     ensures opening { N.opening net.new ≡ N.opening net.old }
@@ -91,11 +87,7 @@ fn send_outgoing<E: Seat, N: Net>(
 }
 
 /// Sends what an event made outgoing, and clears it.
-fn answer<E: Seat, N: Net>(
-    end: &mut E,
-    net: &mut N,
-    log: &mut RunLog,
-) -> Result<(), HostFault>
+fn answer<E: Seat, N: Net>(end: &mut E, net: &mut N, log: &mut RunLog) -> Result<(), HostFault>
     requires { IsTrue (N.is_open net.old) }
     ensures is_open { IsTrue (N.is_open net.new) }
     ensures opening { N.opening net.new ≡ N.opening net.old }
@@ -215,11 +207,7 @@ pub fn look<E: Seat, N: Net>(
 }
 
 /// Gives an end its turn, and sends what it makes it send.
-pub fn turn<E: Seat, N: Net>(
-    end: &mut E,
-    net: &mut N,
-    log: &mut RunLog,
-) -> Result<(), HostFault>
+pub fn turn<E: Seat, N: Net>(end: &mut E, net: &mut N, log: &mut RunLog) -> Result<(), HostFault>
     requires is_open { IsTrue (N.is_open net.old) }
     requires quiet { E.outs end.old ≡ [] }
     requires told { IsTold E.stands (E.rules end.old) end.old log.old.entries }

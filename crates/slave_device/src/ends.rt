@@ -4,13 +4,13 @@ ghost use Rattle.std.specs.Prelude.{◌≡◌, ◌≤◌, [], IfOk};
 ghost use Rattle.slave_desc.specs.Descriptions.{IsDesc};
 ghost use Rattle.slave_spec.specs.Slaves.{slave_rules_from};
 
+use crate::wirings::Wiring;
 use crate::{Device, slave_over};
 use dcp_ends::End;
 use dcp_types::OutOfMemory;
 use slave_core::SlaveCore;
 use slave_desc::SlaveDesc;
 use std::alloc::Global;
-use crate::wirings::Wiring;
 
 /// A slave: the transport over a machine over a wiring.
 pub type SlaveEnd = SlaveCore<Device<Wiring>>;

@@ -1,4 +1,4 @@
-use Rattle.std.proofs.Common.{arith, ◌∙◌}
+use Rattle.std.proofs.Common.{◌∙◌}
 use Rattle.std.proofs.lemmas.Result.{err_from_is_err_and}
 use Rattle.rounds.proofs.Looks.{GotsSoFar-more, Looked-idle, LookPart-stopped}
 use Rattle.rounds.proofs.one_end.look.Goals as goal

@@ -1,4 +1,4 @@
-use Rattle.std.proofs.Common.{◌≡◌, ◌≤◌, [], IsTrue}
+use Rattle.std.proofs.Common.{◌≡◌, [], IsTrue}
 use Rattle.std.specs.List.{All}
 use Rattle.dcp_ends.specs.Logs.{IsInRange}
 use Rattle.rounds.specs.Rounds.{Gots}
