@@ -1,0 +1,4 @@
+pub mod Live
+pub mod InStep
+pub mod Outcomes
+pub mod Bridge
