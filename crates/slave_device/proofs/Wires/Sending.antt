@@ -20,8 +20,8 @@ use Rattle.slave_device.specs.Wiring.Sending.{output_row, AreOutputs, row_restar
 use Rattle.slave_device.specs.declared.places.PortPlace.{PortPlace}
 use Rattle.slave_device.specs.declared.tables.OutputRow.{OutputRow}
 use Rattle.slave_device.specs.declared.tables.Outputs.{Outputs}
-use Rattle.slave_device.proofs.Wiring.Ascending.{by_test, put_there, put_new, map_set, map_insert, map_absent, row_at}
-use Rattle.slave_device.proofs.Wiring.Known.{ids_ascend, map_known, known, unknown, has_none, has_fewer, interval_new, base_new}
+use Rattle.slave_device.proofs.Wires.Ascending.{by_test, put_there, put_new, map_set, map_insert, map_absent, row_at}
+use Rattle.slave_device.proofs.Wires.Known.{ids_ascend, map_known, known, unknown, has_none, has_fewer, interval_new, base_new}
 
 -- refusals of an entry
 pub full : (d : SlaveDesc) (changes : List Change) (id position vr : ℕ) → has_id output id changes ≡ false → 17 ≤ length (ids output changes) → refusal_of_setting d changes (cfg.Output id position vr) ≡ Some NotSupported

@@ -20,8 +20,8 @@ use Rattle.slave_device.specs.declared.tables.InputRow.{InputRow}
 use Rattle.slave_device.specs.declared.tables.OutputRow.{OutputRow}
 use Rattle.slave_device.specs.declared.tables.Outputs.{Outputs}
 use Rattle.slave_device.specs.declared.wirings.Wiring.{Wiring}
-use Rattle.slave_device.proofs.Wiring.Receiving.{not_resolution}
-use Rattle.slave_device.proofs.Wiring.Taking.{kept_same}
+use Rattle.slave_device.proofs.Wires.Receiving.{not_resolution}
+use Rattle.slave_device.proofs.Wires.Taking.{kept_same}
 
 pub match_both : {T E : Type 0} {P P' : T → Type 0} {Q Q' : E → Type 0} (r : Result T E) → ((v : T) → P v → P' v) → ((e : E) → Q e → Q' e) → MatchResult r P Q → MatchResult r P' Q'
 match_both (Ok v) f g m = f v m

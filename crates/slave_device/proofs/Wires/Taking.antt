@@ -18,10 +18,10 @@ use Rattle.slave_device.specs.Wiring.Receiving.{kept_ordinal, input_row, segment
 use Rattle.slave_device.specs.declared.tables.InputRow.{InputRow}
 use Rattle.slave_device.specs.declared.tables.Segment.{Segment}
 use Rattle.slave_device.specs.declared.tables.Inputs.{Inputs}
-use Rattle.slave_device.proofs.Wiring.Ascending.{by_test, map_set}
-use Rattle.slave_device.proofs.Wiring.Known.{ids_ascend, map_known, known, unknown}
-use Rattle.slave_device.proofs.Wiring.Placing.{value_read}
-use Rattle.slave_device.proofs.Wiring.Receiving.{there_at, place_at, row_is, filled}
+use Rattle.slave_device.proofs.Wires.Ascending.{by_test, map_set}
+use Rattle.slave_device.proofs.Wires.Known.{ids_ascend, map_known, known, unknown}
+use Rattle.slave_device.proofs.Wires.Placing.{value_read}
+use Rattle.slave_device.proofs.Wires.Receiving.{there_at, place_at, row_is, filled}
 
 -- ---- whether a payload is wanted
 

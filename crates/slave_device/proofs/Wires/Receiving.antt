@@ -17,8 +17,8 @@ use Rattle.slave_device.specs.Wiring.Ids.{IsThere, IsPlaceFor, IsFound}
 use Rattle.slave_device.specs.Wiring.Receiving.{input_row, AreInputs}
 use Rattle.slave_device.specs.declared.tables.InputRow.{InputRow}
 use Rattle.slave_device.specs.declared.tables.Inputs.{Inputs}
-use Rattle.slave_device.proofs.Wiring.Ascending.{by_test, map_set, map_absent, row_at}
-use Rattle.slave_device.proofs.Wiring.Known.{ids_ascend, known, unknown}
+use Rattle.slave_device.proofs.Wires.Ascending.{by_test, map_set, map_absent, row_at}
+use Rattle.slave_device.proofs.Wires.Known.{ids_ascend, known, unknown}
 
 pub there_at : (d : SlaveDesc) (w : WiringState) (s : Inputs) (id i : ℕ) → AreInputs d w s → IsThere s.ids id i → IsThere (ids input w.changes) id i
 there_at d w s id i h t = subst (λ (l : List ℕ). IsThere l id i) h.sorted t

@@ -22,7 +22,7 @@ use Rattle.slave_device.specs.declared.places.PortPlace.{PortPlace}
 use Rattle.slave_device.specs.Wiring.Sending.{output_row, AreOutputs}
 use Rattle.slave_device.specs.declared.tables.OutputRow.{OutputRow}
 use Rattle.slave_device.specs.declared.tables.Outputs.{Outputs}
-use Rattle.slave_device.proofs.Wiring.Ascending.{by_test}
+use Rattle.slave_device.proofs.Wires.Ascending.{by_test}
 
 pub width_few : (kind : DataType) → width kind ≤ 8
 width_few U8 = omega arith

@@ -25,10 +25,10 @@ use Rattle.slave_device.specs.declared.places.PortPlace.{PortPlace}
 use Rattle.slave_device.specs.declared.tables.InputRow.{InputRow}
 use Rattle.slave_device.specs.declared.tables.Segment.{Segment}
 use Rattle.slave_device.specs.declared.tables.Inputs.{Inputs}
-use Rattle.slave_device.proofs.Wiring.Ascending.{by_test, put_there, put_new, map_set, map_insert}
-use Rattle.slave_device.proofs.Wiring.Known.{ids_ascend, unknown, has_none, has_fewer, interval_new, base_new}
-use Rattle.slave_device.proofs.Wiring.Placing.{types_own, types_other, types_count, widths_more, placed_more, placed_last, segment_is, kept_more, kept_short, wired_is}
-use Rattle.slave_device.proofs.Wiring.Receiving.{there_at, place_at, row_is}
+use Rattle.slave_device.proofs.Wires.Ascending.{by_test, put_there, put_new, map_set, map_insert}
+use Rattle.slave_device.proofs.Wires.Known.{ids_ascend, unknown, has_none, has_fewer, interval_new, base_new}
+use Rattle.slave_device.proofs.Wires.Placing.{types_own, types_other, types_count, widths_more, placed_more, placed_last, segment_is, kept_more, kept_short, wired_is}
+use Rattle.slave_device.proofs.Wires.Receiving.{there_at, place_at, row_is}
 
 -- ---- refusals
 
