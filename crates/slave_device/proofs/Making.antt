@@ -1,9 +1,9 @@
 -- The model of a description is of its kind, and has its ports.
-use Rattle.std.proofs.Common.{◌≡◌, ℕ, ◌≤◌, true, false, Bool, ◌==◌, ◌&&◌, length, refl, sym, ◌∙◌, subst, ap}
+use Rattle.std.proofs.Common.{◌≡◌, ℕ, ◌≤◌, true, ◌==◌, length, refl}
 use Rattle.std.proofs.lemmas.Bool.{and_parts, eqb-true}
 use Rattle.std.proofs.lemmas.List.{length-map}
-use Rattle.fixed_models.specs.Kinds.{takes, has_inputs, output_count}
-use Rattle.fixed_models.specs.Views.{View, accepts}
+use Rattle.fixed_models.specs.Kinds.{has_inputs, output_count}
+use Rattle.fixed_models.specs.Views.{accepts}
 use Rattle.slave_desc.specs.declared.descriptions.SlaveDesc.{SlaveDesc}
 use Rattle.slave_desc.specs.Descriptions.{IsDesc}
 use Rattle.slave_spec.specs.Plants.{model_with, output_types}

@@ -1,5 +1,5 @@
 -- A step that the model has taken.
-use Rattle.std.proofs.Common.{◌≡◌, ℕ, ◌+◌, List, [], ◌∷◌}
+use Rattle.std.proofs.Common.{◌≡◌, ℕ, List, [], ◌∷◌}
 use Rattle.dcp_types.specs.declared.addresses.Address.{Address}
 use Rattle.dcp_types.specs.declared.states.State.TheVariants.{Computed}
 use Rattle.dcp_ends.specs.Events.{Send}

@@ -1,15 +1,9 @@
 -- What the code keeps of a slave's machine, and where it stands.
-use Rattle.std.specs.Prelude.{◌≡◌, ℕ, ◌≤◌, Bool, true, false, List, [], ◌∷◌, length, Option, Result, Ok, Err, ℤ}
-use Rattle.dcp_types.specs.declared.data_types.DataType.{DataType}
-use Rattle.dcp_types.specs.declared.error_codes.ErrorCode.{ErrorCode}
-use Rattle.fixed_models.specs.Kinds.{takes, has_inputs}
-use Rattle.fixed_models.specs.Views.{View, moved}
+use Rattle.std.specs.Prelude.{◌≡◌}
+use Rattle.fixed_models.specs.Views.{moved}
 use Rattle.slave_desc.specs.declared.descriptions.SlaveDesc.{SlaveDesc}
 use Rattle.slave_spec.specs.Payloads.{WiringState}
-use Rattle.slave_spec.specs.declared.words.SlaveSetup.{SlaveSetup}
-use Rattle.slave_spec.specs.declared.words.Asked.{Asked}
-use Rattle.slave_spec.specs.Plants.{Plant, output_types}
-use Rattle.slave_spec.specs.Requests.{refusal, accepted}
+use Rattle.slave_spec.specs.Plants.{Plant}
 use Rattle.slave_spec.specs.Turns.{Stay, Wait, Fault, Step, Pass}
 use Rattle.slave_spec.specs.Turns as turns
 use Rattle.slave_device.specs.declared.devices.Device.{Device}

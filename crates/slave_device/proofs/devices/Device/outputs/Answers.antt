@@ -1,4 +1,4 @@
-use Rattle.std.proofs.Common.{arith, ◌≡◌, refl, sym, subst, ap, ◌∙◌, ◌+◌, length, set, rules}
+use Rattle.std.proofs.Common.{arith, ◌≡◌, sym, subst, ap, ◌∙◌, ◌+◌, length, set, rules}
 use Rattle.std.specs.Int.{w128}
 use Rattle.std.proofs.lemmas.Int.{to_z-of_z}
 use Rattle.slave_device.proofs.Shown.{Shown, shown_more, unshown, shown_all}

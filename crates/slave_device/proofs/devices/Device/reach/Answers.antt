@@ -1,5 +1,4 @@
-use Rattle.std.proofs.Common.{◌≡◌, List, [], ◌∷◌, ◌++◌, refl, ap, ◌∙◌, append_assoc}
-use Rattle.dcp_ends.specs.Events.{Send}
+use Rattle.std.proofs.Common.{ap, ◌∙◌}
 use Rattle.slave_states.specs.Transitions.{next_on_turn}
 use Rattle.slave_spec.specs.Turns.{sent_after}
 use Rattle.slave_device.proofs.Telling.{and_then}

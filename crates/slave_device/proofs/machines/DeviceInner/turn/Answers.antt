@@ -1,4 +1,4 @@
-use Rattle.std.proofs.Common.{refl, sym, subst}
+use Rattle.std.proofs.Common.{subst}
 use Rattle.slave_spec.specs.Turns.{act}
 use Rattle.slave_device.specs.Devices.{Acts}
 use Rattle.slave_device.proofs.Stepping.{step_after, step_sends}
