@@ -1,4 +1,4 @@
-pub mod Wiring
+pub mod Wires
 pub mod Shown
 pub mod Telling
 pub mod Stepping

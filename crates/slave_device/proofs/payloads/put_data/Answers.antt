@@ -1,5 +1,5 @@
 use Rattle.std.proofs.Common.{arith}
-use Rattle.slave_device.proofs.Wiring.Building.{data_spelled, spelled_is}
+use Rattle.slave_device.proofs.Wires.Building.{data_spelled, spelled_is}
 use Rattle.slave_device.proofs.payloads.put_data.Goals as goal
 
 pub encode-requires : goal.encode-requires

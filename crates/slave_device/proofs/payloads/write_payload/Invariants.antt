@@ -1,4 +1,4 @@
-use Rattle.slave_device.proofs.Wiring.Building.{Written}
+use Rattle.slave_device.proofs.Wires.Building.{Written}
 use Rattle.slave_device.proofs.payloads.write_payload.Given as goal
 
 abbrev pub invariant-loop-place : goal.invariant-loop-place

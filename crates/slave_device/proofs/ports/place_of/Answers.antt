@@ -1,5 +1,5 @@
 use Rattle.std.proofs.Common.{arith}
-use Rattle.slave_device.proofs.Wiring.Finding.{port_found, nowhere}
+use Rattle.slave_device.proofs.Wires.Finding.{port_found, nowhere}
 use Rattle.slave_device.proofs.ports.place_of.Goals as goal
 
 pub returns-then-port-vr : goal.returns-then-port-vr

@@ -2,7 +2,7 @@ use Rattle.std.proofs.Common.{◌∙◌, ap, ◌≡◌, arith, ◌+◌, ◌-◌,
 use Rattle.std.specs.Int.{w128}
 use Rattle.std.proofs.lemmas.Int.{to_z-of_z}
 use Rattle.dcp_types.specs.Values.{width}
-use Rattle.slave_device.proofs.Wiring.Wired.{value_got}
+use Rattle.slave_device.proofs.Wires.Wired.{value_got}
 use Rattle.slave_device.proofs.segments.segment_value.Goals as goal
 
 pub returns-then-end-payload-clause-value : goal.returns-then-end-payload-clause-value

@@ -1,9 +1,9 @@
 use Rattle.std.proofs.Common.{arith, rules, ap, ◌∙◌, get_or, None}
 use Rattle.std.specs.Prelude.{ℤ, pos}
-use Rattle.slave_device.specs.Wiring.Receiving.{input_after}
+use Rattle.slave_device.specs.Wires.Receiving.{input_after}
 use Rattle.std.specs.Int.{w128}
 use Rattle.std.proofs.lemmas.Int.{to_z-of_z}
-use Rattle.slave_device.proofs.Wiring.Wired.{taken_more}
+use Rattle.slave_device.proofs.Wires.Wired.{taken_more}
 use Rattle.slave_device.proofs.segments.take_values.Goals as goal
 
 pub loop-i-preserved : goal.loop-i-preserved

@@ -1,4 +1,4 @@
-use Rattle.slave_device.proofs.Wiring.Wired.{TakenUpTo}
+use Rattle.slave_device.proofs.Wires.Wired.{TakenUpTo}
 use Rattle.slave_device.proofs.segments.take_values.Given as goal
 
 abbrev pub invariant-loop-i : goal.invariant-loop-i

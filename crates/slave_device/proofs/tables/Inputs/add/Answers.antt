@@ -1,6 +1,6 @@
 use Rattle.std.proofs.Common.{◌∙◌, sym}
-use Rattle.slave_device.proofs.Wiring.Finding.{port_of, no_port_of}
-use Rattle.slave_device.proofs.Wiring.Entering.{no_input, bad_type, wired_refused}
+use Rattle.slave_device.proofs.Wires.Finding.{port_of, no_port_of}
+use Rattle.slave_device.proofs.Wires.Entering.{no_input, bad_type, wired_refused}
 use Rattle.slave_device.proofs.tables.Inputs.add.Goals as goal
 
 pub returns-in_default : goal.returns-in_default

@@ -3,9 +3,9 @@ use Rattle.std.proofs.lemmas.List.Edits.{length-insert}
 use Rattle.slave_device.specs.declared.tables.InputRow.{InputRow}
 use Rattle.std.proofs.Common.{ℕ, List, length, subst, None, ◌∙◌, ap, sym, ◌≡◌, arith, refl, true, false}
 use Rattle.std.proofs.lemmas.Grind.{common_steps}
-use Rattle.slave_device.proofs.Wiring.Building.{width_few}
-use Rattle.slave_device.proofs.Wiring.Wired.{some_free, one_more, sized_insert, AreSized}
-use Rattle.slave_device.proofs.Wiring.Entering.{position_judged, none_yet, begun, differs, equals}
+use Rattle.slave_device.proofs.Wires.Building.{width_few}
+use Rattle.slave_device.proofs.Wires.Wired.{some_free, one_more, sized_insert, AreSized}
+use Rattle.slave_device.proofs.Wires.Entering.{position_judged, none_yet, begun, differs, equals}
 use Rattle.slave_device.proofs.tables.Inputs.begin.Goals as goal
 
 pub returns-then-position-ne0 : goal.returns-then-position-ne0

@@ -1,9 +1,9 @@
 use Rattle.slave_device.specs.declared.tables.InputRow.{InputRow}
 use Rattle.std.proofs.Common.{set, ◌+◌, ◌∙◌, ap, arith, refl, true, false}
 use Rattle.std.proofs.lemmas.List.{length-set}
-use Rattle.slave_device.proofs.Wiring.Building.{width_few}
-use Rattle.slave_device.proofs.Wiring.Wired.{one_more, sized_set}
-use Rattle.slave_device.proofs.Wiring.Entering.{position_judged, count_is, extended, differs, equals}
+use Rattle.slave_device.proofs.Wires.Building.{width_few}
+use Rattle.slave_device.proofs.Wires.Wired.{one_more, sized_set}
+use Rattle.slave_device.proofs.Wires.Entering.{position_judged, count_is, extended, differs, equals}
 use Rattle.slave_device.proofs.tables.Inputs.extend.Goals as goal
 
 pub returns-then-position-row : goal.returns-then-position-row

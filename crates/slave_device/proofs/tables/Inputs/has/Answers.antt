@@ -1,5 +1,5 @@
 use Rattle.std.proofs.Common.{◌∙◌}
-use Rattle.slave_device.proofs.Wiring.Receiving.{has_found}
+use Rattle.slave_device.proofs.Wires.Receiving.{has_found}
 use Rattle.slave_device.proofs.tables.Inputs.has.Goals as goal
 
 pub returns : goal.returns

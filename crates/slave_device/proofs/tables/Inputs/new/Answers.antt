@@ -1,6 +1,6 @@
 use Rattle.std.proofs.Common.{refl, ap, sym, ◌∙◌, arith, length, List}
 use Rattle.slave_desc.specs.declared.ports.Port.{Port}
-use Rattle.slave_device.proofs.Wiring.Receiving.{bare_inputs}
+use Rattle.slave_device.proofs.Wires.Receiving.{bare_inputs}
 use Rattle.slave_device.proofs.tables.Inputs.new.Goals as goal
 
 pub returns : goal.returns

@@ -1,5 +1,5 @@
 use Rattle.std.proofs.Common.{refl}
-use Rattle.slave_device.proofs.Wiring.Receiving.{paced, unpaced}
+use Rattle.slave_device.proofs.Wires.Receiving.{paced, unpaced}
 use Rattle.slave_device.proofs.tables.Inputs.set_interval.Goals as goal
 
 pub returns-in-Ok : goal.returns-in-Ok

@@ -1,5 +1,5 @@
 use Rattle.std.proofs.Common.{true, false, refl, ◌∙◌, sym}
-use Rattle.slave_device.proofs.Wiring.Receiving.{no_source_id, source_told, sourced}
+use Rattle.slave_device.proofs.Wires.Receiving.{no_source_id, source_told, sourced}
 use Rattle.slave_device.proofs.tables.Inputs.set_source.Goals as goal
 
 pub returns-in_default : goal.returns-in_default

@@ -1,5 +1,5 @@
 use Rattle.std.proofs.Common.{refl, sym, arith, ◌∙◌, ap, ℕ, Some, set}
-use Rattle.slave_device.proofs.Wiring.Taking.{wanted_is, not_wanted, not_taken, taken}
+use Rattle.slave_device.proofs.Wires.Taking.{wanted_is, not_wanted, not_taken, taken}
 use Rattle.slave_device.proofs.tables.Inputs.take_data.Goals as goal
 
 pub returns-in_default-clause-kept : goal.returns-in_default-clause-kept

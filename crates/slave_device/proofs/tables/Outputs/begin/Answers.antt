@@ -3,8 +3,8 @@ use Rattle.std.proofs.lemmas.Grind.{common_steps}
 use Rattle.dcp_types.specs.declared.error_codes.ErrorCode.TheVariants.{Position}
 use Rattle.slave_spec.specs.Refusals.{refused_unless}
 use Rattle.slave_device.specs.declared.places.PortPlace.{PortPlace}
-use Rattle.slave_device.proofs.Wiring.Finding.{port_of, no_port_of}
-use Rattle.slave_device.proofs.Wiring.Sending.{full_at, room_at, no_port, judged_at, none_at, begun}
+use Rattle.slave_device.proofs.Wires.Finding.{port_of, no_port_of}
+use Rattle.slave_device.proofs.Wires.Sending.{full_at, room_at, no_port, judged_at, none_at, begun}
 use Rattle.slave_device.proofs.tables.Outputs.begin.Goals as goal
 
 pub returns-then-len-ge-IDS : goal.returns-then-len-ge-IDS

@@ -1,8 +1,8 @@
 use Rattle.std.proofs.Common.{refl, ap, ◌∙◌}
 use Rattle.dcp_types.specs.declared.error_codes.ErrorCode.TheVariants.{Position}
 use Rattle.slave_spec.specs.Refusals.{refused_unless}
-use Rattle.slave_device.proofs.Wiring.Finding.{port_of, no_port_of}
-use Rattle.slave_device.proofs.Wiring.Sending.{known_at, no_port, judged_at, count_at, extended}
+use Rattle.slave_device.proofs.Wires.Finding.{port_of, no_port_of}
+use Rattle.slave_device.proofs.Wires.Sending.{known_at, no_port, judged_at, count_at, extended}
 use Rattle.slave_device.proofs.tables.Outputs.extend.Goals as goal
 
 pub returns-in_default : goal.returns-in_default

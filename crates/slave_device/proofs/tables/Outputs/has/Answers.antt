@@ -1,5 +1,5 @@
 use Rattle.std.proofs.Common.{◌∙◌}
-use Rattle.slave_device.proofs.Wiring.Sending.{has_found}
+use Rattle.slave_device.proofs.Wires.Sending.{has_found}
 use Rattle.slave_device.proofs.tables.Outputs.has.Goals as goal
 
 pub returns : goal.returns

@@ -1,5 +1,5 @@
 use Rattle.std.proofs.Common.{refl}
-use Rattle.slave_device.proofs.Wiring.Sending.{paced, unpaced}
+use Rattle.slave_device.proofs.Wires.Sending.{paced, unpaced}
 use Rattle.slave_device.proofs.tables.Outputs.set_interval.Goals as goal
 
 pub returns-in-Ok : goal.returns-in-Ok

@@ -1,5 +1,5 @@
 use Rattle.std.proofs.Common.{true, false, refl, ◌∙◌, sym}
-use Rattle.slave_device.proofs.Wiring.Sending.{no_target_id, target_told, targeted}
+use Rattle.slave_device.proofs.Wires.Sending.{no_target_id, target_told, targeted}
 use Rattle.slave_device.proofs.tables.Outputs.set_target.Goals as goal
 
 pub returns-in_default : goal.returns-in_default

@@ -1,4 +1,4 @@
-use Rattle.slave_device.proofs.Wiring.Whole.{match_both, not_input}
+use Rattle.slave_device.proofs.Wires.Whole.{match_both, not_input}
 use Rattle.slave_device.proofs.wirings.Wiring.add_input.Goals as goal
 
 pub returns : goal.returns

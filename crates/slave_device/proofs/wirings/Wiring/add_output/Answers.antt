@@ -1,5 +1,5 @@
-use Rattle.slave_device.proofs.Wiring.Receiving.{not_output}
-use Rattle.slave_device.proofs.Wiring.Whole.{match_both}
+use Rattle.slave_device.proofs.Wires.Receiving.{not_output}
+use Rattle.slave_device.proofs.Wires.Whole.{match_both}
 use Rattle.slave_device.proofs.wirings.Wiring.add_output.Goals as goal
 
 pub returns : goal.returns

@@ -1,7 +1,7 @@
 use Rattle.std.proofs.Common.{ap, ◌∙◌}
 use Rattle.dcp_types.specs.declared.error_codes.ErrorCode.TheVariants.{NotSupported}
 use Rattle.slave_spec.specs.Refusals.{refused_unless}
-use Rattle.slave_device.proofs.Wiring.Whole.{interval_judged}
+use Rattle.slave_device.proofs.Wires.Whole.{interval_judged}
 use Rattle.slave_device.proofs.wirings.Wiring.set_interval.Goals as goal
 
 pub returns-then-not-allows : goal.returns-then-not-allows

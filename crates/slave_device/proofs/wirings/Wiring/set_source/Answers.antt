@@ -1,5 +1,5 @@
 use Rattle.std.proofs.Common.{sym, ◌∙◌}
-use Rattle.slave_device.proofs.Wiring.Whole.{match_both, not_source, no_source_way}
+use Rattle.slave_device.proofs.Wires.Whole.{match_both, not_source, no_source_way}
 use Rattle.slave_device.proofs.wirings.Wiring.set_source.Goals as goal
 
 pub returns-then-not-is_transport : goal.returns-then-not-is_transport

@@ -1,6 +1,6 @@
 use Rattle.std.proofs.Common.{sym, ◌∙◌}
-use Rattle.slave_device.proofs.Wiring.Receiving.{not_target}
-use Rattle.slave_device.proofs.Wiring.Whole.{match_both, no_target_way}
+use Rattle.slave_device.proofs.Wires.Receiving.{not_target}
+use Rattle.slave_device.proofs.Wires.Whole.{match_both, no_target_way}
 use Rattle.slave_device.proofs.wirings.Wiring.set_target.Goals as goal
 
 pub returns-then-not-is_transport : goal.returns-then-not-is_transport

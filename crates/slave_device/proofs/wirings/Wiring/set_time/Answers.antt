@@ -1,7 +1,7 @@
 use Rattle.std.proofs.Common.{refl, ap, ◌∙◌}
 use Rattle.dcp_types.specs.declared.error_codes.ErrorCode.TheVariants.{NotSupported}
 use Rattle.slave_spec.specs.Refusals.{refused_unless}
-use Rattle.slave_device.proofs.Wiring.Whole.{time_judged, time_told}
+use Rattle.slave_device.proofs.Wires.Whole.{time_judged, time_told}
 use Rattle.slave_device.proofs.wirings.Wiring.set_time.Goals as goal
 
 pub returns-then-not-has_resolution : goal.returns-then-not-has_resolution

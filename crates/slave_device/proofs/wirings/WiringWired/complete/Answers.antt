@@ -1,5 +1,5 @@
 use Rattle.std.proofs.Common.{◌∙◌}
-use Rattle.slave_device.proofs.Wiring.Whole.{complete_is}
+use Rattle.slave_device.proofs.Wires.Whole.{complete_is}
 use Rattle.slave_device.proofs.wirings.WiringWired.complete.Goals as goal
 
 pub returns : goal.returns

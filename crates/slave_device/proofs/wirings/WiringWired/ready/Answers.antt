@@ -1,5 +1,5 @@
 use Rattle.std.proofs.Common.{◌∙◌}
-use Rattle.slave_device.proofs.Wiring.Whole.{ready_is}
+use Rattle.slave_device.proofs.Wires.Whole.{ready_is}
 use Rattle.slave_device.proofs.wirings.WiringWired.ready.Goals as goal
 
 pub returns : goal.returns

@@ -18,17 +18,17 @@ use Rattle.slave_spec.specs.Changes.{Change, Set, input, entries, has_id, ids, s
 use Rattle.slave_spec.specs.Refusals.{refusal_of_setting, port_with, is_wired, refused_unless}
 use Rattle.slave_spec.specs.Payloads as payloads
 use Rattle.slave_spec.specs.Payloads.{WiringState, Kept, Spot, port_type, input_types, spot, spot_value, input_value, wired_values, kept_under}
-use Rattle.slave_device.specs.Wiring.Ids.{IsThere, IsPlaceFor}
-use Rattle.slave_device.specs.Wiring.Ports.{IsPort, port_index}
-use Rattle.slave_device.specs.Wiring.Receiving.{kept_ordinal, input_row, segment_of, segment_for, IsPlaced, IsCoherent, AreInputs}
+use Rattle.slave_device.specs.Wires.Ids.{IsThere, IsPlaceFor}
+use Rattle.slave_device.specs.Wires.Ports.{IsPort, port_index}
+use Rattle.slave_device.specs.Wires.Receiving.{kept_ordinal, input_row, segment_of, segment_for, IsPlaced, IsCoherent, AreInputs}
 use Rattle.slave_device.specs.declared.places.PortPlace.{PortPlace}
 use Rattle.slave_device.specs.declared.tables.InputRow.{InputRow}
 use Rattle.slave_device.specs.declared.tables.Segment.{Segment}
 use Rattle.slave_device.specs.declared.tables.Inputs.{Inputs}
-use Rattle.slave_device.proofs.Wiring.Ascending.{by_test, put_there, put_new, map_set, map_insert}
-use Rattle.slave_device.proofs.Wiring.Known.{ids_ascend, unknown, has_none, has_fewer, interval_new, base_new}
-use Rattle.slave_device.proofs.Wiring.Placing.{types_own, types_other, types_count, widths_more, placed_more, placed_last, segment_is, kept_more, kept_short, wired_is}
-use Rattle.slave_device.proofs.Wiring.Receiving.{there_at, place_at, row_is}
+use Rattle.slave_device.proofs.Wires.Ascending.{by_test, put_there, put_new, map_set, map_insert}
+use Rattle.slave_device.proofs.Wires.Known.{ids_ascend, unknown, has_none, has_fewer, interval_new, base_new}
+use Rattle.slave_device.proofs.Wires.Placing.{types_own, types_other, types_count, widths_more, placed_more, placed_last, segment_is, kept_more, kept_short, wired_is}
+use Rattle.slave_device.proofs.Wires.Receiving.{there_at, place_at, row_is}
 
 -- ---- refusals
 

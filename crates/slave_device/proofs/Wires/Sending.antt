@@ -14,14 +14,14 @@ use Rattle.slave_desc.specs.declared.descriptions.SlaveDesc.{SlaveDesc}
 use Rattle.slave_spec.specs.Changes.{Change, Set, Restart, output, entries, has_id, ids, target, entry_interval, base, put_ascending, vr_for}
 use Rattle.pdu_layout.specs.declared.messages.NetInfo.{NetInfo}
 use Rattle.slave_spec.specs.Refusals.{is_transport, refusal_of_setting, is_full, port_with, refused_unless}
-use Rattle.slave_device.specs.Wiring.Ids.{IsThere, IsPlaceFor, IsFound}
-use Rattle.slave_device.specs.Wiring.Ports.{IsPort, place_with}
-use Rattle.slave_device.specs.Wiring.Sending.{output_row, AreOutputs, row_restarted}
+use Rattle.slave_device.specs.Wires.Ids.{IsThere, IsPlaceFor, IsFound}
+use Rattle.slave_device.specs.Wires.Ports.{IsPort, place_with}
+use Rattle.slave_device.specs.Wires.Sending.{output_row, AreOutputs, row_restarted}
 use Rattle.slave_device.specs.declared.places.PortPlace.{PortPlace}
 use Rattle.slave_device.specs.declared.tables.OutputRow.{OutputRow}
 use Rattle.slave_device.specs.declared.tables.Outputs.{Outputs}
-use Rattle.slave_device.proofs.Wiring.Ascending.{by_test, put_there, put_new, map_set, map_insert, map_absent, row_at}
-use Rattle.slave_device.proofs.Wiring.Known.{ids_ascend, map_known, known, unknown, has_none, has_fewer, interval_new, base_new}
+use Rattle.slave_device.proofs.Wires.Ascending.{by_test, put_there, put_new, map_set, map_insert, map_absent, row_at}
+use Rattle.slave_device.proofs.Wires.Known.{ids_ascend, map_known, known, unknown, has_none, has_fewer, interval_new, base_new}
 
 -- refusals of an entry
 pub full : (d : SlaveDesc) (changes : List Change) (id position vr : ℕ) → has_id output id changes ≡ false → 17 ≤ length (ids output changes) → refusal_of_setting d changes (cfg.Output id position vr) ≡ Some NotSupported

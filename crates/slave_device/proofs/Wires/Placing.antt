@@ -13,9 +13,9 @@ use Rattle.slave_desc.specs.declared.descriptions.SlaveDesc.{SlaveDesc}
 use Rattle.slave_spec.specs.Changes.{Change, Set, input, entries}
 use Rattle.slave_spec.specs.Refusals.{port_with, is_wired}
 use Rattle.slave_spec.specs.Payloads.{Kept, Spot, port_type, input_types, spot, cut_values, value_kept}
-use Rattle.slave_device.specs.Wiring.Receiving.{segment_of, segment_value, IsPlaced}
+use Rattle.slave_device.specs.Wires.Receiving.{segment_of, segment_value, IsPlaced}
 use Rattle.slave_device.specs.declared.tables.Segment.{Segment}
-use Rattle.slave_device.proofs.Wiring.Ascending.{by_test}
+use Rattle.slave_device.proofs.Wires.Ascending.{by_test}
 
 -- the types of an id, after an entry of some id
 pub types_own : (d : SlaveDesc) (changes : List Change) (id position vr : ℕ) (source : DataType) (y : ℕ) → (id == y) ≡ true → input_types d y (Set (cfg.Input id position vr source) ∷ changes) ≡ input_types d y changes ++ port_type (port_with vr d.inputs) ∷ []

@@ -13,15 +13,15 @@ use Rattle.slave_spec.specs.Changes.{Change, Set, input, output, has_id, ids, so
 use Rattle.slave_spec.specs.Refusals.{refusal_of_setting, refused_unless, is_transport}
 use Rattle.slave_spec.specs.Payloads as payloads
 use Rattle.slave_spec.specs.Payloads.{WiringState, ready, is_here, kept_under}
-use Rattle.slave_device.specs.Wiring.Sending.{output_row, AreOutputs}
-use Rattle.slave_device.specs.Wiring.Receiving.{input_row, AreInputs, is_kept_for}
-use Rattle.slave_device.specs.Wiring.Standing.{WiringFor}
+use Rattle.slave_device.specs.Wires.Sending.{output_row, AreOutputs}
+use Rattle.slave_device.specs.Wires.Receiving.{input_row, AreInputs, is_kept_for}
+use Rattle.slave_device.specs.Wires.Standing.{WiringFor}
 use Rattle.slave_device.specs.declared.tables.InputRow.{InputRow}
 use Rattle.slave_device.specs.declared.tables.OutputRow.{OutputRow}
 use Rattle.slave_device.specs.declared.tables.Outputs.{Outputs}
 use Rattle.slave_device.specs.declared.wirings.Wiring.{Wiring}
-use Rattle.slave_device.proofs.Wiring.Receiving.{not_resolution}
-use Rattle.slave_device.proofs.Wiring.Taking.{kept_same}
+use Rattle.slave_device.proofs.Wires.Receiving.{not_resolution}
+use Rattle.slave_device.proofs.Wires.Taking.{kept_same}
 
 pub match_both : {T E : Type 0} {P P' : T → Type 0} {Q Q' : E → Type 0} (r : Result T E) → ((v : T) → P v → P' v) → ((e : E) → Q e → Q' e) → MatchResult r P Q → MatchResult r P' Q'
 match_both (Ok v) f g m = f v m
