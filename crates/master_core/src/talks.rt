@@ -51,15 +51,14 @@ fn send_due(conversation: &mut Conversation, to: Address, out: &mut MasterOutbox
     conversation.clear_due();
 }
 
-/// The room with the payload at its front, where there is one.
-fn with_taken(mut room: [u8; 64], taken: Option<&[u8]>) -> [u8; 64]
+/// Puts the payload to the front of the room, where there is one.
+fn put_taken(room: &mut [u8; 64], taken: Option<&[u8]>)
     requires { IfSome taken (λ payload. length payload.now ≤ 64) }
-    ensures { MatchOption taken.entry (result ≡ room) (λ payload. take (length payload.now) result ≡ payload.now) }
+    ensures { MatchOption taken.entry (room.new ≡ room.old) (λ payload. take (length payload.now) room.new ≡ payload.now) }
 {
     if let Some(payload) = taken {
         room[..payload.len()].copy_from_slice(payload);
     }
-    room
 }
 
 impl Talk {
@@ -115,7 +114,7 @@ impl Talk {
         let size = payload_size(self.slave.types.as_slice());
         let list = schedule.list(&self.slave.script);
         let taken = hear(&mut self.conversation, size, list, bytes);
-        self.outputs = with_taken(self.outputs, taken);
+        put_taken(&mut self.outputs, taken);
         send_due(&mut self.conversation, self.slave.address, out);
     }
 

@@ -30,6 +30,8 @@ pub struct Device<W: Wired> {
     pub(crate) fault: Option<FaultCode>,
     pub(crate) wiring: W,
     pub(crate) log: SlaveLog,
+    /// Where the data messages are spelled: made once, since a room for each would be cleared each time.
+    pub(crate) room: Box<[u8; 1024]>,
 }
 
 /// The types of a slave's outputs, by port.
@@ -75,6 +77,7 @@ impl<W: Wired> Device<W> {
         ensures setup { IfOk result (λ d. d.works.setup ≡ setup) }
     {
         let log = SlaveLog::new(alloc)?;
+        let room = Box::new(alloc, [0; 1024])?;
         Ok(Device {
             works: Works { setup, model },
             state: State::Alive,
@@ -84,6 +87,7 @@ impl<W: Wired> Device<W> {
             fault: None,
             wiring,
             log,
+            room,
         })
     }
 

@@ -2,7 +2,9 @@
 
 ghost use Rattle.std.specs.Prelude.{ℕ, ◌≡◌, ◌<◌, ◌≤◌, ◌+◌, ◌++◌, ◌∷◌, [], map, length, take, true, false, slice_get, Some, MatchResult};
 ghost use Rattle.fixed_models.specs.Steps.{all_fit};
+ghost use Rattle.slave_desc.specs.declared.descriptions.SlaveDesc.{SlaveDesc};
 ghost use Rattle.slave_spec.specs.Changes.{output, ids};
+ghost use Rattle.slave_spec.specs.Payloads.{WiringState};
 ghost use Rattle.slave_spec.specs.Payloads as payloads;
 ghost use Rattle.slave_spec.specs.Transport.{parcel_send};
 ghost use Rattle.slave_spec.specs.Plants.{Plant};
@@ -15,6 +17,47 @@ use crate::devices::Device;
 use dcp_types::{FaultCode, State};
 use slave_core::SlaveOutbox;
 use slave_spec::Wired;
+
+/// Puts the data message of an output id, by its place among them, where it is due after so many steps. It is
+/// spelled in the room.
+fn send_one<W: Wired>(
+    wiring: &W,
+    target: usize,
+    steps: u32,
+    values: &[i128],
+    room: &mut [u8; 1024],
+    out: &mut SlaveOutbox,
+)
+    requires room { length out.old < 21 }
+    ensures out { (d : SlaveDesc) (x : WiringState) → W.stands wiring.now d x → (id : ℕ) → slice_get (ids output x.changes) target ≡ Some id
+        → payloads.values_fit_ports d.outputs values.now ≡ true
+        → out.new ≡ out.old ++ data_sends d x.changes steps values.now (id ∷ []) }
+    ensures few { length out.new ≤ length out.old + 1 }
+{
+    if wiring.is_due(target, steps) {
+        if let Some((to, length)) = wiring.build(target, steps, values, room) {
+            out.put_bytes(to, &room[..length]);
+        }
+    }
+}
+
+/// Puts the data messages that are due after so many steps, of these outputs.
+fn send_values<W: Wired>(
+    wiring: &W,
+    steps: u32,
+    values: &[i128],
+    room: &mut [u8; 1024],
+    out: &mut SlaveOutbox,
+)
+    requires { out.old ≡ [] }
+    ensures out { (d : SlaveDesc) (x : WiringState) → W.stands wiring.now d x → payloads.values_fit_ports d.outputs values.now ≡ true
+        → out.new ≡ map parcel_send (data_parcels d x.changes steps values.now) }
+    ensures few { length out.new ≤ 17 }
+{
+    for target in 0..wiring.targets() {
+        send_one(wiring, target, steps, values, room, out);
+    }
+}
 
 impl<W: Wired> Device<W> {
     /// The outputs, where each lies in its type.
@@ -33,52 +76,33 @@ impl<W: Wired> Device<W> {
         Ok(count)
     }
 
-    /// Puts the data message of an output id, by its place among them, where it is due.
-    fn send_one(&self, target: usize, values: &[i128], out: &mut SlaveOutbox)
-        requires room { length out.old < 21 }
-        ensures out { (p : Plant) → DeviceFor W.stands self.now p → (id : ℕ) → slice_get (ids output p.wires.changes) target ≡ Some id
-            → payloads.values_fit_ports self.now.works.setup.desc.outputs values.now ≡ true
-            → out.new ≡ out.old ++ data_sends self.now.works.setup.desc p.wires.changes p.steps values.now (id ∷ []) }
-        ensures few { length out.new ≤ length out.old + 1 }
-    {
-        if self.wiring.is_due(target, self.steps) {
-            let mut room = [0; 1024];
-            if let Some((to, length)) = self.wiring.build(target, self.steps, values, &mut room) {
-                out.put_bytes(to, &room[..length]);
-            }
-        }
-    }
-
-    /// Puts the data messages that are due, of these outputs.
-    fn send_values(&self, values: &[i128], out: &mut SlaveOutbox)
-        requires out { out.old ≡ [] }
-        requires fit { payloads.values_fit_ports self.now.works.setup.desc.outputs values.now ≡ true }
-        ensures out { (p : Plant) → DeviceFor W.stands self.now p
-            → out.new ≡ map parcel_send (data_parcels self.now.works.setup.desc p.wires.changes p.steps values.now) }
-        ensures few { length out.new ≤ 17 }
-    {
-        for target in 0..self.wiring.targets() {
-            self.send_one(target, values, out);
-        }
-    }
-
     /// Puts the data messages that are due, where the outputs lie in their types.
-    fn send_data(&self, out: &mut SlaveOutbox)
+    fn send_data(&mut self, out: &mut SlaveOutbox)
         requires { out.old ≡ [] }
-        ensures out { (p : Plant) → DeviceFor W.stands self.now p → all_fit p.model.types (values p.model) ≡ true
-            → out.new ≡ map parcel_send (data_parcels self.now.works.setup.desc p.wires.changes p.steps (values p.model)) }
+        ensures out { (p : Plant) → DeviceFor W.stands self.old p → all_fit p.model.types (values p.model) ≡ true
+            → out.new ≡ map parcel_send (data_parcels self.old.works.setup.desc p.wires.changes p.steps (values p.model)) }
+        ensures stands { (p : Plant) → DeviceFor W.stands self.old p → DeviceFor W.stands self.new p }
+        ensures setup { self.new.works.setup ≡ self.old.works.setup }
         ensures few { length out.new ≤ 17 }
     {
         let mut values = [0; 8];
         if let Ok(count) = self.outputs(&mut values) {
-            self.send_values(&values[..count], out);
+            send_values(
+                &self.wiring,
+                self.steps,
+                &values[..count],
+                &mut self.room,
+                out,
+            );
         }
     }
 
     /// Puts the data messages of a sending state.
-    pub(crate) fn send_outputs(&self, out: &mut SlaveOutbox)
+    pub(crate) fn send_outputs(&mut self, out: &mut SlaveOutbox)
         requires { out.old ≡ [] }
-        ensures out { (p : Plant) → DeviceFor W.stands self.now p → IsSoundPlant p → out.new ≡ map parcel_send (parcels self.now.works.setup p) }
+        ensures out { (p : Plant) → DeviceFor W.stands self.old p → IsSoundPlant p → out.new ≡ map parcel_send (parcels self.old.works.setup p) }
+        ensures stands { (p : Plant) → DeviceFor W.stands self.old p → DeviceFor W.stands self.new p }
+        ensures setup { self.new.works.setup ≡ self.old.works.setup }
         ensures few { length out.new ≤ 17 }
     {
         match self.state {
