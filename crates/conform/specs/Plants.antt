@@ -5,7 +5,7 @@ use Rattle.dcp_types.specs.declared.fault_codes.FaultCode.{FaultCode}
 use Rattle.dcp_types.specs.declared.fault_codes.FaultCode.TheVariants.{ModelOverflow, DivideByZero, OutOfRange}
 use Rattle.slave_desc.specs.declared.descriptions.SlaveDesc.{SlaveDesc}
 use Rattle.slave_spec.specs.Transport.{SlaveAnswer, Ack, Nack}
-use Rattle.slave_device.specs.Wiring.Standing.{WiringFor}
+use Rattle.slave_device.specs.Wires.Standing.{WiringFor}
 use Rattle.pdu_layout.specs.declared.messages.Cfg.{Cfg}
 use Rattle.pdu_layout.specs.declared.messages.Cfg.TheVariants as cfg
 use Rattle.slave_spec.specs.declared.words.Asked.TheVariants as asks

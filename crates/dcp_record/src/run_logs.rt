@@ -3,6 +3,7 @@
 ghost use Rattle.std.specs.Prelude.{◌≡◌, ◌≤◌, ◌+◌, List, [], ◌∷◌, ◌++◌, All, length, vec_len, vec_capacity, OnOk};
 ghost use Rattle.std.specs.Int.{to_le_bytes, w16};
 ghost use Rattle.dcp_ends.specs.declared.entries.LogEntry.TheVariants.{Sent, Got, Idle, Turn};
+ghost use Rattle.dcp_record.specs.Places.{gots_in};
 ghost use Rattle.dcp_record.specs.Traces.{IsRecordable, address_bytes, payload_bytes, all_entry_bytes};
 
 use crate::entry_refs::EntryRef;
@@ -20,19 +21,19 @@ const LONGEST: usize = 1_040;
 #[derive(Drop)]
 pub struct RunLog {
     bytes: Vec<u8>,
+    gots: u64,
     told: ToldLog,
 }
 
 impl Model for RunLog {
     ghost use Rattle.std.specs.Prelude.{◌-◌, vec_len, vec_capacity};
-    ghost use Rattle.dcp_record.specs.Cuts.{AreEntries};
-    ghost use Rattle.dcp_record.specs.Places.{LogSoFar};
+    ghost use Rattle.dcp_record.specs.Places.{IsRunLog, LogSoFar};
 
     ghost Value = { LogSoFar };
 
     ghost view = { λ l. record { entries = l.told.entries; room = vec_capacity l.bytes - vec_len l.bytes } };
 
-    ghost invariant = { λ l. AreEntries l.bytes.items l.told.entries };
+    ghost invariant = { λ l. IsRunLog l.bytes.items l.gots l.told.entries };
 }
 
 impl RunLog {
@@ -42,6 +43,7 @@ impl RunLog {
     {
         RunLog {
             bytes: Vec::new(alloc),
+            gots: 0,
             told: ToldLog::new(),
         }
     }
@@ -75,6 +77,7 @@ impl RunLog {
         ensures { self.new.entries ≡ self.old.entries ++ Got at from bytes.now ∷ [] }
     {
         append_exchange(&mut self.bytes, 2, at, from, bytes);
+        self.gots += 1;
         self.told = self.told.then(&EntryRef::Got { at, from, bytes });
     }
 
@@ -96,6 +99,13 @@ impl RunLog {
     {
         append(&mut self.bytes, &place_head(4, at));
         self.told = self.told.then(&EntryRef::Turn { at });
+    }
+
+    /// How many datagrams were got.
+    pub fn gots(&self) -> u64
+        ensures { result ≡ gots_in self.now.entries }
+    {
+        self.gots
     }
 
     /// The place before the first entry.

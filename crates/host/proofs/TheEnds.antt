@@ -8,7 +8,7 @@ use Rattle.slave_core.specs.Core.{CoreStandsFor}
 use Rattle.slave_device.specs.declared.devices.Device.{Device}
 use Rattle.slave_device.specs.Devices.{DeviceFor}
 use Rattle.slave_device.specs.declared.wirings.Wiring.{Wiring}
-use Rattle.slave_device.specs.Wiring.Standing.{WiringFor}
+use Rattle.slave_device.specs.Wires.Standing.{WiringFor}
 
 abbrev pub slave_setup_in : SlaveCore (Device Wiring) → SlaveSetup
 slave_setup_in s = s.inner.works.setup

@@ -11,8 +11,8 @@ use crate::hosted::{Hosted, Progress};
 use crate::making::{MasterSeat, SlaveSeat, seated_master, seated_slaves};
 use crate::openings::opening_for;
 use crate::running::run;
-use dcp_ends::LogEntry;
 use dcp_net::{Done, Net, Opening};
+use dcp_record::RunLog;
 use dcp_types::OutOfMemory;
 use rounds::{HostFault, Room, Seat};
 use scenario::Scenario;
@@ -27,7 +27,6 @@ use std::marker::Model;
 /// Contracts see the scenario, which ends are hosted, the log, and the fault.
 #[derive(Drop)]
 pub struct Host {
-    pub(crate) alloc: Global,
     pub(crate) scenario: Scenario,
     pub(crate) hosted: Hosted,
     /// What the network is opened with.
@@ -35,7 +34,7 @@ pub struct Host {
     pub(crate) master: Option<MasterSeat>,
     /// The hosted ones in order.
     pub(crate) slaves: Vec<SlaveSeat>,
-    pub(crate) log: Vec<LogEntry>,
+    pub(crate) log: RunLog,
     pub(crate) room: Room,
     pub(crate) fault: Option<HostFault>,
 }
@@ -48,11 +47,11 @@ impl Model for Host {
 
     ghost Value = { HostView };
 
-    ghost view = { λ h. record { scenario = h.scenario; hosted = h.hosted; log = h.log.items; fault = h.fault } };
+    ghost view = { λ h. record { scenario = h.scenario; hosted = h.hosted; log = h.log.entries; fault = h.fault } };
 
     ghost invariant = { λ h. (h.opening ≡ opening_of h.scenario h.hosted)
         × AreSound ⟦<MasterSeat as Seat>⟧ ⟦<SlaveSeat as Seat>⟧
-        (master_of h.scenario h.hosted) (slaves_of h.scenario h.hosted) (master_setup_of h.scenario h.hosted) (slave_setups_of h.scenario h.hosted) h.master h.slaves.items h.log.items h.fault };
+        (master_of h.scenario h.hosted) (slaves_of h.scenario h.hosted) (master_setup_of h.scenario h.hosted) (slave_setups_of h.scenario h.hosted) h.master h.slaves.items h.log.entries h.fault };
 }
 
 impl Host {
@@ -66,14 +65,13 @@ impl Host {
         let slaves = seated_slaves(alloc, &scenario, hosted)?;
         let opening = opening_for(alloc, &scenario, hosted)?;
         Ok(Host {
-            alloc,
             scenario,
             hosted,
             opening,
             master,
             slaves,
-            log: Vec::new(alloc),
-            room: Room::new(alloc),
+            log: RunLog::new(alloc),
+            room: Room::new(),
             fault: None,
         })
     }
@@ -118,7 +116,6 @@ impl Host {
             return Err(fault);
         }
         let result = run(
-            self.alloc,
             &mut self.master,
             &mut self.slaves,
             net,

@@ -12,7 +12,8 @@ ghost use Rattle.host.specs.Views.{master_in, report_in, row_count_in, slave_in,
 use crate::hosted::Hosted;
 use crate::hosts::Host;
 use crate::making::{MasterSeat, SlaveSeat};
-use dcp_ends::{End, LogEntry};
+use dcp_ends::End;
+use dcp_record::RunLog;
 use dcp_types::{FaultCode, State};
 use master_core::{MasterCore, Report};
 use rounds::{EndTask, HostFault, Seat};
@@ -57,8 +58,8 @@ impl Host {
 
     /// The log: it has the sends of each hosted end after each of its events, all but those that a fault
     /// cut off.
-    pub fn log(&self) -> &[LogEntry]
-        ensures log { result.now ≡ self.now.log }
+    pub fn log(&self) -> &RunLog
+        ensures log { result.now.entries ≡ self.now.log }
         ensures follows_master { self.now.fault ≡ None → IfSome (master_in self.now) (λ rules. Follows rules self.now.log) }
         ensures follows { self.now.fault ≡ None → All (λ rules. Follows rules self.now.log) (slaves_in self.now) }
         ensures cut_master { IfSome (master_in self.now) (λ rules. FollowsUpTo rules self.now.log) }

@@ -1,15 +1,16 @@
 //! Traces, byte for byte: one that is written, bytes that are read or refused, and a trace with each of its
 //! bytes damaged.
 
-ghost use Rattle.std.specs.Prelude.{◌≡◌, IfOk};
+ghost use Rattle.std.specs.Prelude.{◌≡◌, [], ◌∷◌, ◌++◌, All, IfOk, OnOk};
+ghost use Rattle.dcp_ends.specs.Logs.{IsInRange};
 ghost use Rattle.dcp_record.specs.EntryRefs.{entry_told};
-ghost use Rattle.dcp_record.specs.Traces.{IsTrace};
+ghost use Rattle.dcp_record.specs.Traces.{IsRecordable, IsTrace};
 
-use dcp_ends::{Bytes, LogEntry};
+use dcp_ends::LogEntry;
 use dcp_io::MemorySink;
 use dcp_record::{
-    Entries, EntryRef, SinkFault, Trace, read_record, traces_read_or_are_refused, write_record,
-    written_and_read_back,
+    Entries, EntryRef, RunLog, SinkFault, Trace, read_record, traces_read_or_are_refused,
+    write_record, written_and_read_back,
 };
 use dcp_types::Address;
 use std::alloc::{AllocError, Global};
@@ -95,37 +96,32 @@ reads 52:TAG reads 52:TAG
 57:SHORT reads reads reads
 58:SHORT reads reads reads";
 
-/// The same entry, in memory of its own.
-fn owned(alloc: Global, entry: &EntryRef<'_>) -> Result<LogEntry, AllocError>
-    ensures { IfOk result (λ own. own ≡ entry_told entry.now) }
+/// Puts an entry behind a log.
+fn put(log: &mut RunLog, entry: &EntryRef<'_>) -> Result<(), AllocError>
+    requires { IsInRange (entry_told entry.now) }
+    ensures { OnOk result (log.new.entries ≡ log.old.entries ++ entry_told entry.now ∷ []) }
 {
-    let own = match entry {
-        EntryRef::Sent { from, to, bytes } => LogEntry::Sent {
-            from: *from,
-            to: *to,
-            bytes: Bytes::copied(alloc, bytes)?,
-        },
-        EntryRef::Got { at, from, bytes } => LogEntry::Got {
-            at: *at,
-            from: *from,
-            bytes: Bytes::copied(alloc, bytes)?,
-        },
-        EntryRef::Idle { at } => LogEntry::Idle { at: *at },
-        EntryRef::Turn { at } => LogEntry::Turn { at: *at },
-    };
-    Ok(own)
+    log.make_room()?;
+    match entry {
+        EntryRef::Sent { from, to, bytes } => log.push_sent(*from, *to, bytes),
+        EntryRef::Got { at, from, bytes } => log.push_got(*at, *from, bytes),
+        EntryRef::Idle { at } => log.push_idle(*at),
+        EntryRef::Turn { at } => log.push_turn(*at),
+    }
+    Ok(())
 }
 
-/// The same entries, in memory of their own.
-fn all_owned(alloc: Global, entries: &Entries<'_>) -> Result<Vec<LogEntry>, AllocError>
-    ensures { IfOk result (λ all. all.items ≡ entries.now) }
+/// The same log, in memory of its own.
+fn log_again(alloc: Global, entries: &Entries<'_>) -> Result<RunLog, AllocError>
+    requires { All IsRecordable entries.now }
+    ensures { IfOk result (λ log. log.entries ≡ entries.now) }
 {
-    let mut all = Vec::new(alloc);
+    let mut log = RunLog::new(alloc);
     let mut cursor = entries.cursor();
     'entries: while let Some(entry) = cursor.next() {
-        all.push(owned(alloc, &entry)?)?;
+        put(&mut log, &entry)?;
     }
-    Ok(all)
+    Ok(log)
 }
 
 /// Whether the trace is written as these bytes.
@@ -133,8 +129,8 @@ fn is_written(alloc: Global, trace: &Trace<'_>, bytes: &[u8]) -> Result<bool, Fa
     requires { IsTrace bytes.now trace.now.hosted trace.now.scenario.now trace.now.entries }
 {
     let mut sink = MemorySink::new([0; 64].to_vec(alloc)?, Vec::new(alloc));
-    let entries = all_owned(alloc, &trace.entries)?;
-    let written = write_record(trace.hosted, trace.scenario, &entries, &mut sink);
+    let log = log_again(alloc, &trace.entries)?;
+    let written = write_record(trace.hosted, trace.scenario, &log, &mut sink);
     Ok(written.is_ok() && sink.written() == bytes)
 }
 
@@ -164,25 +160,19 @@ fn a_trace_of_two_entries(rt: HostRuntime) -> Result<(), Fail> {
         ip: 0x7f00_0001,
         port: 9000,
     };
-    let entries = [
-        LogEntry::Idle { at },
-        LogEntry::Got {
-            at,
-            from: at,
-            bytes: Bytes::short(b"x"),
-        },
-    ];
+    let mut log = RunLog::new(alloc);
+    log.make_room()?;
+    log.push_idle(at);
+    log.make_room()?;
+    log.push_got(at, at, b"x");
     let wanted =
         b"DCPR\x01\x03\0\0\0\x02\0\0\0ab\x03\x01\0\0\x7f\x28\x23\x02\x01\0\0\x7f\x28\x23\x01\0\0\x7f\x28\x23\x01\0x";
     let mut sink = MemorySink::new([0; 64].to_vec(alloc)?, Vec::new(alloc));
-    assert_eq!(rt;
-        write_record(3, b"ab", entries.as_slice(), &mut sink),
-        Ok(())
-    );
+    assert_eq!(rt; write_record(3, b"ab", &log, &mut sink), Ok(()));
     assert!(rt; sink.written() == wanted.as_slice());
     let mut short = MemorySink::new([0; 5].to_vec(alloc)?, Vec::new(alloc));
     assert_eq!(rt;
-        write_record(3, b"ab", entries.as_slice(), &mut short),
+        write_record(3, b"ab", &log, &mut short),
         Err(SinkFault::Failed)
     );
     assert!(rt; short.written() == &wanted[..5]);
@@ -198,8 +188,11 @@ fn an_entry_reads_back(rt: HostRuntime) -> Result<(), Fail> {
         port: 9000,
     };
     let entries = [LogEntry::Turn { at }];
+    let mut log = RunLog::new(alloc);
+    log.make_room()?;
+    log.push_turn(at);
     let mut sink = MemorySink::new([0; 64].to_vec(alloc)?, Vec::new(alloc));
-    if write_record(1, b"ab", entries.as_slice(), &mut sink).is_err() {
+    if write_record(1, b"ab", &log, &mut sink).is_err() {
         return Err(Fail::new("the trace is not written"));
     }
     let back = written_and_read_back(1, b"ab", entries.as_slice(), sink.written());

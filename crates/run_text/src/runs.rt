@@ -1,10 +1,9 @@
 //! What a run leaves for its two sinks.
 
-ghost use Rattle.std.specs.Prelude.{◌≡◌, ◌<◌, ◌^◌, All, List, length, reverse};
+ghost use Rattle.std.specs.Prelude.{◌≡◌, ◌<◌, ◌^◌, List, length, reverse};
 ghost use Rattle.dcp_ends.specs.Events.{Event};
 ghost use Rattle.scenario.specs.Sound.{IsScenario};
 ghost use Rattle.dcp_io.specs.Outputs.{Delivers};
-ghost use Rattle.dcp_ends.specs.Logs.{IsInRange};
 ghost use Rattle.dcp_record.specs.Traces.{trace_bytes};
 ghost use Rattle.master_core.specs.Standing.{StandsAfter, core_setup};
 ghost use Rattle.run_text.specs.Runs.{DeliversBoth, all_bits, text_after};
@@ -12,8 +11,8 @@ ghost use Rattle.run_text.specs.Runs.{DeliversBoth, all_bits, text_after};
 use crate::put_report_line;
 use crate::rows::put_rows;
 use crate::traces::write_trace;
-use dcp_ends::LogEntry;
 use dcp_io::{Delivery, Sink, Spool};
+use dcp_record::RunLog;
 use master_core::{MasterCore, Report};
 use scenario::Scenario;
 
@@ -26,14 +25,13 @@ pub fn write_run<K: Sink, R: Sink>(
     master: &MasterCore,
     report: Report,
     input: &[u8],
-    log: &[LogEntry],
+    log: &RunLog,
 ) -> Delivery
     requires scenario { IsScenario scenario.now }
     requires input { length input.now < 2 ^ 32 }
-    requires log { All IsInRange log.now }
     ensures { (events : List Event) → StandsAfter master.now events → DeliversBoth (K.written out.old) (K.written out.new) (K.faults out.old) (K.faults out.new)
         (R.written trace.old) (R.written trace.new) (R.faults trace.old) (R.faults trace.new)
-        (text_after scenario.now (core_setup master.now) (reverse events) report) (trace_bytes (all_bits (length scenario.now.slaves)) input.now log.now) result }
+        (text_after scenario.now (core_setup master.now) (reverse events) report) (trace_bytes (all_bits (length scenario.now.slaves)) input.now log.now.entries) result }
 {
     match write_report(out, scenario, master, report) {
         Delivery::Whole => write_trace(trace, scenario, input, log),

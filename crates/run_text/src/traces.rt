@@ -1,15 +1,13 @@
 //! The trace of a run of all ends.
 
-ghost use Rattle.std.specs.Prelude.{◌≡◌, ◌≤◌, ◌<◌, ◌^◌, All, length};
+ghost use Rattle.std.specs.Prelude.{◌≡◌, ◌≤◌, ◌<◌, ◌^◌, length};
 ghost use Rattle.scenario.specs.Sound.{IsScenario};
 ghost use Rattle.dcp_io.specs.Outputs.{Delivers};
-ghost use Rattle.dcp_ends.specs.Logs.{IsInRange};
 ghost use Rattle.dcp_record.specs.Traces.{trace_bytes};
 ghost use Rattle.run_text.specs.Runs.{all_bits};
 
-use dcp_ends::LogEntry;
 use dcp_io::{Delivery, Sink};
-use dcp_record::write_record;
+use dcp_record::{RunLog, write_record};
 use scenario::Scenario;
 
 /// All ends of a scenario of so many slaves as bits: bit 0 for the master, and bit s for slave s.
@@ -26,12 +24,11 @@ pub(crate) fn write_trace<R: Sink>(
     trace: &mut R,
     scenario: &Scenario,
     input: &[u8],
-    log: &[LogEntry],
+    log: &RunLog,
 ) -> Delivery
     requires scenario { IsScenario scenario.now }
     requires input { length input.now < 2 ^ 32 }
-    requires log { All IsInRange log.now }
-    ensures { Delivers (R.written trace.old) (R.written trace.new) (R.faults trace.old) (R.faults trace.new) (trace_bytes (all_bits (length scenario.now.slaves)) input.now log.now) result }
+    ensures { Delivers (R.written trace.old) (R.written trace.new) (R.faults trace.old) (R.faults trace.new) (trace_bytes (all_bits (length scenario.now.slaves)) input.now log.now.entries) result }
 {
     let hosted = bits_of(scenario.slaves.as_slice().len());
     match write_record(hosted, input, log, trace) {

@@ -1,4 +1,4 @@
-pub mod Wiring
+pub mod Wires
 pub mod Devices
 pub mod Made
 pub mod Sending

@@ -2,7 +2,7 @@
 
 ghost use Rattle.std.specs.Prelude.{◌≡◌, ◌≤◌, ◌<◌, ◌+◌, [], length, slice_index, IfOk};
 ghost use Rattle.std.specs.List.{insert};
-ghost use Rattle.slave_device.specs.Wiring.Ids.{IsFound};
+ghost use Rattle.slave_device.specs.Wires.Ids.{IsFound};
 
 use dcp_types::OutOfMemory;
 use std::alloc::Global;

@@ -11,9 +11,9 @@ ghost use Rattle.slave_spec.specs.Changes.{input, ids, has_id};
 ghost use Rattle.slave_spec.specs.Refusals.{refusal_of_setting, is_transport};
 ghost use Rattle.slave_spec.specs.Payloads.{WiringState, bare_wires, set, brought, is_wanted, wired_values, restarted};
 ghost use Rattle.pdu_layout.specs.declared.messages.Cfg.TheVariants as cfg;
-ghost use Rattle.slave_device.specs.Wiring.Ids.{IsThere, IsPlaceFor};
-ghost use Rattle.slave_device.specs.Wiring.Ports.{IsPort};
-ghost use Rattle.slave_device.specs.Wiring.Receiving.{AreInputs, is_kept_for};
+ghost use Rattle.slave_device.specs.Wires.Ids.{IsThere, IsPlaceFor};
+ghost use Rattle.slave_device.specs.Wires.Ports.{IsPort};
+ghost use Rattle.slave_device.specs.Wires.Receiving.{AreInputs, is_kept_for};
 
 use crate::addresses::address_of;
 use crate::data_ids::DataIds;

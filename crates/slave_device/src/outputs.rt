@@ -7,8 +7,8 @@ ghost use Rattle.slave_spec.specs.Changes.{Change, Set, Restart, output, ids, ha
 ghost use Rattle.slave_spec.specs.Refusals.{refusal_of_setting, is_transport};
 ghost use Rattle.slave_spec.specs.Payloads.{IsBuilt};
 ghost use Rattle.pdu_layout.specs.declared.messages.Cfg.TheVariants as cfg;
-ghost use Rattle.slave_device.specs.Wiring.Ids.{IsThere, IsPlaceFor};
-ghost use Rattle.slave_device.specs.Wiring.Sending.{AreOutputs};
+ghost use Rattle.slave_device.specs.Wires.Ids.{IsThere, IsPlaceFor};
+ghost use Rattle.slave_device.specs.Wires.Sending.{AreOutputs};
 
 use crate::addresses::address_of;
 use crate::data_ids::{DataIds, IDS};

@@ -5,7 +5,7 @@ ghost use Rattle.std.specs.List.{flat_map};
 ghost use Rattle.dcp_types.specs.Values.{width, fits};
 ghost use Rattle.pdu_layout.specs.Reading.{spelling};
 ghost use Rattle.slave_spec.specs.Payloads.{data_message};
-ghost use Rattle.slave_device.specs.Wiring.Payloads.{value_for, place_bytes};
+ghost use Rattle.slave_device.specs.Wires.Payloads.{value_for, place_bytes};
 
 use crate::places::{POSITIONS, PortPlace};
 use dcp_types::{fits, put_value};

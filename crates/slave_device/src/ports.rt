@@ -2,7 +2,7 @@
 
 ghost use Rattle.std.specs.Prelude.{◌≡◌, MatchOption, None};
 ghost use Rattle.slave_spec.specs.Refusals.{port_with};
-ghost use Rattle.slave_device.specs.Wiring.Ports.{IsPort};
+ghost use Rattle.slave_device.specs.Wires.Ports.{IsPort};
 
 use crate::places::PortPlace;
 use slave_desc::Port;

@@ -3,7 +3,7 @@
 ghost use Rattle.std.specs.Prelude.{◌≡◌, ◌+◌, ◌≤◌, ◌<◌, ◌/◌, ℕ, ℤ, Option, None, length, slice_index_or, All};
 ghost use Rattle.fixed_models.specs.Domains.{IsInput};
 ghost use Rattle.slave_device.specs.declared.tables.Segment.{Segment};
-ghost use Rattle.slave_device.specs.Wiring.Receiving.{segment_value, input_after, is_kept_for, wants};
+ghost use Rattle.slave_device.specs.Wires.Receiving.{segment_value, input_after, is_kept_for, wants};
 
 use crate::addresses::is_from;
 use crate::numbers::{in_run, number_after};

@@ -8,7 +8,7 @@ ghost use Rattle.slave_spec.specs.Changes.{input, output, ids, has_id, is_due, c
 ghost use Rattle.slave_spec.specs.Refusals.{refusal_of_setting};
 ghost use Rattle.slave_spec.specs.Payloads.{WiringState, bare_wires, set, ready};
 ghost use Rattle.pdu_layout.specs.declared.messages.Cfg.TheVariants as cfg;
-ghost use Rattle.slave_device.specs.Wiring.Standing.{WiringFor};
+ghost use Rattle.slave_device.specs.Wires.Standing.{WiringFor};
 
 use crate::addresses::is_transport;
 use crate::tables::{Inputs, Outputs};
@@ -171,7 +171,7 @@ impl Wiring {
 impl Wired for Wiring {
     ghost use Rattle.slave_desc.specs.declared.descriptions.SlaveDesc.{SlaveDesc};
     ghost use Rattle.slave_spec.specs.Payloads.{WiringState};
-    ghost use Rattle.slave_device.specs.Wiring.Standing.{WiringFor};
+    ghost use Rattle.slave_device.specs.Wires.Standing.{WiringFor};
 
     ghost stands = { λ w d x. WiringFor w d x };
 

@@ -1,10 +1,9 @@
 //! What a command over sockets answers to a text, and the writing of it.
 
-ghost use Rattle.std.specs.Prelude.{◌≡◌, ◌≤◌, All, List, ℕ, length, true};
+ghost use Rattle.std.specs.Prelude.{◌≡◌, ◌≤◌, List, ℕ, length, true};
 ghost use Rattle.dcp_io.specs.Outputs.{Delivers};
 ghost use Rattle.commands.specs.SaysRun.{run_text};
 ghost use Rattle.commands.specs.Statuses.{ComesBeforeWriting, ComesWithoutNet};
-ghost use Rattle.dcp_ends.specs.Logs.{IsInRange};
 ghost use Rattle.dcp_record.specs.Traces.{trace_bytes};
 ghost use Rattle.run_text.specs.Runs.{DeliversBoth};
 ghost use Rattle.scenario.specs.Sound.{IsScenario};
@@ -14,9 +13,8 @@ ghost use Rattle.socket_commands.specs.Parts.{IsPart, bits_in};
 
 use crate::parts::Part;
 use commands::{Judgement, Statement, Status, write_text};
-use dcp_ends::LogEntry;
 use dcp_io::{Delivery, Sink, write_all};
-use dcp_record::write_record;
+use dcp_record::{RunLog, write_record};
 use host::Host;
 use master_spec::Report;
 use run_text::write_report;
@@ -80,13 +78,12 @@ fn write_trace<R: Sink>(
     part: Part,
     slaves: usize,
     input: &[u8],
-    log: &[LogEntry],
+    log: &RunLog,
 ) -> Delivery
     requires part { IsPart part }
     requires few { slaves ≤ 16 }
     requires short { length input.now ≤ 1048576 }
-    requires log { All IsInRange log.now }
-    ensures { Delivers (R.written trace.old) (R.written trace.new) (R.faults trace.old) (R.faults trace.new) (trace_bytes (bits_in part slaves) input.now log.now) result }
+    ensures { Delivers (R.written trace.old) (R.written trace.new) (R.faults trace.old) (R.faults trace.new) (trace_bytes (bits_in part slaves) input.now log.now.entries) result }
 {
     let hosted = part.bits(slaves);
     match write_record(hosted, input, log, trace) {
@@ -103,17 +100,16 @@ fn write_both<K: Sink, R: Sink>(
     run: &Run,
     slaves: usize,
     input: &[u8],
-    log: &[LogEntry],
+    log: &RunLog,
 ) -> Delivery
     requires sound { IsScenario run.now.host.scenario }
     requires master { HasMaster run.now.host run.now.ending }
     requires part { IsPart run.now.part }
     requires few { slaves ≤ 16 }
     requires short { length input.now ≤ 1048576 }
-    requires log { All IsInRange log.now }
     ensures { DeliversBoth (K.written out.old) (K.written out.new) (K.faults out.old) (K.faults out.new)
         (R.written trace.old) (R.written trace.new) (R.faults trace.old) (R.faults trace.new)
-        (ended_text run.now.host run.now.ending) (trace_bytes (bits_in run.now.part slaves) input.now log.now) result }
+        (ended_text run.now.host run.now.ending) (trace_bytes (bits_in run.now.part slaves) input.now log.now.entries) result }
 {
     match write_ending(out, run) {
         Delivery::Whole => write_trace(trace, run.part, slaves, input, log),

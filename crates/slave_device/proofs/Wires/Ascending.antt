@@ -5,7 +5,7 @@ use Rattle.std.specs.List.{insert}
 use Rattle.std.proofs.lemmas.Bool.Decides.{nat_tests}
 use Rattle.std.proofs.lemmas.List.{get_or-map}
 use Rattle.slave_spec.specs.Changes.{put_ascending, ascending}
-use Rattle.slave_device.specs.Wiring.Ids.{IsBehindSmaller, IsThere, IsPlaceFor}
+use Rattle.slave_device.specs.Wires.Ids.{IsBehindSmaller, IsThere, IsPlaceFor}
 
 pub by_test : {P : Type 0} → (b : Bool) → (b ≡ true → P) → (b ≡ false → P) → P
 by_test true f g = f refl

@@ -16,10 +16,10 @@ use Rattle.dcp_types.specs.declared.addresses.Address.{Address}
 use Rattle.slave_desc.specs.declared.descriptions.SlaveDesc.{SlaveDesc}
 use Rattle.slave_spec.specs.Changes.{Change, output, entries, ids, target, entry_interval, base, ordinal}
 use Rattle.slave_spec.specs.Payloads.{IsMessage, payload, data_message, values_fit_ports, output_value, bytes_for, port_type}
-use Rattle.slave_device.specs.Wiring.Ports.{port_index, place_with}
-use Rattle.slave_device.specs.Wiring.Payloads.{place_bytes}
+use Rattle.slave_device.specs.Wires.Ports.{port_index, place_with}
+use Rattle.slave_device.specs.Wires.Payloads.{place_bytes}
 use Rattle.slave_device.specs.declared.places.PortPlace.{PortPlace}
-use Rattle.slave_device.specs.Wiring.Sending.{output_row, AreOutputs}
+use Rattle.slave_device.specs.Wires.Sending.{output_row, AreOutputs}
 use Rattle.slave_device.specs.declared.tables.OutputRow.{OutputRow}
 use Rattle.slave_device.specs.declared.tables.Outputs.{Outputs}
 use Rattle.slave_device.proofs.Wires.Ascending.{by_test}

@@ -18,9 +18,9 @@ use Rattle.slave_spec.specs.Changes.{Change, Set, input, entries, has_id, ids, s
 use Rattle.slave_spec.specs.Refusals.{refusal_of_setting, port_with, is_wired, refused_unless}
 use Rattle.slave_spec.specs.Payloads as payloads
 use Rattle.slave_spec.specs.Payloads.{WiringState, Kept, Spot, port_type, input_types, spot, spot_value, input_value, wired_values, kept_under}
-use Rattle.slave_device.specs.Wiring.Ids.{IsThere, IsPlaceFor}
-use Rattle.slave_device.specs.Wiring.Ports.{IsPort, port_index}
-use Rattle.slave_device.specs.Wiring.Receiving.{kept_ordinal, input_row, segment_of, segment_for, IsPlaced, IsCoherent, AreInputs}
+use Rattle.slave_device.specs.Wires.Ids.{IsThere, IsPlaceFor}
+use Rattle.slave_device.specs.Wires.Ports.{IsPort, port_index}
+use Rattle.slave_device.specs.Wires.Receiving.{kept_ordinal, input_row, segment_of, segment_for, IsPlaced, IsCoherent, AreInputs}
 use Rattle.slave_device.specs.declared.places.PortPlace.{PortPlace}
 use Rattle.slave_device.specs.declared.tables.InputRow.{InputRow}
 use Rattle.slave_device.specs.declared.tables.Segment.{Segment}

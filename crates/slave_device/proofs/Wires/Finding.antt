@@ -5,7 +5,7 @@ use Rattle.std.specs.Prelude.{◌==◌}
 use Rattle.slave_desc.specs.declared.ports.Port.{Port}
 use Rattle.slave_spec.specs.Refusals.{port_with}
 use Rattle.slave_device.specs.declared.places.PortPlace.{PortPlace}
-use Rattle.slave_device.specs.Wiring.Ports.{port_index, IsPort}
+use Rattle.slave_device.specs.Wires.Ports.{port_index, IsPort}
 use Rattle.std.proofs.lemmas.List.{get_or_default}
 
 pub record IsFirst (vr : ℕ) (ports : List Port) (i : ℕ) (port : Port) : Type 0 where

@@ -4,7 +4,7 @@ use Rattle.std.specs.Prelude.{◌==◌, nat_lt, option_map}
 use Rattle.std.specs.List.{filter_map, cons_option}
 use Rattle.std.proofs.lemmas.Bool.Decides.{nat_tests}
 use Rattle.slave_spec.specs.Changes.{Change, Set, Restart, entry_interval, interval_given, base, set_or, Entry, Side, vr_for, entries, has_id, ids, ascending}
-use Rattle.slave_device.specs.Wiring.Ids.{IsThere, IsPlaceFor}
+use Rattle.slave_device.specs.Wires.Ids.{IsThere, IsPlaceFor}
 use Rattle.slave_device.proofs.Wires.Ascending.{by_test, Ascends, ascending_ascends, is_among, among_put, map_among, among_there, not_among}
 
 pub ids_ascend : (side : Side) (changes : List Change) → Ascends (ids side changes)

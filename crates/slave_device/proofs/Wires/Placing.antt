@@ -13,7 +13,7 @@ use Rattle.slave_desc.specs.declared.descriptions.SlaveDesc.{SlaveDesc}
 use Rattle.slave_spec.specs.Changes.{Change, Set, input, entries}
 use Rattle.slave_spec.specs.Refusals.{port_with, is_wired}
 use Rattle.slave_spec.specs.Payloads.{Kept, Spot, port_type, input_types, spot, cut_values, value_kept}
-use Rattle.slave_device.specs.Wiring.Receiving.{segment_of, segment_value, IsPlaced}
+use Rattle.slave_device.specs.Wires.Receiving.{segment_of, segment_value, IsPlaced}
 use Rattle.slave_device.specs.declared.tables.Segment.{Segment}
 use Rattle.slave_device.proofs.Wires.Ascending.{by_test}
 

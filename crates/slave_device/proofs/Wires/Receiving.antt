@@ -13,8 +13,8 @@ use Rattle.slave_spec.specs.Changes.{Change, Set, input, has_id, ids, source}
 use Rattle.slave_spec.specs.Refusals.{refusal_of_setting, refused_unless, is_transport}
 use Rattle.slave_spec.specs.Payloads as payloads
 use Rattle.slave_spec.specs.Payloads.{WiringState, Kept, Spot, bare_wires, brought, is_wanted, port_type, input_types, spot, spot_given, value_kept, spot_value, input_value, wired_values, kept_under, is_address, is_here, is_kept_of, restarted, cut_values}
-use Rattle.slave_device.specs.Wiring.Ids.{IsThere, IsPlaceFor, IsFound}
-use Rattle.slave_device.specs.Wiring.Receiving.{input_row, AreInputs}
+use Rattle.slave_device.specs.Wires.Ids.{IsThere, IsPlaceFor, IsFound}
+use Rattle.slave_device.specs.Wires.Receiving.{input_row, AreInputs}
 use Rattle.slave_device.specs.declared.tables.InputRow.{InputRow}
 use Rattle.slave_device.specs.declared.tables.Inputs.{Inputs}
 use Rattle.slave_device.proofs.Wires.Ascending.{by_test, map_set, map_absent, row_at}

@@ -14,9 +14,9 @@ use Rattle.slave_desc.specs.declared.descriptions.SlaveDesc.{SlaveDesc}
 use Rattle.slave_spec.specs.Changes.{Change, Set, Restart, output, entries, has_id, ids, target, entry_interval, base, put_ascending, vr_for}
 use Rattle.pdu_layout.specs.declared.messages.NetInfo.{NetInfo}
 use Rattle.slave_spec.specs.Refusals.{is_transport, refusal_of_setting, is_full, port_with, refused_unless}
-use Rattle.slave_device.specs.Wiring.Ids.{IsThere, IsPlaceFor, IsFound}
-use Rattle.slave_device.specs.Wiring.Ports.{IsPort, place_with}
-use Rattle.slave_device.specs.Wiring.Sending.{output_row, AreOutputs, row_restarted}
+use Rattle.slave_device.specs.Wires.Ids.{IsThere, IsPlaceFor, IsFound}
+use Rattle.slave_device.specs.Wires.Ports.{IsPort, place_with}
+use Rattle.slave_device.specs.Wires.Sending.{output_row, AreOutputs, row_restarted}
 use Rattle.slave_device.specs.declared.places.PortPlace.{PortPlace}
 use Rattle.slave_device.specs.declared.tables.OutputRow.{OutputRow}
 use Rattle.slave_device.specs.declared.tables.Outputs.{Outputs}

@@ -13,8 +13,8 @@ use Rattle.slave_spec.specs.Changes.{Change, Restart, input, has_id, ids, entry_
 use Rattle.slave_spec.specs.Refusals.{port_with}
 use Rattle.slave_spec.specs.Payloads as payloads
 use Rattle.slave_spec.specs.Payloads.{WiringState, Kept, Spot, brought, is_wanted, port_type, input_types, spot, spot_value, input_value, wired_values, kept_under, is_address, is_here, is_kept_of, restarted}
-use Rattle.slave_device.specs.Wiring.Ids.{IsThere, IsPlaceFor}
-use Rattle.slave_device.specs.Wiring.Receiving.{kept_ordinal, input_row, segment_for, input_after, IsCoherent, AreInputs, is_kept_for, wants, input_restarted}
+use Rattle.slave_device.specs.Wires.Ids.{IsThere, IsPlaceFor}
+use Rattle.slave_device.specs.Wires.Receiving.{kept_ordinal, input_row, segment_for, input_after, IsCoherent, AreInputs, is_kept_for, wants, input_restarted}
 use Rattle.slave_device.specs.declared.tables.InputRow.{InputRow}
 use Rattle.slave_device.specs.declared.tables.Segment.{Segment}
 use Rattle.slave_device.specs.declared.tables.Inputs.{Inputs}

@@ -13,9 +13,9 @@ use Rattle.slave_spec.specs.Changes.{Change, Set, input, output, has_id, ids, so
 use Rattle.slave_spec.specs.Refusals.{refusal_of_setting, refused_unless, is_transport}
 use Rattle.slave_spec.specs.Payloads as payloads
 use Rattle.slave_spec.specs.Payloads.{WiringState, ready, is_here, kept_under}
-use Rattle.slave_device.specs.Wiring.Sending.{output_row, AreOutputs}
-use Rattle.slave_device.specs.Wiring.Receiving.{input_row, AreInputs, is_kept_for}
-use Rattle.slave_device.specs.Wiring.Standing.{WiringFor}
+use Rattle.slave_device.specs.Wires.Sending.{output_row, AreOutputs}
+use Rattle.slave_device.specs.Wires.Receiving.{input_row, AreInputs, is_kept_for}
+use Rattle.slave_device.specs.Wires.Standing.{WiringFor}
 use Rattle.slave_device.specs.declared.tables.InputRow.{InputRow}
 use Rattle.slave_device.specs.declared.tables.OutputRow.{OutputRow}
 use Rattle.slave_device.specs.declared.tables.Outputs.{Outputs}

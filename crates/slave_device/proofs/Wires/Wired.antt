@@ -12,7 +12,7 @@ use Rattle.dcp_types.specs.declared.data_types.DataType.{DataType}
 use Rattle.dcp_types.specs.Values.{width, digits, residue, fits, value_bytes}
 use Rattle.dcp_types.proofs.Residues.{value_of, value_of-residue, residue_below}
 use Rattle.pdu_layout.specs.Reading.{number, value_in}
-use Rattle.slave_device.specs.Wiring.Receiving.{segment_value, input_after, input_restarted}
+use Rattle.slave_device.specs.Wires.Receiving.{segment_value, input_after, input_restarted}
 use Rattle.slave_device.specs.declared.tables.InputRow.{InputRow}
 use Rattle.slave_device.specs.declared.tables.Segment.{Segment}
 use Rattle.fixed_models.specs.Domains.{IsInput}

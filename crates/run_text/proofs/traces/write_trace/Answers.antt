@@ -9,4 +9,4 @@ pub returns-in-Ok : goal.returns-in-Ok
 returns-in-Ok g c =
     let Written : List ℕ → Type 0 = λ text. WroteAll (g.R.Sink.written c.args.trace.now) (g.R.Sink.written c.write_record.new.sink) (g.R.Sink.faults c.args.trace.now) (g.R.Sink.faults c.write_record.new.sink) text in
     let bits = c.bits_of-hosted.ensures.bits ∙ ap (λ (l : List SlaveDesc). all_bits (length l)) c.as_slice.ensures.items in
-    subst Written (ap (λ (b : ℕ). trace_bytes b c.args.input.now c.args.log.now) bits) c.in-Ok.ensures
+    subst Written (ap (λ (b : ℕ). trace_bytes b c.args.input.now c.args.log.now.entries) bits) c.in-Ok.ensures

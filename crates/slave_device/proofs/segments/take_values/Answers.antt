@@ -1,6 +1,6 @@
 use Rattle.std.proofs.Common.{arith, rules, ap, ◌∙◌, get_or, None}
 use Rattle.std.specs.Prelude.{ℤ, pos}
-use Rattle.slave_device.specs.Wiring.Receiving.{input_after}
+use Rattle.slave_device.specs.Wires.Receiving.{input_after}
 use Rattle.std.specs.Int.{w128}
 use Rattle.std.proofs.lemmas.Int.{to_z-of_z}
 use Rattle.slave_device.proofs.Wires.Wired.{taken_more}

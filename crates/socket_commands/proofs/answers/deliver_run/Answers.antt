@@ -16,7 +16,7 @@ returns g c =
     (g.R.Sink.written c.args.trace.now) (g.R.Sink.written c.write_both-delivery.new.trace) (g.R.Sink.faults c.args.trace.now) (g.R.Sink.faults c.write_both-delivery.new.trace)
     (ended_text run.host run.ending) traced delivery in
     let slaves = c.as_slice-slaves.ensures.items ∙ ap (λ (s : Scenario). s.slaves) c.scenario.ensures in
-    let traced = ap (λ (l : List SlaveDesc). trace_bytes (bits_in run.part (length l)) c.args.input.now c.log.result.now) slaves
+    let traced = ap (λ (l : List SlaveDesc). trace_bytes (bits_in run.part (length l)) c.args.input.now c.log.result.now.entries) slaves
     ∙ ap (λ (log : List LogEntry). trace_bytes (bits_in run.part (length run.host.scenario.slaves)) c.args.input.now log) c.log.ensures.log in
     record {
       delivery = delivery;

@@ -8,14 +8,14 @@ returns-clause-follows c = λ none.
     let h = c.self.inside in
     let view = c.self.view_is in
     let sound = c.self.invariant.1 in
-    rw (← view) (all_follow _ _ h.slaves.items _ h.log.items sound.slaves_are (slaves_run _ _ _ _ _ _ h.master h.slaves.items h.log.items h.fault (ap (λ (v : HostView). v.fault) view ∙ none) sound))
+    rw (← view) (all_follow _ _ h.slaves.items _ h.log.entries sound.slaves_are (slaves_run _ _ _ _ _ _ h.master h.slaves.items h.log.entries h.fault (ap (λ (v : HostView). v.fault) view ∙ none) sound))
 
 pub returns-clause-cut : goal.returns-clause-cut
 returns-clause-cut c =
     let h = c.self.inside in
     let view = c.self.view_is in
     let sound = c.self.invariant.1 in
-    rw (← view) (all_follow_up _ _ h.slaves.items _ h.log.items sound.slaves_are (slaves_cut _ _ _ _ _ _ h.master h.slaves.items h.log.items h.fault sound))
+    rw (← view) (all_follow_up _ _ h.slaves.items _ h.log.entries sound.slaves_are (slaves_cut _ _ _ _ _ _ h.master h.slaves.items h.log.entries h.fault sound))
 
 pub returns-clause-range : goal.returns-clause-range
 returns-clause-range c = rw (← c.self.view_is) c.self.invariant.1.range

@@ -8,4 +8,4 @@ returns c =
     let h = c.self.inside in
     let sound = c.self.invariant.1 in
     rw (← c.self.view_is, c.as_ref.ensures.value)
-    (first_found StandsAfter rules_of core_setup h.scenario h.log.items h.hosted.master h.master sound.master_is sound.master_made (master_cut _ _ _ _ _ _ h.master h.slaves.items h.log.items h.fault sound))
+    (first_found StandsAfter rules_of core_setup h.scenario h.log.entries h.hosted.master h.master sound.master_is sound.master_made (master_cut _ _ _ _ _ _ h.master h.slaves.items h.log.entries h.fault sound))

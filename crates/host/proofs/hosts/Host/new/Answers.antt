@@ -17,10 +17,10 @@ invariant_of-result c =
         slaves_are = fresh_rules _ _ _ rest ∙ slave_rules_are c.args.scenario (hosted_slaves c.args.scenario c.args.hosted);
         master_made = first_made _ _ _ first ∙ master_made_is c.args.scenario c.args.hosted.master;
         slaves_made = fresh_made _ _ _ rest ∙ slaves_made_are c.args.scenario (hosted_slaves c.args.scenario c.args.hosted);
-        range = rw c.new.ensures.items (All-nil IsInRange);
+        range = rw c.new.ensures (All-nil IsInRange);
         state = record {
-          told_master = rw c.new.ensures.items (first_told _ _ _ first);
-          told_slaves = rw c.new.ensures.items (fresh_told _ _ _ rest);
+          told_master = rw c.new.ensures (first_told _ _ _ first);
+          told_slaves = rw c.new.ensures (fresh_told _ _ _ rest);
           quiet_master = first_quiet _ _ _ first;
           quiet_slaves = fresh_quiet _ _ _ rest;
         };

@@ -2,7 +2,7 @@ use Rattle.std.proofs.Common.{refl, ◌∙◌, ap, arith, map, length, List, Non
 use Rattle.std.proofs.lemmas.List.{with_items_is, length-map}
 use Rattle.slave_desc.specs.declared.ports.Port.{Port}
 use Rattle.slave_device.specs.declared.tables.InputRow.{InputRow}
-use Rattle.slave_device.specs.Wiring.Receiving.{input_restarted}
+use Rattle.slave_device.specs.Wires.Receiving.{input_restarted}
 use Rattle.slave_device.proofs.Wires.Wired.{sized_restarted}
 use Rattle.slave_device.proofs.Wires.Taking.{begins_anew, restarted_more, all_restarted}
 use Rattle.slave_device.proofs.tables.Inputs.restart.Goals as goal

@@ -1,5 +1,5 @@
 use Rattle.std.proofs.Common.{◌≡◌, ◌++◌, take, drop, map}
-use Rattle.slave_device.specs.Wiring.Receiving.{input_restarted}
+use Rattle.slave_device.specs.Wires.Receiving.{input_restarted}
 use Rattle.slave_device.proofs.tables.Inputs.restart.Given as goal
 
 abbrev pub invariant-loop-row : goal.invariant-loop-row

@@ -1,6 +1,6 @@
 use Rattle.std.proofs.Common.{◌∙◌, ap}
 use Rattle.std.specs.List.{flat_map}
-use Rattle.slave_device.specs.Wiring.Payloads.{place_bytes}
+use Rattle.slave_device.specs.Wires.Payloads.{place_bytes}
 use Rattle.slave_device.proofs.Wires.Building.{no_message, message}
 use Rattle.slave_device.proofs.tables.Outputs.build.Goals as goal
 

@@ -1,6 +1,6 @@
 use Rattle.std.proofs.Common.{refl, ◌∙◌, ap, arith, map}
 use Rattle.std.proofs.lemmas.List.{with_items_is}
-use Rattle.slave_device.specs.Wiring.Sending.{row_restarted}
+use Rattle.slave_device.specs.Wires.Sending.{row_restarted}
 use Rattle.slave_device.proofs.Wires.Sending.{restarted, restarted_more, all_restarted}
 use Rattle.slave_device.proofs.tables.Outputs.restart.Goals as goal
 

@@ -1,5 +1,5 @@
 use Rattle.std.proofs.Common.{◌≡◌, ◌++◌, take, drop, map}
-use Rattle.slave_device.specs.Wiring.Sending.{row_restarted}
+use Rattle.slave_device.specs.Wires.Sending.{row_restarted}
 use Rattle.slave_device.proofs.tables.Outputs.restart.Given as goal
 
 abbrev pub invariant-loop-row : goal.invariant-loop-row

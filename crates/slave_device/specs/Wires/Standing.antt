@@ -4,8 +4,8 @@ use Rattle.std.specs.List.{filter_map}
 use Rattle.slave_desc.specs.declared.descriptions.SlaveDesc.{SlaveDesc}
 use Rattle.slave_spec.specs.Changes.{time_given}
 use Rattle.slave_spec.specs.Payloads.{WiringState}
-use Rattle.slave_device.specs.Wiring.Sending.{AreOutputs}
-use Rattle.slave_device.specs.Wiring.Receiving.{AreInputs}
+use Rattle.slave_device.specs.Wires.Sending.{AreOutputs}
+use Rattle.slave_device.specs.Wires.Receiving.{AreInputs}
 use Rattle.slave_device.specs.declared.wirings.Wiring.{Wiring}
 
 -- a slave with this description has this wiring after these changes and payloads
