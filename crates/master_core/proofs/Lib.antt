@@ -10,6 +10,7 @@ pub mod Cleared
 pub mod Whole
 pub mod Begins
 pub mod Hearings
+pub mod Speakers
 pub mod Putting
 pub mod Failing
 pub mod Within

@@ -3,6 +3,8 @@ pub mod Rest
 pub mod Sends
 pub mod Each
 pub mod Talking
+pub mod Apart
+pub mod Speaking
 pub mod Columns
 pub mod Scheduled
 pub mod Standing

@@ -20,7 +20,7 @@ use crate::stages::Schedule;
 use crate::surveys::{
     are_quiet, are_settled, column, first_failed, have_passed, put_row, width_of,
 };
-use crate::turns::{begin_all, hear_all, turn_all};
+use crate::turns::{begin_all, hear_one, turn_all};
 use config_plan::Plan;
 use dcp_types::{Address, OutOfMemory};
 use master_spec::Report;
@@ -46,6 +46,7 @@ impl MasterCore {
             address: scenario.master,
             limits: scenario.limits,
             talks,
+            spoke: 0,
             phase: 0,
             schedule: Schedule::new(scenario.steps, scenario.runs),
             rows,
@@ -194,14 +195,21 @@ impl MasterCore {
         }
     }
 
-    /// All conversations are offered a datagram.
+    /// The conversation that a datagram concerns takes it.
     fn hear(&mut self, from: Address, bytes: &[u8])
         requires { self.old.out ≡ [] }
         ensures meets { (c : Course) → StandsFor self.old c → Meets self.new (with_gram_heard (core_setup self.old) from bytes.now c) }
         ensures setup { core_setup self.new ≡ core_setup self.old }
         ensures turns { self.new.turns ≡ self.old.turns }
     {
-        hear_all(&mut self.talks, &self.schedule, from, bytes, &mut self.out);
+        self.spoke = hear_one(
+            &mut self.talks,
+            self.spoke,
+            &self.schedule,
+            from,
+            bytes,
+            &mut self.out,
+        );
     }
 
     /// A datagram before the report.

@@ -1,6 +1,7 @@
 //! What the master keeps.
 
-ghost use Rattle.std.specs.Prelude.{◌≡◌, ◌≤◌, false, length};
+ghost use Rattle.std.specs.Prelude.{◌≡◌, ◌≤◌, false, length, map};
+ghost use Rattle.master_core.specs.Apart.{AreSlavesApart};
 
 use crate::rows::Rows;
 use crate::stages::Schedule;
@@ -38,6 +39,9 @@ pub struct MasterCore {
     pub(crate) limits: Limits,
     /// One for each slave, in order: at most 16.
     pub(crate) talks: Vec<Talk>,
+    /// The place of the talk whose slave spoke newest. Slaves mostly speak one after the other, so that the
+    /// next datagram is of this one or of the one behind it.
+    pub(crate) spoke: usize,
     /// How many phases have begun.
     pub(crate) phase: u32,
     pub(crate) schedule: Schedule,
@@ -46,4 +50,5 @@ pub struct MasterCore {
     pub(crate) turns: u64,
     pub(crate) out: MasterOutbox,
     ghost few: { length talks.items ≤ 16 },
+    ghost apart: { AreSlavesApart (map (λ t. t.slave) talks.items) },
 }

@@ -20,12 +20,6 @@ use conversation::{Conversation, hear};
 use dcp_types::{Address, Limits};
 use master_spec::Slave;
 
-fn same_address(a: Address, b: Address) -> bool
-    ensures { result ≡ same_address a b }
-{
-    a.ip == b.ip && a.port == b.port
-}
-
 /// Puts the bytes of a message behind the others, where there are some.
 fn put_some(to: Address, message: &[u8], out: &mut MasterOutbox)
     requires room { length out.old < 32 }
@@ -104,7 +98,7 @@ impl Talk {
     }
 
     /// A datagram has come from the slave.
-    fn take(&mut self, schedule: &Schedule, bytes: &[u8], out: &mut MasterOutbox)
+    pub fn hear(&mut self, schedule: &Schedule, bytes: &[u8], out: &mut MasterOutbox)
         requires { length out.old < 32 }
         ensures stands { (limits : Limits) (now : Now) (talk : course.CourseTalk) → TalkStandsAt limits now self.old talk → IsNow schedule.now now → TalkStandsAt limits now self.new (course.marked limits talk (course.mark_for talk.slave talk.marks (news_of bytes.now))) }
         ensures sends { (limits : Limits) (now : Now) (talk : course.CourseTalk) → TalkStandsAt limits now self.old talk → IsNow schedule.now now → out.new ≡ out.old ++ course.sends_after limits talk (course.mark_for talk.slave talk.marks (news_of bytes.now)) }
@@ -118,16 +112,10 @@ impl Talk {
         send_due(&mut self.conversation, self.slave.address, out);
     }
 
-    /// A datagram has come. It concerns the slave where it comes from its address.
-    pub fn hear(&mut self, schedule: &Schedule, from: Address, bytes: &[u8], out: &mut MasterOutbox)
-        requires { length out.old < 32 }
-        ensures stands { (limits : Limits) (now : Now) (talk : course.CourseTalk) → TalkStandsAt limits now self.old talk → IsNow schedule.now now → TalkStandsAt limits now self.new (course.marked limits talk (course.mark_of_gram talk from bytes.now)) }
-        ensures sends { (limits : Limits) (now : Now) (talk : course.CourseTalk) → TalkStandsAt limits now self.old talk → IsNow schedule.now now → out.new ≡ out.old ++ course.sends_after limits talk (course.mark_of_gram talk from bytes.now) }
-        ensures room { length out.new ≤ length out.old + 1 }
-        ensures slave { self.new.slave ≡ self.old.slave }
+    /// Whether a datagram from this address concerns the slave.
+    pub fn is_of(&self, from: Address) -> bool
+        ensures { result ≡ same_address from self.now.slave.address }
     {
-        if same_address(from, self.slave.address) {
-            self.take(schedule, bytes, out);
-        }
+        from.ip == self.slave.address.ip && from.port == self.slave.address.port
     }
 }

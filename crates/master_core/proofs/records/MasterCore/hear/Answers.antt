@@ -11,6 +11,6 @@ returns-clause-meets c = λ x s.
     let m = c.args.self.now in
     let now = now_in x.phase m.schedule in
     record {
-      stands = marked_stands m.limits m.phase m.talks.items c.hear_all.new.talks.items m.schedule m.rows m.report x _ _ s c.hear_all.ensures.slaves (c.hear_all.ensures.stands m.limits now x.talks s.parts.talks_stand (is_now x.phase m.schedule));
-      sent = c.hear_all.ensures.sends m.limits now x.talks s.parts.talks_stand (is_now x.phase m.schedule) ∙ ap (λ (l : List Send). l ++ flat_map (λ (talk : Said). sends_after m.limits talk (mark_of_gram talk c.args.from c.args.bytes.now)) x.talks) c.requires;
+      stands = marked_stands m.limits m.phase m.talks.items c.hear_one-self.new.talks.items m.schedule m.rows m.report x _ _ s c.hear_one-self.ensures.slaves (c.hear_one-self.ensures.stands m.limits now x.talks s.parts.talks_stand (is_now x.phase m.schedule));
+      sent = c.hear_one-self.ensures.sends m.limits now x.talks s.parts.talks_stand (is_now x.phase m.schedule) ∙ ap (λ (l : List Send). l ++ flat_map (λ (talk : Said). sends_after m.limits talk (mark_of_gram talk c.args.from c.args.bytes.now)) x.talks) c.requires;
     }

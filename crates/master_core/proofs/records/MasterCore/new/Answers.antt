@@ -6,6 +6,8 @@ use Rattle.master_spec.specs.declared.setups.Slave.{Slave}
 use Rattle.master_core.specs.declared.records.Talk.{Talk}
 use Rattle.master_spec.specs.Askable.{IsScriptAskable}
 use Rattle.master_core.specs.Talking.{IsFreshTalk, slave_talked_to, outputs_width}
+use Rattle.master_core.specs.Apart.{AreSlavesApart}
+use Rattle.master_core.proofs.Speakers.{apart_from}
 use Rattle.master_core.proofs.Fresh.{fresh_stand, slaves_few, first_behind, empty_rows}
 use Rattle.master_spec.proofs.Planned.{all_askable}
 use Rattle.master_core.proofs.records.MasterCore.new.Goals as goal
@@ -16,7 +18,10 @@ width_of-requires c = let few = slaves_few c.args.scenario.now c.in_ok-talks.tal
     omega (arith, few, same, c.requires.sound.few_slaves.1)
 
 pub invariant_of-result : goal.invariant_of-result
-invariant_of-result c = record { few = let few = slaves_few c.args.scenario.now c.in_ok-talks.talks.items c.in_ok-talks.ensures.slaves in omega (arith, few, c.requires.sound.few_slaves.1) }
+invariant_of-result c = record {
+  few = let few = slaves_few c.args.scenario.now c.in_ok-talks.talks.items c.in_ok-talks.ensures.slaves in omega (arith, few, c.requires.sound.few_slaves.1);
+  apart = subst (λ (l : List Slave). AreSlavesApart l) (sym c.in_ok-talks.ensures.slaves) (apart_from c.args.scenario.now 1 c.args.scenario.now.slaves c.requires.sound.addresses_apart);
+}
 
 pub returns-clause-stands : goal.returns-clause-stands
 returns-clause-stands c =

@@ -1,15 +1,19 @@
-use Rattle.std.proofs.Common.{◌≡◌, ◌++◌, None, Option, List, sym, ap, subst, ◌∙◌, append-nil}
-use Rattle.dcp_ends.specs.Events.{Send}
-use Rattle.master_spec.specs.Marks.{Mark}
-use Rattle.master_spec.specs.Course.{marked, sends_after}
-use Rattle.master_core.specs.Talking.{TalkStandsAt}
-use Rattle.master_core.proofs.Hearings.{from_it, not_from_it}
+use Rattle.std.proofs.Common.{◌≡◌, sym, ap, ◌∙◌, refl}
+use Rattle.master_spec.specs.Course.{payload_size}
+use Rattle.master_core.proofs.Hearings.{small_taken, heard_stands, heard_sends}
 use Rattle.master_core.proofs.records.Talk.hear.Goals as goal
 
-pub returns-then-same_address-clause-stands : goal.returns-then-same_address-clause-stands
-returns-then-same_address-clause-stands c = λ limits now talk s fit.
-    subst (λ (m : Option Mark). TalkStandsAt limits now c.take.new.self (marked limits talk m)) (from_it limits now c.args.self.now talk c.args.from c.args.bytes.now s (sym c.same_address.ensures ∙ c.if-same_address.true)) (c.take.ensures.stands limits now talk s fit)
+pub put_taken-requires : goal.put_taken-requires
+put_taken-requires c = small_taken (λ r. r.now) _ c.args.self.now.slave.types _ c.hear-taken.ensures.sized (c.payload_size-size.ensures ∙ ap payload_size c.as_slice.ensures) c.args.self.now.few
 
-pub returns-then-same_address-clause-sends : goal.returns-then-same_address-clause-sends
-returns-then-same_address-clause-sends c = λ limits now talk s fit.
-    c.take.ensures.sends limits now talk s fit ∙ ap (λ (m : Option Mark). c.args.out.now ++ sends_after limits talk m) (from_it limits now c.args.self.now talk c.args.from c.args.bytes.now s (sym c.same_address.ensures ∙ c.if-same_address.true))
+pub returns-clause-stands : goal.returns-clause-stands
+returns-clause-stands c = λ limits now talk s fit.
+    heard_stands (λ r. r.now) limits now c.args.self.now _ talk c.hear-taken.new.talk c.hear-taken.result c.args.schedule.now _ _ _ s fit
+    (record { stands = c.hear-taken.ensures.stands; due = c.hear-taken.ensures.due; taken_is = c.hear-taken.ensures.taken; sized = c.hear-taken.ensures.sized; given = c.hear-taken.ensures.given })
+    (c.payload_size-size.ensures ∙ ap payload_size c.as_slice.ensures) c.list-list.ensures c.put_taken.ensures c.send_due.ensures.cleared refl
+
+pub returns-clause-sends : goal.returns-clause-sends
+returns-clause-sends c = λ limits now talk s fit.
+    heard_sends (λ r. r.now) limits now c.args.self.now talk c.hear-taken.new.talk c.hear-taken.result c.args.schedule.now _ _ _ c.args.out.now c.send_due.new.out s fit
+    (record { stands = c.hear-taken.ensures.stands; due = c.hear-taken.ensures.due; taken_is = c.hear-taken.ensures.taken; sized = c.hear-taken.ensures.sized; given = c.hear-taken.ensures.given })
+    (c.payload_size-size.ensures ∙ ap payload_size c.as_slice.ensures) c.list-list.ensures c.send_due.ensures.sends
