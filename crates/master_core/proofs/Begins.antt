@@ -1,5 +1,5 @@
 -- A slave begins a phase.
-use Rattle.std.proofs.Common.{◌≡◌, ℕ, false, Option, Some, List, [], ◌∷◌, ◌++◌, refl, sym, ap, subst, ◌∙◌}
+use Rattle.std.proofs.Common.{◌≡◌, ℕ, false, Some, List, ◌∷◌, ◌++◌, sym, ap, subst, ◌∙◌}
 use Rattle.std.specs.List.{flat_map}
 use Rattle.dcp_types.specs.declared.limits.Limits.{Limits}
 use Rattle.dcp_ends.specs.Events.{Send}
@@ -9,7 +9,7 @@ use Rattle.conversation.specs.Standing.{Stands, CanSend, due_of}
 use Rattle.master_spec.specs.declared.tasks.Task.{Task}
 use Rattle.master_spec.specs.declared.setups.Slave.{Slave}
 use Rattle.master_spec.specs.Jobs.{Job}
-use Rattle.master_spec.specs.Marks.{Mark, Begun}
+use Rattle.master_spec.specs.Marks.{Begun}
 use Rattle.master_spec.specs.Conversation.{reaction, marks_after, messages_after}
 use Rattle.master_spec.specs.Course.{marked, sends_after}
 use Rattle.master_spec.specs.Course as course

@@ -1,16 +1,15 @@
 -- A conversation that stands for one of the course does so after each mark.
-use Rattle.std.proofs.Common.{◌≡◌, ℕ, ◌<◌, ◌%◌, ◌==◌, ◌&&◌, Bool, true, false, Option, Some, None, List, [], ◌∷◌, ◌++◌, map, take, refl, sym, ap, subst, ◌∙◌, arith}
+use Rattle.std.proofs.Common.{◌≡◌, ℕ, ◌%◌, ◌==◌, ◌&&◌, Bool, true, false, Option, Some, None, List, ◌∷◌, take, refl, sym, ap, subst, ◌∙◌}
 use Rattle.std.specs.Prelude.{if◌then◌else◌, not, is_some, option_map, MatchOption, IfSome, length}
 use Rattle.dcp_types.specs.declared.limits.Limits.{Limits}
 use Rattle.dcp_types.specs.declared.data_types.DataType.{DataType}
 use Rattle.conversation.specs.declared.records.Conversation.{Conversation}
 use Rattle.conversation.specs.Standing.{Stands, job_row, kept_for, is_wanted_row}
 use Rattle.conversation.specs.Hearing.{answer_taken, taken_of}
-use Rattle.master_spec.specs.declared.requests.Request.{Request}
 use Rattle.master_spec.specs.declared.reactions.Reaction.{Reaction}
 use Rattle.master_spec.specs.declared.reactions.Reaction.TheVariants.{Wait, Ask, Repeat, GiveUp}
 use Rattle.master_spec.specs.Jobs.{Job}
-use Rattle.master_spec.specs.Marks.{Mark, Begun, Asked, Again, Answered, Hinted, Brought, Turned, Ended, job_of, latest, kept, oldest, or_else, mark_brings, this_phase}
+use Rattle.master_spec.specs.Marks.{Mark, Begun, Asked, Again, Answered, Hinted, Brought, Turned, Ended, job_of, latest, kept, or_else}
 use Rattle.master_spec.specs.Conversation.{reaction, done, marks_after, extended}
 use Rattle.master_spec.specs.Course.{payload_size, marked}
 use Rattle.master_spec.specs.Course as course

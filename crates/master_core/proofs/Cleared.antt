@@ -1,11 +1,9 @@
 -- What was due is sent: the conversation is otherwise as it was.
-use Rattle.std.proofs.Common.{◌≡◌, ◌<◌, ℕ, Bool, false, Option, Some, None, List, [], ◌∷◌, ◌++◌, map, sym, ap, subst, ◌∙◌, refl}
+use Rattle.std.proofs.Common.{◌≡◌, ◌<◌, ℕ, false, Option, Some, None, List, ◌∷◌, map, sym, ap, subst, ◌∙◌}
 use Rattle.std.specs.List.{flat_map}
-use Rattle.dcp_types.specs.declared.addresses.Address.{Address}
 use Rattle.dcp_types.specs.declared.limits.Limits.{Limits}
-use Rattle.dcp_ends.specs.Events.{Send}
 use Rattle.master_spec.specs.Jobs.{Job}
-use Rattle.master_spec.specs.Marks.{Mark, Begun, job_of}
+use Rattle.master_spec.specs.Marks.{Mark, Begun}
 use Rattle.master_spec.specs.Conversation.{reaction, messages_if, messages_after}
 use Rattle.master_spec.specs.Course as course
 use Rattle.master_spec.specs.Course.{send_to, sends_after}

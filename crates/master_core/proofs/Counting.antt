@@ -1,5 +1,5 @@
 -- A row is whole: it has the outputs that all slaves brought.
-use Rattle.std.proofs.Common.{◌≡◌, ℕ, zero, suc, ◌+◌, ◌-◌, ◌*◌, ◌<◌, ◌≤◌, min, Bool, true, false, ◌&&◌, ◌==◌, Option, Some, None, List, [], ◌∷◌, ◌++◌, map, take, drop, length, refl, sym, ap, subst, ◌∙◌, arith, append_assoc, append-nil, length-append, length-take}
+use Rattle.std.proofs.Common.{◌≡◌, ℕ, zero, suc, ◌+◌, ◌*◌, ◌<◌, ◌≤◌, min, Bool, true, false, ◌&&◌, ◌==◌, Option, Some, None, List, [], ◌∷◌, ◌++◌, take, drop, length, refl, sym, ap, subst, ◌∙◌, arith, append-nil, length-append}
 use Rattle.std.specs.Prelude.{ℤ, is_some, unwrap_or, if◌then◌else◌, All, vec_capacity}
 use Rattle.std.specs.List.{flat_map, list_all, AllByRecursion}
 use Rattle.std.proofs.lemmas.Bool.{and_parts, eqb-true}
@@ -21,14 +21,14 @@ use Rattle.master_spec.specs.declared.tasks.Task.TheVariants as tasks
 use Rattle.master_spec.specs.Tasks.{task_row}
 use Rattle.master_spec.specs.Jobs.{Job}
 use Rattle.master_spec.specs.Marks.{Mark, job_of, cause_of, kept, is_passed, verdict_by, is_reached}
-use Rattle.master_spec.specs.Course.{CourseTalk as Said, Course, values_in, payload_size, talk_outputs, has_passed, is_passed_as, row_in_job, row_now, counted_rows, counted_at}
+use Rattle.master_spec.specs.Course.{CourseTalk as Said, values_in, payload_size, talk_outputs, has_passed, is_passed_as, row_in_job, row_now, counted_rows, counted_at}
 use Rattle.master_core.specs.declared.records.Talk.{Talk}
 use Rattle.master_core.specs.declared.rows.Rows.{Rows}
 use Rattle.master_core.specs.declared.stages.Schedule.{Schedule}
 use Rattle.master_core.specs.Stages as stages
 use Rattle.master_core.specs.Stages.{first_stage}
 use Rattle.master_core.specs.Each.{Each}
-use Rattle.master_core.specs.Talking.{TalkStandsAt, Now, now_in, HasKept, values_kept, outputs_width, slave_talked_to}
+use Rattle.master_core.specs.Talking.{TalkStandsAt, Now, now_in, values_kept, outputs_width}
 use Rattle.master_core.specs.Standing.{HasRows, is_due_at, lines_of}
 use Rattle.master_core.proofs.Putting.{length_kept}
 use Rattle.master_core.proofs.Within.{row_task, row_below}

@@ -1,5 +1,5 @@
 -- A slave hears a datagram.
-use Rattle.std.proofs.Common.{◌≡◌, ◌≤◌, ◌*◌, ℕ, false, Bool, true, Option, Some, None, List, [], ◌∷◌, ◌++◌, length, take, refl, sym, ap, subst, ◌∙◌, arith, append-nil}
+use Rattle.std.proofs.Common.{◌≡◌, ◌≤◌, ℕ, false, Bool, true, Option, None, List, ◌++◌, length, take, sym, ap, subst, ◌∙◌, arith}
 use Rattle.std.specs.Prelude.{option_map, MatchOption, IfSome, if◌then◌else◌}
 use Rattle.std.specs.List.{flat_map}
 use Rattle.std.proofs.lemmas.Option.{IfSome_then}
@@ -15,7 +15,7 @@ use Rattle.conversation.specs.Hearing.{IsWith, answer_taken}
 use Rattle.master_spec.specs.declared.setups.Slave.{Slave}
 use Rattle.master_spec.specs.Jobs.{Job}
 use Rattle.master_spec.specs.News.{News, news_of}
-use Rattle.master_spec.specs.Marks.{Mark, job_of}
+use Rattle.master_spec.specs.Marks.{Mark}
 use Rattle.master_spec.specs.Conversation.{extended, messages_if}
 use Rattle.master_spec.specs.Course.{marked, sends_after, mark_for, mark_of_gram, payload_size}
 use Rattle.master_spec.specs.Course as course
@@ -23,8 +23,8 @@ use Rattle.master_core.specs.declared.records.Talk.{Talk}
 use Rattle.master_core.specs.declared.stages.Schedule.{Schedule}
 use Rattle.master_core.specs.Stages.{list_in}
 use Rattle.master_core.specs.Sends.{sends_to}
-use Rattle.master_core.specs.Talking.{TalkStandsAt, Now, IsNow, HasKept}
-use Rattle.master_core.proofs.Sendable.{IsHeard, OnMark, mark_heard}
+use Rattle.master_core.specs.Talking.{TalkStandsAt, Now, IsNow}
+use Rattle.master_core.proofs.Sendable.{mark_heard}
 use Rattle.master_core.proofs.Carried.{heard_carried, kept_by}
 use Rattle.master_core.proofs.Cleared.{can_after, sent_after}
 use Rattle.master_core.proofs.Payloads.{size_few}

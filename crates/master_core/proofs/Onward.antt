@@ -4,7 +4,7 @@ use Rattle.std.specs.Prelude.{ℤ, slice_get, if◌then◌else◌}
 use Rattle.std.specs.List.{flat_map}
 use Rattle.std.proofs.lemmas.List.{drop-drop, length-drop, length-map}
 use Rattle.std.proofs.lemmas.Bool.{ne_eqb, eq-eqb}
-use Rattle.std.proofs.Math.Nat.{mul-le-mul_left, mul-le-mul_right}
+use Rattle.std.proofs.Math.Nat.{mul-le-mul_left}
 use Rattle.dcp_types.specs.declared.addresses.Address.{Address}
 use Rattle.dcp_types.specs.declared.limits.Limits.{Limits}
 use Rattle.dcp_ends.specs.Events.{Send}
@@ -13,22 +13,21 @@ use Rattle.master_spec.specs.declared.reports.Report.TheVariants as reports
 use Rattle.master_spec.specs.declared.setups.Script.{Script}
 use Rattle.master_spec.specs.declared.setups.Setup.{Setup}
 use Rattle.master_spec.specs.declared.setups.Slave.{Slave}
-use Rattle.master_spec.specs.Jobs.{Job, jobs}
+use Rattle.master_spec.specs.Jobs.{jobs}
 use Rattle.master_spec.specs.Marks.{Mark, Begun}
 use Rattle.master_spec.proofs.Phases.{phases_counted}
-use Rattle.master_spec.specs.Course.{CourseTalk as Said, Course, marked, sends_after, task_begun, begun_with, with_next, with_report, decided, phases, failed, counted_rows, still}
+use Rattle.master_spec.specs.Course.{CourseTalk as Said, Course, marked, sends_after, task_begun, begun_with, with_next, with_report, decided, phases, counted_rows, still}
 use Rattle.master_core.specs.declared.records.MasterCore.{MasterCore}
 use Rattle.master_core.specs.declared.records.Talk.{Talk}
 use Rattle.master_core.specs.declared.rows.Rows.{Rows}
-use Rattle.master_core.specs.declared.stages.Part.{Part}
 use Rattle.master_core.specs.declared.stages.Schedule.{Schedule}
 use Rattle.master_core.specs.declared.stages.Stage.{Stage}
-use Rattle.master_core.specs.Stages.{job_at, next_in, first_stage}
+use Rattle.master_core.specs.Stages.{job_at, next_in}
 use Rattle.master_core.specs.Rest.{rest, rest_of}
 use Rattle.master_core.specs.Each.{Each}
 use Rattle.master_core.specs.Scheduled.{IsAfter}
 use Rattle.master_core.specs.Talking.{TalkStandsAt, Now, IsNow, now_in, at_stage, slave_talked_to, outputs_width}
-use Rattle.master_core.specs.Standing.{Stand, StandsWith, HasRows, IsBehind, Meets, lines_of, core_setup}
+use Rattle.master_core.specs.Standing.{Stand, StandsWith, HasRows, IsBehind, Meets, lines_of}
 use Rattle.master_core.proofs.Phases.{next_rest}
 
 -- ---- slaves that stay

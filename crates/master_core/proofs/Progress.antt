@@ -1,5 +1,5 @@
 -- A loop that gives each conversation a mark, as far as it has come.
-use Rattle.std.proofs.Common.{◌≡◌, ℕ, zero, suc, ◌+◌, ◌<◌, ◌≤◌, List, [], ◌∷◌, ◌++◌, map, take, drop, length, get_or, set, refl, sym, ap, subst, ◌∙◌, arith, add-one, Option, append-nil, ◌-◌}
+use Rattle.std.proofs.Common.{◌≡◌, ℕ, ◌+◌, ◌<◌, ◌≤◌, List, ◌++◌, map, take, drop, length, get_or, set, refl, sym, ap, subst, ◌∙◌, arith, add-one, Option, append-nil}
 use Rattle.std.proofs.lemmas.List.{length-map}
 use Rattle.master_spec.specs.declared.setups.Slave.{Slave}
 use Rattle.std.specs.List.{flat_map}
@@ -13,7 +13,7 @@ use Rattle.master_core.specs.declared.records.Talk.{Talk}
 use Rattle.master_core.specs.Each.{Each}
 use Rattle.master_core.specs.Talking.{TalkStandsAt, Now, slave_talked_to}
 use Rattle.master_core.proofs.Whole.{take_back}
-use Rattle.master_core.proofs.Eachs.{Mixed, mixed_step, mixed_sent, mixed_all, each_map, length_each, length_mixed}
+use Rattle.master_core.proofs.Eachs.{Mixed, mixed_step, mixed_sent, mixed_all, each_map, length_mixed}
 
 -- the mark that each makes, and the jobs that they have after it
 pub record Progress (later : Now → Now) (m : Said → Option Mark) (IsFit : Now → Type 0) (i : ℕ) (old items : List Talk) (base out : List Send) : Type 0 where

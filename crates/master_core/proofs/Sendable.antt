@@ -6,10 +6,8 @@ use Rattle.dcp_types.specs.declared.addresses.Address.{Address}
 use Rattle.dcp_types.specs.declared.limits.Limits.{Limits}
 use Rattle.dcp_types.specs.declared.states.State.{State}
 use Rattle.dcp_types.specs.Values.{digits}
-use Rattle.dcp_ends.specs.Events.{Send}
 use Rattle.pdu_layout.specs.declared.fields.FieldKind.TheVariants.{U8, U16}
 use Rattle.pdu_layout.specs.declared.messages.Cfg.{Cfg}
-use Rattle.pdu_layout.specs.Message.{Spells, message_of}
 use Rattle.master_spec.specs.declared.causes.Cause.TheVariants as causes
 use Rattle.master_spec.specs.declared.requests.Request.{Request}
 use Rattle.master_spec.specs.declared.requests.Request.TheVariants.{Change, Configure, AskState, AskError}
@@ -22,14 +20,14 @@ use Rattle.master_spec.specs.declared.reactions.Reaction.TheVariants.{Wait, Ask,
 use Rattle.master_spec.specs.declared.reactions.Awaited.{Awaited}
 use Rattle.master_spec.specs.declared.reactions.Awaited.TheVariants.{TheAnswer, TheState, TheInputs, TheOutputs, TheOthers}
 use Rattle.master_spec.specs.Jobs.{Job, asked_by}
-use Rattle.master_spec.specs.News.{News, Answers, Hints, Brings, Nothing, pdu_of, request_bytes}
+use Rattle.master_spec.specs.News.{News, Answers, Hints, Brings, Nothing, request_bytes}
 use Rattle.master_spec.specs.Marks.{Mark, Begun, Asked, Again, Answered, Hinted, Brought, Turned, Ended, job_of, latest, open_in, open_request, asked, newest_number, settings_answered, is_passed, conversation_ended, is_missing, refusals, is_hinted, is_reached, is_sending, is_answer, turns_since, sendings}
-use Rattle.master_spec.specs.Conversation.{reaction, reaction_in, on_mark, on_answer, on_nack, on_missing, on_acknowledged, await_state, on_state, on_other_state, on_passing, on_turn, on_silence, on_rest, on_hint, first_of, configuration_at, awaited, awaited_by, awaited_after, awaited_after_state, messages_of, messages_if, again_bytes, answer_mark, if_open, unexpected, is_error, is_state, is_late}
+use Rattle.master_spec.specs.Conversation.{reaction, reaction_in, on_mark, on_answer, on_nack, on_missing, on_acknowledged, await_state, on_state, on_other_state, on_passing, on_turn, on_hint, first_of, configuration_at, awaited, awaited_by, awaited_after, messages_of, again_bytes, if_open, unexpected, is_error, is_state, is_late}
 use Rattle.master_spec.specs.Tasks.{target_of, passing_of, asks_step, task_step, is_by_end, is_at_once}
 use Rattle.master_spec.specs.Course.{mark_for, send_to, payload_size}
 use Rattle.master_spec.specs.declared.setups.Slave.{Slave}
 use Rattle.master_spec.specs.Askable.{IsSpelled}
-use Rattle.conversation.specs.Standing.{CanSend, CanSendAfter}
+use Rattle.conversation.specs.Standing.{CanSend}
 use Rattle.conversation.proofs.Spelling.{spelled_is}
 use Rattle.master_spec.specs.Askable.{IsAskable, AreAskable, IsLatestAskable, IsJobAskable, IsPresentAskable}
 use Rattle.master_core.specs.Sends.{sends_to}

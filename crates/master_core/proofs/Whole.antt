@@ -1,5 +1,5 @@
 -- A list whose elements were all written.
-use Rattle.std.proofs.Common.{◌≡◌, ℕ, ◌+◌, ◌≤◌, List, [], ◌∷◌, ◌++◌, map, take, drop, length, refl, sym, ap, ◌∙◌, arith, append-nil}
+use Rattle.std.proofs.Common.{◌≡◌, ℕ, ◌≤◌, List, ◌++◌, take, drop, length, ap, ◌∙◌, arith, append-nil}
 use Rattle.std.proofs.lemmas.List.{take_all, drop_all}
 
 pub take_back : {A : Type 0} (n : ℕ) (xs old : List A) → length xs ≡ length old → length old ≤ n → take n (xs ++ drop (length xs) old) ≡ xs

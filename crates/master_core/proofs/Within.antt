@@ -1,6 +1,6 @@
 -- Where the stages of a schedule lie.
-use Rattle.std.proofs.Common.{◌≡◌, ℕ, zero, suc, ◌+◌, ◌-◌, ◌*◌, ◌<◌, ◌≤◌, Bool, true, false, ◌&&◌, Option, Some, None, List, [], ◌∷◌, drop, length, refl, sym, ap, subst, ◌∙◌, arith}
-use Rattle.std.specs.Prelude.{nat_lt, nat_le, if◌then◌else◌, slice_get}
+use Rattle.std.proofs.Common.{◌≡◌, ℕ, suc, ◌+◌, ◌-◌, ◌*◌, ◌<◌, ◌≤◌, Bool, true, false, ◌&&◌, Some, refl, ap, subst, arith}
+use Rattle.std.specs.Prelude.{nat_lt, nat_le, if◌then◌else◌}
 use Rattle.std.proofs.lemmas.Bool.{and_parts, leb-true, ltb-true}
 use Rattle.std.proofs.lemmas.Bool.Decides.{nat_tests}
 use Rattle.std.proofs.Math.Nat.{mul-le-mul_right, suc-mul}
@@ -9,7 +9,7 @@ use Rattle.master_spec.specs.Tasks.{task_row}
 use Rattle.master_core.specs.declared.stages.Part.{Part}
 use Rattle.master_core.specs.declared.stages.Part.TheVariants as parts
 use Rattle.master_core.specs.declared.stages.Stage.{Stage}
-use Rattle.master_core.specs.Stages.{part_task, part_row, next_in, after_step, is_part_within, IsWithin}
+use Rattle.master_core.specs.Stages.{part_task, part_row, next_in, is_part_within, IsWithin}
 
 step_within : (steps k : ℕ) → (nat_le 1 k && nat_le k steps) ≡ true → (1 ≤ k) × (k ≤ steps)
 step_within steps k e = let p = and_parts (nat_le 1 k) (nat_le k steps) e in (leb-true 1 k p.0, leb-true k steps p.1)

@@ -1,5 +1,5 @@
 -- The master of the code stands for a course of the definitions.
-use Rattle.std.specs.Prelude.{◌≡◌, ℕ, ◌+◌, ◌-◌, ◌*◌, ◌≤◌, ◌^◌, min, ℤ, Option, Some, None, Bool, false, ◌&&◌, ◌==◌, List, [], ◌∷◌, map, length, drop, reverse, All, vec_capacity}
+use Rattle.std.specs.Prelude.{◌≡◌, ℕ, ◌+◌, ◌-◌, ◌*◌, ◌≤◌, ◌^◌, min, ℤ, Option, Some, None, Bool, false, ◌&&◌, ◌==◌, List, map, length, drop, reverse, All, vec_capacity}
 use Rattle.std.specs.List.{flat_map, list_all}
 use Rattle.dcp_types.specs.declared.addresses.Address.{Address}
 use Rattle.dcp_ends.specs.Events.{Event, Rules}

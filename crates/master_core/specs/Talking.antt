@@ -2,7 +2,6 @@
 use Rattle.std.specs.Prelude.{◌≡◌, ℕ, ◌+◌, zero, suc, Option, Some, None, List, [], ◌∷◌, length, take, ℤ}
 use Rattle.dcp_types.specs.declared.data_types.DataType.{DataType}
 use Rattle.dcp_types.specs.declared.limits.Limits.{Limits}
-use Rattle.conversation.specs.declared.records.Conversation.{Conversation}
 use Rattle.conversation.specs.Standing.{Stands, job_row, is_list_of}
 use Rattle.master_spec.specs.declared.setups.Slave.{Slave}
 use Rattle.master_spec.specs.Jobs.{Job}

@@ -1,4 +1,4 @@
-use Rattle.std.proofs.Common.{◌≡◌, ◌∙◌, ap, sym, List, length, arith, refl, subst, ℕ, ◌<◌, ◌++◌, ◌∷◌, [], rules, FitsSigned}
+use Rattle.std.proofs.Common.{◌∙◌, ap, sym, length, subst, ℕ, ◌<◌, ◌++◌, ◌∷◌, [], rules, FitsSigned}
 use Rattle.std.specs.Prelude.{ℤ}
 use Rattle.std.proofs.lemmas.Int.{to_z-of_z}
 use Rattle.std.specs.Int.{w128}

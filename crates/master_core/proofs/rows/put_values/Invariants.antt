@@ -1,4 +1,4 @@
-use Rattle.std.proofs.Common.{◌≡◌, ◌+◌, ◌*◌, ◌≤◌, ◌++◌, List, take, length}
+use Rattle.std.proofs.Common.{◌≡◌, ◌+◌, ◌*◌, ◌≤◌, ◌++◌, take, length}
 use Rattle.std.specs.Prelude.{vec_capacity}
 use Rattle.master_spec.specs.Course.{values_in, payload_size}
 use Rattle.master_core.proofs.rows.put_values.Given as goal

@@ -1,9 +1,8 @@
-use Rattle.std.proofs.Common.{◌≡◌, ◌+◌, ◌-◌, ◌++◌, ◌∷◌, [], ◌∙◌, List, map, ap, arith, ℕ, subst, sym}
+use Rattle.std.proofs.Common.{◌∙◌, List, map, ap, arith, subst, sym}
 use Rattle.std.specs.Prelude.{All}
 use Rattle.std.proofs.lemmas.List.{map_push}
 use Rattle.std.proofs.lemmas.List.Elements.{All-push}
 use Rattle.slave_desc.specs.declared.descriptions.SlaveDesc.{SlaveDesc}
-use Rattle.master_spec.specs.declared.setups.Slave.{Slave}
 use Rattle.master_spec.specs.Setup.{slave_of}
 use Rattle.master_core.specs.declared.records.Talk.{Talk}
 use Rattle.master_core.specs.Talking.{slave_talked_to, IsFreshTalk}

@@ -1,4 +1,4 @@
-use Rattle.std.proofs.Common.{◌≡◌, ◌+◌, List, map, take}
+use Rattle.std.proofs.Common.{◌≡◌, ◌+◌, map, take}
 use Rattle.std.specs.Prelude.{All}
 use Rattle.master_spec.specs.Setup.{slaves_from}
 use Rattle.master_core.specs.Talking.{IsFreshTalk, slave_talked_to}

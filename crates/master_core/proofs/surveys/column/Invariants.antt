@@ -1,4 +1,4 @@
-use Rattle.std.proofs.Common.{◌≡◌, ◌+◌, ◌*◌, ◌≤◌, ℕ, List, map, drop}
+use Rattle.std.proofs.Common.{◌≡◌, ◌+◌, ◌*◌, ◌≤◌, ℕ, map, drop}
 use Rattle.std.specs.Prelude.{option_map}
 use Rattle.master_core.specs.Columns.{column_in}
 use Rattle.master_core.specs.Talking.{slave_talked_to}

@@ -1,4 +1,4 @@
-use Rattle.std.proofs.Common.{◌≡◌, ◌+◌, ◌≤◌, ◌++◌, ◌∙◌, List, ap, sym, subst, length, arith, get_or}
+use Rattle.std.proofs.Common.{◌≡◌, ◌++◌, ◌∙◌, List, ap, length, arith, get_or}
 use Rattle.std.specs.Prelude.{vec_capacity}
 use Rattle.dcp_types.specs.declared.data_types.DataType.{DataType}
 use Rattle.master_spec.specs.Course.{values_in}

@@ -1,4 +1,4 @@
-use Rattle.std.proofs.Common.{◌≡◌, ◌∙◌, ap, sym, List, length, arith, get_or}
+use Rattle.std.proofs.Common.{◌≡◌, ap, List, length, arith, get_or}
 use Rattle.dcp_types.specs.declared.data_types.DataType.{DataType}
 use Rattle.master_core.specs.declared.records.Talk.{Talk}
 use Rattle.master_core.proofs.Putting.{width_more}

@@ -1,4 +1,4 @@
-use Rattle.std.proofs.Common.{◌≡◌, ◌+◌, ◌*◌, ◌≤◌, List, take, length}
+use Rattle.std.proofs.Common.{◌≡◌, ◌*◌, ◌≤◌, take}
 use Rattle.master_core.specs.Talking.{outputs_width}
 use Rattle.master_core.proofs.surveys.width_of.Given as goal
 

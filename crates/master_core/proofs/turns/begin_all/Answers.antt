@@ -1,11 +1,11 @@
-use Rattle.std.proofs.Common.{◌≡◌, Some, List, map, sym, subst, arith, ap, ◌∙◌}
+use Rattle.std.proofs.Common.{Some, List, map, sym, subst, arith}
 use Rattle.master_spec.specs.Marks.{Begun}
 use Rattle.master_core.specs.Stages.{job_at}
 use Rattle.master_core.specs.Talking.{at_stage}
 use Rattle.master_spec.specs.Course.{CourseTalk as Said, marked}
 use Rattle.master_core.specs.declared.records.Talk.{Talk}
 use Rattle.master_core.specs.Each.{Each}
-use Rattle.master_core.specs.Talking.{TalkStandsAt, Now, slave_talked_to}
+use Rattle.master_core.specs.Talking.{TalkStandsAt}
 use Rattle.master_core.proofs.Progress.{progress_init, progress_step, progress_stands, progress_sends, progress_whole}
 use Rattle.master_core.proofs.turns.begin_all.Goals as goal
 

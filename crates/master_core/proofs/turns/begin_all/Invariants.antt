@@ -1,7 +1,7 @@
 use Rattle.std.specs.Prelude.{Some}
 use Rattle.master_spec.specs.Marks.{Begun}
 use Rattle.master_core.specs.Stages.{job_at}
-use Rattle.master_core.specs.Talking.{Now, at_stage}
+use Rattle.master_core.specs.Talking.{at_stage}
 use Rattle.master_core.proofs.Progress.{Progress}
 use Rattle.master_core.proofs.turns.begin_all.Given as goal
 

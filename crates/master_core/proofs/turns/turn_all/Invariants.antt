@@ -1,6 +1,5 @@
 use Rattle.std.specs.Prelude.{Some}
 use Rattle.master_spec.specs.Marks.{Turned}
-use Rattle.master_core.specs.Talking.{Now}
 use Rattle.master_core.proofs.Progress.{Progress}
 use Rattle.master_core.proofs.turns.turn_all.Given as goal
 

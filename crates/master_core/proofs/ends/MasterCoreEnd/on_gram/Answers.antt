@@ -1,4 +1,4 @@
-use Rattle.std.proofs.Common.{◌≡◌, ◌∙◌, ap}
+use Rattle.std.proofs.Common.{◌∙◌, ap}
 use Rattle.std.specs.Prelude.{not}
 use Rattle.dcp_ends.specs.Events.{Gram}
 use Rattle.master_core.proofs.Happening.{gram_stands, gram_sends, over_stands, over_sends}

@@ -1,4 +1,4 @@
-use Rattle.std.proofs.Common.{◌≡◌, ◌∙◌, ap}
+use Rattle.std.proofs.Common.{◌∙◌, ap}
 use Rattle.std.specs.Prelude.{not}
 use Rattle.dcp_ends.specs.Events.{Tick}
 use Rattle.master_core.proofs.Happening.{turn_stands, turn_sends, over_stands, over_sends}

@@ -1,4 +1,4 @@
-use Rattle.std.proofs.Common.{◌≡◌, ℕ, refl, sym, ap, subst, ◌∙◌}
+use Rattle.std.proofs.Common.{ℕ, refl, sym, subst}
 use Rattle.master_spec.specs.Course.{with_next}
 use Rattle.master_core.specs.Standing.{StandsWith, core_setup}
 use Rattle.master_core.proofs.Onward.{begun_stands, begun_sent}

@@ -1,9 +1,9 @@
-use Rattle.std.proofs.Common.{◌≡◌, ◌+◌, ◌≤◌, ◌++◌, refl, sym, ap, subst, ◌∙◌, List, ℕ, length}
-use Rattle.std.specs.Prelude.{ℤ, vec_capacity}
+use Rattle.std.proofs.Common.{◌≡◌, ◌+◌, ◌≤◌, ◌++◌, refl, sym, subst, ◌∙◌, List, length}
+use Rattle.std.specs.Prelude.{vec_capacity}
 use Rattle.std.specs.List.{flat_map}
 use Rattle.master_core.specs.declared.records.Talk.{Talk}
 use Rattle.master_core.specs.Talking.{values_kept, outputs_width}
-use Rattle.master_core.proofs.Counting.{rows_counted, not_due}
+use Rattle.master_core.proofs.Counting.{rows_counted}
 use Rattle.master_core.proofs.Onward.{counted_stands}
 use Rattle.master_core.proofs.records.MasterCore.count_row.Goals as goal
 

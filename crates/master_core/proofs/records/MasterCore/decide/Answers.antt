@@ -1,6 +1,6 @@
-use Rattle.std.proofs.Common.{◌≡◌, ℕ, Option, Some, None, List, refl, sym, ap, subst, ◌∙◌}
+use Rattle.std.proofs.Common.{◌≡◌, ℕ, Option, Some, None, List, sym, ap, subst, ◌∙◌}
 use Rattle.master_spec.specs.declared.reports.Report.{Report}
-use Rattle.master_spec.specs.Course.{Course, CourseTalk as Said, decided, failed}
+use Rattle.master_spec.specs.Course.{Course, decided, failed}
 use Rattle.master_core.specs.declared.records.MasterCore.{MasterCore}
 use Rattle.master_core.specs.declared.records.Talk.{Talk}
 use Rattle.master_core.specs.Each.{Each}

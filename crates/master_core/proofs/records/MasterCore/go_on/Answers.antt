@@ -1,6 +1,6 @@
-use Rattle.std.proofs.Common.{◌≡◌, ℕ, None, map, refl, sym, ap, subst, ◌∙◌}
+use Rattle.std.proofs.Common.{map, refl, sym, ap, subst, ◌∙◌}
 use Rattle.master_spec.specs.declared.setups.Setup.{Setup}
-use Rattle.master_spec.specs.Course.{Course, with_next, decided}
+use Rattle.master_spec.specs.Course.{Course, with_next}
 use Rattle.master_core.specs.Talking.{now_in, slave_talked_to}
 use Rattle.master_core.specs.Standing.{Meets, core_setup}
 use Rattle.master_core.proofs.Onward.{stand_after, behind_next, goes_on, same_setup, finishes, reported, meets_as}

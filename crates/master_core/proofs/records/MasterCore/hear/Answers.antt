@@ -1,8 +1,8 @@
-use Rattle.std.proofs.Common.{◌≡◌, ℕ, Bool, Some, List, ◌++◌, map, refl, sym, ap, subst, ◌∙◌}
+use Rattle.std.proofs.Common.{List, ◌++◌, ap, ◌∙◌}
 use Rattle.std.specs.List.{flat_map}
 use Rattle.dcp_ends.specs.Events.{Send}
 use Rattle.master_spec.specs.Course.{CourseTalk as Said, sends_after, mark_of_gram}
-use Rattle.master_core.specs.Talking.{TalkStandsAt, now_in}
+use Rattle.master_core.specs.Talking.{now_in}
 use Rattle.master_core.proofs.Onward.{marked_stands, is_now}
 use Rattle.master_core.proofs.records.MasterCore.hear.Goals as goal
 

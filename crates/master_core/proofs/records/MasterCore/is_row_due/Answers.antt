@@ -3,7 +3,6 @@ use Rattle.std.proofs.lemmas.Bool.{ne_eqb}
 use Rattle.master_core.specs.declared.records.Talk.{Talk}
 use Rattle.master_core.specs.Each.{Each}
 use Rattle.master_core.specs.Talking.{TalkStandsAt, now_in}
-use Rattle.std.specs.Prelude.{ℤ}
 use Rattle.std.specs.List.{list_all}
 use Rattle.master_spec.specs.Course.{Course, has_passed, row_now}
 use Rattle.master_core.specs.Standing.{is_due_at, is_row_due, StandsFor}

@@ -1,7 +1,7 @@
-use Rattle.std.proofs.Common.{◌≡◌, Bool, true, false, refl, sym, ap, subst, ◌∙◌, List, ℕ}
+use Rattle.std.proofs.Common.{◌≡◌, Bool, true, false, sym, ap, subst, ◌∙◌, List}
 use Rattle.std.specs.List.{list_all}
 use Rattle.master_spec.specs.declared.setups.Setup.{Setup}
-use Rattle.master_spec.specs.Course.{Course, CourseTalk as Said, with_turns, is_settled, is_quiet, decided, decided_if, failed}
+use Rattle.master_spec.specs.Course.{Course, with_turns, is_settled, is_quiet, decided, decided_if, failed}
 use Rattle.master_core.specs.declared.records.Talk.{Talk}
 use Rattle.master_core.specs.Each.{Each}
 use Rattle.master_core.specs.Talking.{TalkStandsAt, now_in}

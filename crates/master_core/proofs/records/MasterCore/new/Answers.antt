@@ -1,11 +1,10 @@
-use Rattle.std.proofs.Common.{◌≡◌, ◌≤◌, ◌*◌, ◌+◌, ◌^◌, ◌-◌, ℕ, List, [], map, length, refl, sym, ap, subst, ◌∙◌, arith}
-use Rattle.std.specs.Prelude.{ℤ}
+use Rattle.std.proofs.Common.{◌≡◌, List, length, refl, sym, ap, subst, ◌∙◌, arith}
 use Rattle.std.specs.List.{AllByRecursion}
-use Rattle.std.proofs.lemmas.List.Elements.{recursion_from_All, All-nil}
+use Rattle.std.proofs.lemmas.List.Elements.{recursion_from_All}
 use Rattle.master_spec.specs.declared.setups.Slave.{Slave}
 use Rattle.master_core.specs.declared.records.Talk.{Talk}
 use Rattle.master_spec.specs.Askable.{IsScriptAskable}
-use Rattle.master_core.specs.Talking.{IsFreshTalk, slave_talked_to, outputs_width}
+use Rattle.master_core.specs.Talking.{IsFreshTalk, outputs_width}
 use Rattle.master_core.specs.Apart.{AreSlavesApart}
 use Rattle.master_core.proofs.Speakers.{apart_from}
 use Rattle.master_core.proofs.Fresh.{fresh_stand, slaves_few, first_behind, empty_rows}

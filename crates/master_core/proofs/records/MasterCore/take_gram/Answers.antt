@@ -1,4 +1,3 @@
-use Rattle.std.proofs.Common.{◌≡◌}
 use Rattle.master_core.specs.Standing.{core_setup, with_gram_heard}
 use Rattle.master_core.proofs.records.MasterCore.take_gram.Goals as goal
 

@@ -1,4 +1,4 @@
-use Rattle.std.proofs.Common.{◌≡◌, ◌-◌, ◌==◌, Bool, refl, sym, ap, subst, ◌∙◌, List, ℕ, arith, eq-eqb}
+use Rattle.std.proofs.Common.{◌≡◌, Bool, sym, ap, subst, ◌∙◌, ℕ, arith, eq-eqb}
 use Rattle.std.specs.Prelude.{if◌then◌else◌}
 use Rattle.std.specs.List.{list_all}
 use Rattle.master_spec.specs.Course.{with_next, still, course_turned, with_turns, is_settled}

@@ -1,12 +1,10 @@
-use Rattle.std.proofs.Common.{◌≡◌, ℕ, Bool, Some, List, ◌++◌, map, refl, sym, ap, subst, ◌∙◌}
+use Rattle.std.proofs.Common.{◌≡◌, Bool, Some, List, ◌++◌, map, sym, ap, subst, ◌∙◌}
 use Rattle.std.specs.List.{list_all, flat_map}
 use Rattle.master_spec.specs.Marks.{Turned}
 use Rattle.master_spec.specs.Course.{Course, CourseTalk as Said, marked, sends_after, is_settled}
-use Rattle.master_core.specs.declared.records.MasterCore.{MasterCore}
 use Rattle.master_core.specs.declared.records.Talk.{Talk}
 use Rattle.master_core.specs.Each.{Each}
 use Rattle.master_core.specs.Talking.{TalkStandsAt, now_in}
-use Rattle.master_core.specs.Standing.{Meets, core_setup}
 use Rattle.master_core.proofs.Onward.{marked_stands, meets_as}
 use Rattle.dcp_ends.specs.Events.{Send}
 use Rattle.master_core.proofs.records.MasterCore.turn_talks.Goals as goal

@@ -1,11 +1,4 @@
-use Rattle.std.proofs.Common.{◌≡◌, Some, sym, ap, subst, ◌∙◌, refl, List, ◌++◌}
-use Rattle.dcp_ends.specs.Events.{Send}
-use Rattle.conversation.specs.declared.records.Conversation.{Conversation}
-use Rattle.conversation.specs.Standing.{Stands, due_of}
-use Rattle.master_spec.specs.Marks.{Begun}
-use Rattle.master_spec.specs.Jobs.{Job}
-use Rattle.master_spec.specs.declared.setups.Slave.{Slave}
-use Rattle.master_core.specs.Stages.{job_at}
+use Rattle.std.proofs.Common.{refl}
 use Rattle.master_core.proofs.Begins.{begin_stands, begin_sends}
 use Rattle.master_core.proofs.records.Talk.begin.Goals as goal
 

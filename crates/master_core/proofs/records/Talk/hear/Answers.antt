@@ -1,4 +1,4 @@
-use Rattle.std.proofs.Common.{◌≡◌, sym, ap, ◌∙◌, refl}
+use Rattle.std.proofs.Common.{ap, ◌∙◌, refl}
 use Rattle.master_spec.specs.Course.{payload_size}
 use Rattle.master_core.proofs.Hearings.{small_taken, heard_stands, heard_sends}
 use Rattle.master_core.proofs.records.Talk.hear.Goals as goal

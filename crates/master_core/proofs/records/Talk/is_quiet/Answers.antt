@@ -1,4 +1,4 @@
-use Rattle.std.proofs.Common.{◌≡◌, Bool, true, false, ◌&&◌, sym, ap, ◌∙◌, refl}
+use Rattle.std.proofs.Common.{◌≡◌, Bool, true, false, ◌&&◌, ◌∙◌, refl}
 use Rattle.std.specs.Prelude.{not, is_some}
 use Rattle.master_spec.specs.Marks.{open_request}
 use Rattle.master_spec.specs.Course.{is_settled, has_passed}

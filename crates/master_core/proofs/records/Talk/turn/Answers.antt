@@ -1,11 +1,8 @@
-use Rattle.std.proofs.Common.{◌≡◌, Some, sym, ap, subst, ◌∙◌, refl, List, ◌++◌}
-use Rattle.dcp_types.specs.declared.limits.Limits.{Limits}
+use Rattle.std.proofs.Common.{Some, ap, ◌∙◌, refl, List, ◌++◌}
 use Rattle.dcp_ends.specs.Events.{Send}
-use Rattle.conversation.specs.declared.records.Conversation.{Conversation}
-use Rattle.conversation.specs.Standing.{Stands, due_of}
+use Rattle.conversation.specs.Standing.{due_of}
 use Rattle.master_spec.specs.Marks.{Turned}
-use Rattle.master_spec.specs.Conversation.{marks_after}
-use Rattle.master_core.proofs.Carried.{carry_heard, old_after, turned_carried}
+use Rattle.master_core.proofs.Carried.{turned_carried}
 use Rattle.master_core.proofs.Cleared.{can_after, sent_after}
 use Rattle.master_core.proofs.records.Talk.turn.Goals as goal
 

@@ -1,4 +1,4 @@
-use Rattle.std.proofs.Common.{◌≡◌, sym, ◌∙◌}
+use Rattle.std.proofs.Common.{sym, ◌∙◌}
 use Rattle.master_core.proofs.Within.{next_inside}
 use Rattle.master_core.proofs.stages.Schedule.advanced.Goals as goal
 
