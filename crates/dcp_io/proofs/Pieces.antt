@@ -1,5 +1,5 @@
 -- Writes one after the other, where the bytes are told.
-use Rattle.std.proofs.Common.{◌≡◌, ℕ, ◌+◌, ◌≤◌, List, [], ◌++◌, length, take, drop, sym, ap, ◌∙◌, arith, Option, Some, None, append_assoc, refl, subst, take-append-drop}
+use Rattle.std.proofs.Common.{◌≡◌, ℕ, ◌+◌, List, [], ◌++◌, take, drop, sym, ap, ◌∙◌, arith, Option, Some, None, append_assoc, subst, take-append-drop}
 use Rattle.std.proofs.lemmas.List.{take-take, drop-take, append-nil}
 use Rattle.std.specs.Io.KnownBytes.{Appends, Keeps}
 

@@ -3,7 +3,6 @@ use Rattle.std.proofs.Common.{◌≡◌, ℕ, Bool, true, false, List, [], ◌++
 use Rattle.std.proofs.lemmas.List.{append-nil}
 use Rattle.std.specs.Io.KnownBytes.{Appends}
 use Rattle.dcp_io.specs.Faults.{Rose}
-use Rattle.dcp_io.specs.declared.outputs.Delivery.{Delivery}
 use Rattle.dcp_io.specs.declared.outputs.Delivery.TheVariants.{Whole, Cut}
 use Rattle.dcp_io.specs.Outputs.{Delivers}
 use Rattle.dcp_io.specs.Spools.{Spooled, SpooledIf}

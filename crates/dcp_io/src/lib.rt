@@ -7,6 +7,7 @@
 //! write failed.
 #![tactic(auto)]
 
+mod calls;
 mod memory_sinks;
 mod memory_sources;
 mod outputs;
@@ -24,5 +25,5 @@ pub use reads::{Read, Source};
 pub use spools::Spool;
 pub use std_sinks::StdSink;
 pub use std_sources::StdSource;
-pub use turns::{Turn, turn_of};
+pub use turns::{Turn, read_of, turn_of, written_of};
 pub use writes::{Sink, Written};

@@ -6,7 +6,7 @@ use Rattle.dcp_ends.specs.declared.entries.LogEntry.{LogEntry}
 use Rattle.dcp_record.specs.Traces.{IsRecordable, log_entry_bytes, all_entry_bytes}
 use Rattle.dcp_ends.specs.declared.entries.LogEntry.TheVariants.{Sent, Got, Idle, Turn}
 use Rattle.dcp_record.specs.Cuts.{AreEntries}
-use Rattle.dcp_record.specs.Places.{IsRunLog, gots_in}
+use Rattle.dcp_record.specs.Places.{IsCountedLog, gots_in}
 use Rattle.dcp_record.proofs.Joined.{all_entry_bytes-append}
 use Rattle.dcp_record.proofs.Next.{entry_some}
 
@@ -25,7 +25,7 @@ gots-append (Idle at ∷ es) fs = gots-append es fs
 gots-append (Turn at ∷ es) fs = gots-append es fs
 
 -- a log with an entry more, and its count
-pub longer : (old new : List ℕ) (before now : ℕ) (es fs : List LogEntry) (e : LogEntry) → IsRunLog old before es → IsRecordable e → now ≡ before + gots_in (e ∷ []) → new ≡ old ++ log_entry_bytes e → fs ≡ es ++ e ∷ [] → IsRunLog new now fs
+pub longer : (old new : List ℕ) (before now : ℕ) (es fs : List LogEntry) (e : LogEntry) → IsCountedLog old before es → IsRecordable e → now ≡ before + gots_in (e ∷ []) → new ≡ old ++ log_entry_bytes e → fs ≡ es ++ e ∷ [] → IsCountedLog new now fs
 longer old new before now es fs e k fits counted bytes is = record {
   all = grown old new es fs e k.all fits bytes is;
   counted = counted ∙ ap (λ (n : ℕ). n + gots_in (e ∷ [])) k.counted ∙ sym (ap gots_in is ∙ gots-append es (e ∷ []));
@@ -47,5 +47,5 @@ pub at_most : (b : List ℕ) (es : List LogEntry) → AreEntries b es → length
 at_most b es k = omega (arith, ap length k.parts, at_most_bytes es)
 
 -- and as datagrams that were got
-pub gots_at_most : (b : List ℕ) (gots : ℕ) (es : List LogEntry) → IsRunLog b gots es → gots ≤ length b
+pub gots_at_most : (b : List ℕ) (gots : ℕ) (es : List LogEntry) → IsCountedLog b gots es → gots ≤ length b
 gots_at_most b gots es k = omega (arith, k.counted, few_gots es, at_most b es k.all)

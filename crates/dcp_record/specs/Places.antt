@@ -23,7 +23,7 @@ gots_in (Idle at ∷ entries) = gots_in entries
 gots_in (Turn at ∷ entries) = gots_in entries
 
 -- these bytes are the entries of a log, and so many of them tell of a datagram that was got
-pub record IsRunLog (b : List ℕ) (gots : ℕ) (entries : List LogEntry) : Type 0 where
+pub record IsCountedLog (b : List ℕ) (gots : ℕ) (entries : List LogEntry) : Type 0 where
   pub all : AreEntries b entries
   pub counted : gots ≡ gots_in entries
 

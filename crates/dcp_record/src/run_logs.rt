@@ -27,13 +27,13 @@ pub struct RunLog {
 
 impl Model for RunLog {
     ghost use Rattle.std.specs.Prelude.{◌-◌, vec_len, vec_capacity};
-    ghost use Rattle.dcp_record.specs.Places.{IsRunLog, LogSoFar};
+    ghost use Rattle.dcp_record.specs.Places.{IsCountedLog, LogSoFar};
 
     ghost Value = { LogSoFar };
 
     ghost view = { λ l. record { entries = l.told.entries; room = vec_capacity l.bytes - vec_len l.bytes } };
 
-    ghost invariant = { λ l. IsRunLog l.bytes.items l.gots l.told.entries };
+    ghost invariant = { λ l. IsCountedLog l.bytes.items l.gots l.told.entries };
 }
 
 impl RunLog {

@@ -1,4 +1,4 @@
-use Rattle.std.proofs.Common.{◌≡◌, Bool, true, false, List, ℕ, [], sym, subst, take}
+use Rattle.std.proofs.Common.{Bool, [], sym, subst, take}
 use Rattle.dcp_io.specs.declared.outputs.Delivery.{Delivery}
 use Rattle.dcp_io.specs.Outputs.{Delivers}
 use Rattle.dcp_io.specs.Spools.{Spooled, SpooledIf}
