@@ -1,4 +1,3 @@
-pub mod Taken
 pub mod Pieces
 pub mod Naming
 pub mod NamedSlaves

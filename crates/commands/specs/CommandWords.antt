@@ -2,7 +2,7 @@
 use Rattle.std.specs.Prelude.{◌≡◌, ◌⊎◌, ℕ, ◌≤◌, true, Option, Some, None, Ok, List, [], ◌∷◌, length, codes}
 use Rattle.dcp_types.specs.Names.{is_name}
 use Rattle.text_lines.specs.Numbers.{number_from}
-use Rattle.commands.specs.Lines.{is_line}
+use Rattle.command_line.specs.Lines.{is_line}
 use Rattle.commands.specs.declared.command_words.Command.{Command}
 use Rattle.commands.specs.declared.command_words.Command.TheVariants.{Decode, Encode, Describe, Reference, Talk, Run, Replay, Soak, Conform}
 use Rattle.commands.specs.declared.word_lists.Named.{Named}

@@ -1,4 +1,3 @@
-pub mod Lines
 -- What is promised: the words and the statuses, what is taken of a source and written to a sink, what each command says of an input, and which answer comes why.
 pub mod CommandWords
 pub mod Statuses

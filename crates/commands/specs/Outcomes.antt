@@ -1,6 +1,6 @@
 -- What a call of the program answers, by its status: why, what of the source was taken, and what was written.
 use Rattle.std.specs.Prelude.{◌≡◌, ◌⊎◌, ℕ, true, List, [], codes}
-use Rattle.commands.specs.Lines.{is_line}
+use Rattle.command_line.specs.Lines.{is_line}
 use Rattle.commands.specs.declared.command_words.Command.{Command}
 use Rattle.commands.specs.declared.answers.Unsaid.TheVariants as unsaid
 use Rattle.commands.specs.declared.statuses.Status.{Status}

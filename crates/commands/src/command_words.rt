@@ -1,12 +1,12 @@
 //! The commands by their words.
 
 ghost use Rattle.std.specs.Prelude.{◌≡◌, ◌∷◌, [], ℕ, MatchOption};
-ghost use Rattle.commands.specs.Lines.{words_in_line};
+ghost use Rattle.command_line.specs.Lines.{words_in_line};
 ghost use Rattle.commands.specs.CommandWords.{IsCommand, IsSoakNumber, Names, own_number};
 ghost use Rattle.commands.specs.Limits.{limit_of};
 
-use crate::CommandLine;
 use crate::inputs::{LIMIT, TRACE_LIMIT};
+use command_line::CommandLine;
 use dcp_types::is_name;
 use text_lines::number_from;
 

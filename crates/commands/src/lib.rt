@@ -10,7 +10,6 @@
 mod answers;
 mod command_words;
 mod inputs;
-mod lines;
 mod programs;
 mod refusals;
 mod said;
@@ -22,7 +21,6 @@ mod word_lists;
 
 pub use command_words::Command;
 pub use inputs::{Gathered, LIMIT, TRACE_LIMIT, read_input};
-pub use lines::{CommandLine, read_words};
 pub use programs::{Ended, run_program};
 pub use refusals::{refuse_line, refuse_past_limit, refuse_text};
 pub use said::{Statement, Text, write_text};

@@ -1,11 +1,11 @@
 //! The words of the command line.
 
 ghost use Rattle.std.specs.Prelude.{◌≡◌, ◌++◌, ◌∷◌, [], None, Ok, OnOk, OnErr, IfOk, MatchOption, false, map, string_bytes};
-ghost use Rattle.commands.specs.Lines.{is_line, words_in_line};
+ghost use Rattle.command_line.specs.Lines.{is_line, words_in_line};
 ghost use Rattle.commands.specs.CommandWords.{ReadsWords};
 
 use crate::command_words::Command;
-use crate::{CommandLine, read_words};
+use command_line::{CommandLine, read_words};
 use dcp_types::OutOfMemory;
 use std::alloc::Global;
 use std::marker::Model;

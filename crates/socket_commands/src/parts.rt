@@ -2,10 +2,11 @@
 
 ghost use Rattle.std.specs.Prelude.{◌≡◌, ◌⊎◌, codes, ◌≤◌, ◌<◌, ◌^◌, ⊤, true, length, map, string_bytes, IfOk, MatchOption};
 ghost use Rattle.dcp_types.specs.Names.{is_name};
-ghost use Rattle.commands.specs.Lines.{words_in_line};
+ghost use Rattle.command_line.specs.Lines.{words_in_line};
 ghost use Rattle.socket_commands.specs.Parts.{HasNoPart, IsLive, IsPart, NamesPart, bits_in, hosted_of};
 
-use commands::{CommandLine, Words, slave_named};
+use command_line::CommandLine;
+use commands::{Words, slave_named};
 use dcp_types::{OutOfMemory, is_name};
 use host::Hosted;
 use scenario::Scenario;

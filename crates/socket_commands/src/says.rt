@@ -1,7 +1,7 @@
 //! What a command over sockets says of a text.
 
 ghost use Rattle.std.specs.Prelude.{◌≡◌, IfOk, IfErr};
-ghost use Rattle.commands.specs.Lines.{words_in_line};
+ghost use Rattle.command_line.specs.Lines.{words_in_line};
 ghost use Rattle.socket_commands.specs.Answers.{GivesLive, IsLiveRefusal, IsWritableLive};
 ghost use Rattle.socket_commands.specs.Parts.{IsLive};
 ghost use Rattle.socket_commands.specs.Stops.{StopsLive};
@@ -10,7 +10,8 @@ use crate::answers::LiveAnswer;
 use crate::endings::ended;
 use crate::hosting::{LiveFault, host_part};
 use crate::parts::part_of;
-use commands::{CommandLine, LIMIT, refuse_line, refuse_past_limit, refuse_text};
+use command_line::CommandLine;
+use commands::{LIMIT, refuse_line, refuse_past_limit, refuse_text};
 use dcp_net::{Net, Ready};
 use scenario_text::read_scenario;
 use std::alloc::Global;

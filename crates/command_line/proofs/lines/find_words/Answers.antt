@@ -6,8 +6,8 @@ use Rattle.clap.specs.Words.{App, Text, app_of, first_value, found_of, is_simple
 use Rattle.clap.specs.declared.builder.command.Command.{Command}
 use Rattle.clap.specs.declared.builder.command.Command.TheOpen.{Command-F}
 use Rattle.clap.proofs.WalkLemmas.{first_value-rows}
-use Rattle.commands.proofs.Taken.{bare, command_found, command_rule, grammar, line_taken, operand_found, operand_rule, set}
-use Rattle.commands.proofs.lines.find_words.Goals as goal
+use Rattle.command_line.proofs.Taken.{bare, command_found, command_rule, grammar, line_taken, operand_found, operand_rule, set}
+use Rattle.command_line.proofs.lines.find_words.Goals as goal
 
 module _ (c : goal.After-try_get_matches_from) where
   abbrev words : List Text

@@ -2,7 +2,7 @@
 
 ghost use Rattle.std.specs.Prelude.{◌≡◌, false, true, IfErr, IfOk, IfSome, MatchOption, None, Ok, codes, map, option_map, slice_get, string_bytes};
 ghost use Rattle.clap.specs.Words.{first_value, found_of, kind_of};
-ghost use Rattle.commands.specs.Lines.{is_line, is_option, words_in_line};
+ghost use Rattle.command_line.specs.Lines.{is_line, is_option, words_in_line};
 
 use clap::error::ErrorKind;
 use clap::{Arg, ArgMatches, Command, Error};

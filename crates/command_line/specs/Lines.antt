@@ -1,7 +1,7 @@
 -- The words that are a line, and the words that a line has.
 use Rattle.std.specs.Prelude.{◌==◌, ◌&&◌, ℕ, Bool, false, not, List, [], ◌∷◌, Option, Some, None, slice_index}
 use Rattle.std.specs.Borrow.{Bor}
-use Rattle.commands.specs.declared.lines.CommandLine.{CommandLine}
+use Rattle.command_line.specs.declared.lines.CommandLine.{CommandLine}
 
 -- the word begins with `-` (45)
 abbrev pub is_option : (word : List ℕ) → Bool

@@ -12,7 +12,7 @@ use Rattle.clap.specs.Takes.{bundle_passes, default_passes, flag_word_passes, is
 use Rattle.clap.specs.Words.{App, Rule, Shape, Text, built, matches_of, new_app, new_rule, takes, with_rule}
 use Rattle.clap.proofs.TakesLemmas.{leaf_takes}
 use Rattle.clap.proofs.WalkLemmas.{both}
-use Rattle.commands.specs.Lines.{is_line, is_option}
+use Rattle.command_line.specs.Lines.{is_line, is_option}
 
 -- ---- a word that begins with no `-`
 
