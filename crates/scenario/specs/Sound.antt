@@ -8,7 +8,7 @@ use Rattle.scenario.specs.declared.net_plans.NetLine.{NetLine}
 use Rattle.scenario.specs.declared.net_plans.NetLine.TheVariants as lines
 use Rattle.scenario.specs.declared.net_plans.Chaos.{Chaos}
 use Rattle.scenario.specs.declared.net_plans.NetPlan.{NetPlan}
-use Rattle.slave_desc.specs.Descriptions.{IsDesc}
+use Rattle.slave_desc.specs.Descriptions.{IsDesc, HasModel}
 use Rattle.slave_desc.specs.declared.descriptions.SlaveDesc.{SlaveDesc}
 use Rattle.scenario.specs.Lookups.{outputs_at, inputs_at, parameters_at, type_at}
 use Rattle.scenario.specs.Wiring.{same_input}
@@ -103,6 +103,11 @@ pub record IsLimits (l : Limits) : Type 0 where
   pub retry_turns : (1 ≤ l.retry_turns) × (l.retry_turns ≤ 1000)
   pub data_turns : (1 ≤ l.data_turns) × (l.data_turns ≤ 1000)
   pub step_tries : (2 ≤ l.step_tries) × (l.step_tries ≤ 20)
+
+-- each slave's model is one of this program's: what a master needs of a scenario is `IsScenario` alone, and this is what is needed besides
+-- where its slaves run here, or where what they show is computed
+abbrev pub HaveModels : List SlaveDesc → Type 0
+HaveModels slaves = All (λ d. HasModel d) slaves
 
 -- a scenario that a text can give
 pub record IsScenario (s : Scenario) : Type 0 where

@@ -1,14 +1,18 @@
 -- Which descriptions are sound.
-use Rattle.std.specs.Prelude.{◌≡◌, ◌≢◌, ◌≤◌, ◌<◌, ◌^◌, true, List, length, FitsSigned, All, AllPairs}
+use Rattle.std.specs.Prelude.{◌≡◌, ◌≢◌, ◌≤◌, ◌<◌, ◌^◌, true, false, List, length, FitsSigned, All, AllPairs}
 use Rattle.std.specs.Int.{w64}
 use Rattle.dcp_types.specs.Names.{is_name}
-use Rattle.fixed_models.specs.Kinds.{takes, has_ports}
+use Rattle.fixed_models.specs.Kinds.{is_external, takes, has_ports}
 use Rattle.slave_desc.specs.declared.ports.Port.{Port}
 use Rattle.slave_desc.specs.declared.descriptions.SlaveDesc.{SlaveDesc}
 
 -- ports have value references of their own
 abbrev pub AreApart : List Port → Type 0
 AreApart ports = AllPairs (λ p q. p.vr ≢ q.vr) ports
+
+-- its model is one of this program's, so that its steps can be computed here
+abbrev pub HasModel : SlaveDesc → Type 0
+HasModel d = is_external d.kind ≡ false
 
 -- a description whose parts are in range
 pub record IsDesc (d : SlaveDesc) : Type 0 where

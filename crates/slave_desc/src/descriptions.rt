@@ -14,6 +14,7 @@ pub struct SlaveDesc {
     pub uuid: u128,
     /// The port is 1 or more.
     pub address: Address,
+    /// One of this program's, or `Kind::External`, which a slave of another make has.
     pub kind: Kind,
     /// Those that the kind takes.
     pub parameters: Parameters,
