@@ -49,7 +49,7 @@ module _ (sc : Scenario) (sound : IsScenario sc) (rows : List (List ℤ)) (fault
       let place : row_index sc.steps r k ≡ i = place_at sc i in
       let moment : IsMoment sc r k = moment_at sc i (omega (arith, lt, few_rows)) in
       let here : row sc rows r k ≡ Ok (get_or rows i []) = rw place at (reference.each r k moment (omega (arith, place, lt))) in
-      row_is sc rows r k (get_or rows i []) sound here
+      row_is sc rows r k (get_or rows i []) here
 
   summable : (summed rest : List (List ℤ)) → rows ≡ summed ++ rest → AreSummable summed
   unfolding IsWide

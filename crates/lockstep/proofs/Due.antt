@@ -1,12 +1,12 @@
 -- The parameters of a run, setting by setting.
-use Rattle.std.proofs.Common.{◌≡◌, ℕ, suc, ◌+◌, ◌≤◌, ◌<◌, Bool, true, false, ◌==◌, ◌&&◌, List, [], ◌∷◌, ◌++◌, length, take, map, refl, sym, ◌∙◌, ap, arith, ℤ, Option, Some}
+use Rattle.std.proofs.Common.{◌≡◌, ℕ, suc, ◌+◌, ◌≤◌, ◌<◌, Bool, true, false, not, ◌==◌, ◌&&◌, List, [], ◌∷◌, ◌++◌, length, take, map, refl, sym, ◌∙◌, ap, arith, ℤ, Option, Some}
 use Rattle.std.specs.Prelude.{filter, nat_le, All, AllPairs}
 use Rattle.std.proofs.Math.Seq.{take-append-add}
 use Rattle.std.proofs.lemmas.Bool.{leb-false, lt-leb}
 use Rattle.std.proofs.lemmas.List.{take-map, length-map}
-use Rattle.fixed_models.specs.Kinds.{takes, has_inputs, output_count}
+use Rattle.fixed_models.specs.Kinds.{is_external, takes, output_count}
 use Rattle.slave_desc.specs.declared.descriptions.SlaveDesc.{SlaveDesc}
-use Rattle.slave_desc.specs.Descriptions.{IsDesc}
+use Rattle.slave_desc.specs.Descriptions.{IsDesc, HasModel}
 use Rattle.scenario.specs.declared.scenarios.Scenario.{Scenario}
 use Rattle.scenario.specs.declared.scenarios.Setting.{Setting}
 use Rattle.scenario.specs.declared.scenarios.Rerun.{Rerun}
@@ -15,6 +15,7 @@ use Rattle.scenario.specs.Settings.{changed, setting_in, taken_by, takes_at, set
 use Rattle.scenario.specs.Sound.{IsScenario, changes}
 use Rattle.fixed_models.specs.Views.{accepts}
 use Rattle.lockstep.specs.Parts.{types_of_outputs}
+use Rattle.lockstep.proofs.Serving.{outputs_counted}
 
 AllPairs-head : {X : Type 0} (R : X → X → Type 0) (x : X) (xs : List X) → AllPairs R (x ∷ xs) → All (R x) xs
 AllPairs-head R x xs h k d lt = h 0 (suc k) d (omega arith) (omega arith)
@@ -51,16 +52,12 @@ settings_first sc r sound =
     ∙ ap (λ (xs : List Setting). sc.settings ++ xs) (sym (take-map setting_in n sc.reruns))
     ∙ sym (take-append-add sc.settings (map setting_in sc.reruns) n)
 
-and_second : (a b : Bool) → (a && b) ≡ true → b ≡ true
-and_second true b h = h
-and_second false b h = cc
-
 both_true : (a b : Bool) → a ≡ true → b ≡ true → (a && b) ≡ true
 both_true a b h k = rw h k
 
 -- the kind takes the parameters of each run
-pub accepted : (sc : Scenario) (s r : ℕ) (d : SlaveDesc) → IsScenario sc → slave_at sc.slaves s ≡ Some d → (1 ≤ s) × (s ≤ length sc.slaves) → IsDesc d → accepts d.kind (parameters sc s d r) (length (types_of_outputs d)) ≡ true
-accepted sc s r d sound is slave desc =
+pub accepted : (sc : Scenario) (s r : ℕ) (d : SlaveDesc) → IsScenario sc → slave_at sc.slaves s ≡ Some d → (1 ≤ s) × (s ≤ length sc.slaves) → IsDesc d → HasModel d → accepts d.kind (parameters sc s d r) (length (types_of_outputs d)) ≡ true
+accepted sc s r d sound is slave desc here =
     let n = length sc.settings + length (filter (λ x. nat_le x.run r) sc.reruns) in
     let all = sound.taken n s slave in
     let same : parameters_at sc.slaves s ≡ d.parameters = ap parameters_in is in
@@ -70,7 +67,6 @@ accepted sc s r d sound is slave desc =
     ∙ all in
     let taken : takes d.kind (parameters sc s d r) ≡ true =
     ap (λ (xs : List Setting). takes d.kind (changed d.parameters s xs)) (settings_first sc r sound) ∙ took in
-    let ports : (length d.outputs == output_count d.kind) ≡ true = and_second (has_inputs d.kind (length d.inputs)) (length d.outputs == output_count d.kind) desc.ports in
     let count : (length (types_of_outputs d) == output_count d.kind) ≡ true =
-    ap (λ (x : ℕ). x == output_count d.kind) (length-map d.outputs (λ p. p.kind)) ∙ ports in
-    both_true (takes d.kind (parameters sc s d r)) (length (types_of_outputs d) == output_count d.kind) taken count
+    ap (λ (x : ℕ). x == output_count d.kind) (length-map d.outputs (λ p. p.kind)) ∙ outputs_counted d desc here in
+    both_true (not (is_external d.kind) && takes d.kind (parameters sc s d r)) (length (types_of_outputs d) == output_count d.kind) (both_true (not (is_external d.kind)) (takes d.kind (parameters sc s d r)) (ap not here) taken) count

@@ -1,11 +1,11 @@
 -- A row that is filled slave by slave.
-use Rattle.std.proofs.Common.{◌≡◌, ℕ, zero, suc, ◌+◌, ◌-◌, ◌≤◌, ◌<◌, Bool, true, false, ◌==◌, cond, List, [], ◌∷◌, ◌++◌, length, drop, get_or, refl, sym, ◌∙◌, ap, subst, arith, append_assoc, below_more, ℤ, pos, negsuc, ◌^◌, ◌≤ℤ◌, Some, slice_get, Result, Ok, Err}
+use Rattle.std.proofs.Common.{◌≡◌, ℕ, zero, suc, ◌+◌, ◌-◌, ◌≤◌, ◌<◌, Bool, true, false, cond, List, [], ◌∷◌, ◌++◌, length, drop, get_or, refl, sym, ◌∙◌, ap, subst, arith, append_assoc, below_more, ℤ, pos, negsuc, ◌^◌, ◌≤ℤ◌, Some, slice_get, Result, Ok, Err}
 use Rattle.std.specs.Prelude.{slice_set as set, All, int_le}
 use Rattle.std.specs.Int.Signed.{le_z_yes}
 use Rattle.std.proofs.lemmas.Float.{T_from_true}
 use Rattle.std.proofs.lemmas.Int.{ints}
 use Rattle.std.proofs.lemmas.List.{drop_more, drop_all, append-nil, length-append, length-map, length-set}
-use Rattle.std.proofs.lemmas.List.Elements.{All-append, All-nil, All-cons, All-head, All-tail}
+use Rattle.std.proofs.lemmas.List.Elements.{All-append, All-nil, All-cons}
 use Rattle.std.proofs.lemmas.List.Sums.{sum_by-cons}
 use Rattle.std.proofs.lemmas.Option.{slice_get_within, get_or_from_slice_get}
 use Rattle.dcp_types.specs.declared.data_types.DataType.{DataType}
@@ -14,13 +14,10 @@ use Rattle.dcp_types.specs.declared.fault_codes.FaultCode.{FaultCode}
 use Rattle.dcp_types.specs.declared.fault_codes.FaultCode.TheVariants.{OutOfRange}
 use Rattle.dcp_types.specs.Values.{fits, least, greatest}
 use Rattle.fixed_models.specs.Domains.{IsInput}
-use Rattle.fixed_models.specs.Kinds.{has_inputs, output_count}
 use Rattle.fixed_models.specs.Steps.{outputs, all_fit}
 use Rattle.slave_desc.specs.declared.descriptions.SlaveDesc.{SlaveDesc}
-use Rattle.slave_desc.specs.Descriptions.{IsDesc}
 use Rattle.scenario.specs.declared.scenarios.Scenario.{Scenario}
 use Rattle.scenario.specs.Totals.{total_outputs}
-use Rattle.scenario.specs.Sound.{IsScenario}
 use Rattle.lockstep.specs.declared.parts.Part.{Part}
 use Rattle.lockstep.specs.declared.references.RefFault.{RefFault}
 use Rattle.lockstep.specs.Cut.{Grid, SameRows}
@@ -28,8 +25,7 @@ use Rattle.scenario.specs.Settings.{parameters}
 use Rattle.lockstep.specs.Lockstep.{row, row_from, beside, shown, shown_at, shown_of, state}
 use Rattle.lockstep.specs.Parts.{PartStandsAt, AllStand, types_of_outputs}
 use Rattle.lockstep.specs.Filling.{behind, Filled}
-use Rattle.lockstep.proofs.Showing.{length-outputs}
-use Rattle.lockstep.proofs.Serving.{same_count, both_first, both_second}
+use Rattle.lockstep.proofs.Serving.{both_first, both_second}
 
 pub same_rows : (g : Grid) → SameRows g g
 same_rows g = record { width = refl; rows = refl }
@@ -164,12 +160,13 @@ fits_input t z h =
     let high : z ≤ℤ greatest t = le_z_yes (T_from_true (int_le z (greatest t)) (both_second (int_le (least t) z) (int_le z (greatest t)) h)) in
     record { low = chain (negsuc (2 ^ 63 - 1)) (least t) z (least_is t) low; high = chain z (greatest t) (pos (2 ^ 64 - 1)) high (greatest_is t) }
 
-all_input : (ts : List DataType) (vs : List ℤ) → length ts ≡ length vs → all_fit ts vs ≡ true → All IsInput vs
-all_input [] [] e h = All-nil IsInput
-all_input [] (v ∷ vs) e h = absurd (omega (arith, e))
-all_input (t ∷ ts) [] e h = absurd (omega (arith, e))
-all_input (t ∷ ts) (v ∷ vs) e h =
-    All-cons IsInput v vs (fits_input t v (both_first (fits t v) (all_fit ts vs) h)) (all_input ts vs (omega (arith, e)) (both_second (fits t v) (all_fit ts vs) h))
+all_input : (ts : List DataType) (vs : List ℤ) → all_fit ts vs ≡ true → (length vs ≡ length ts) × All IsInput vs
+all_input [] [] h = (refl, All-nil IsInput)
+all_input [] (v ∷ vs) h = absurd (cc)
+all_input (t ∷ ts) [] h = absurd (cc)
+all_input (t ∷ ts) (v ∷ vs) h =
+    let rest = all_input ts vs (both_second (fits t v) (all_fit ts vs) h) in
+    (omega (arith, rest.0), All-cons IsInput v vs (fits_input t v (both_first (fits t v) (all_fit ts vs) h)) rest.1)
 
 -- what is shown has a value for each output, and each is an input
 pub IsShown : ℕ → Result (List ℤ) FaultCode → Type 0
@@ -180,21 +177,17 @@ pub IsRow : ℕ → Result (List ℤ) RefFault → Type 0
 IsRow n (Ok vs) = (length vs ≡ n) × All IsInput vs
 IsRow n (Err fault) = Unit {0}
 
-checked_is : (ts : List DataType) (vs : List ℤ) (b : Bool) → length ts ≡ length vs → all_fit ts vs ≡ b → IsShown (length vs) (cond b (Ok vs) (Err OutOfRange))
+checked_is : (ts : List DataType) (vs : List ℤ) (b : Bool) → all_fit ts vs ≡ b → IsShown (length ts) (cond b (Ok vs) (Err OutOfRange))
 unfolding IsShown
-checked_is ts vs true e h = (refl, all_input ts vs e h)
-checked_is ts vs false e h = tt
+checked_is ts vs true h = all_input ts vs h
+checked_is ts vs false h = tt
 
-shown_is : (sc : Scenario) (s : ℕ) (d : SlaveDesc) (r : ℕ) (x : Result (List ℤ) FaultCode) → IsDesc d → IsShown (length d.outputs) (shown_at sc s d r x)
+shown_is : (sc : Scenario) (s : ℕ) (d : SlaveDesc) (r : ℕ) (x : Result (List ℤ) FaultCode) → IsShown (length d.outputs) (shown_at sc s d r x)
 unfolding IsShown
-shown_is sc s d r (Err code) desc = tt
-shown_is sc s d r (Ok x) desc =
+shown_is sc s d r (Err code) = tt
+shown_is sc s d r (Ok x) =
     let vs = outputs d.kind (parameters sc s d r) x in
-    let n : length vs ≡ length d.outputs =
-    length-outputs d.kind (parameters sc s d r) x
-    ∙ sym (same_count (length d.outputs) (output_count d.kind) (both_second (has_inputs d.kind (length d.inputs)) (length d.outputs == output_count d.kind) desc.ports)) in
-    let m : length (types_of_outputs d) ≡ length vs = length-map d.outputs (λ p. p.kind) ∙ sym n in
-    subst (λ (k : ℕ). IsShown k (shown_of (types_of_outputs d) vs)) n (checked_is (types_of_outputs d) vs (all_fit (types_of_outputs d) vs) m refl)
+    subst (λ (k : ℕ). IsShown k (shown_of (types_of_outputs d) vs)) (length-map d.outputs (λ p. p.kind)) (checked_is (types_of_outputs d) vs (all_fit (types_of_outputs d) vs) refl)
 
 beside_is : (s r k n m : ℕ) (x : Result (List ℤ) FaultCode) (y : Result (List ℤ) RefFault) → IsShown n x → IsRow m y → IsRow (n + m) (beside s r k x y)
 unfolding IsShown IsRow
@@ -206,15 +199,15 @@ row_nil : IsRow 0 (Ok [])
 unfolding IsRow
 row_nil = (refl, All-nil IsInput)
 
-row_from_is : (sc : Scenario) (rows : List (List ℤ)) (r k s : ℕ) (ds : List SlaveDesc) → All (λ d. IsDesc d) ds → IsRow (total_outputs ds) (row_from sc rows r k s ds)
-row_from_is sc rows r k s [] h = row_nil
-row_from_is sc rows r k s (d ∷ ds) h =
+row_from_is : (sc : Scenario) (rows : List (List ℤ)) (r k s : ℕ) (ds : List SlaveDesc) → IsRow (total_outputs ds) (row_from sc rows r k s ds)
+row_from_is sc rows r k s [] = row_nil
+row_from_is sc rows r k s (d ∷ ds) =
     subst (λ (n : ℕ). IsRow n (row_from sc rows r k s (d ∷ ds))) (sym (sum_by-cons (λ (x : SlaveDesc). length x.outputs) d ds))
     (beside_is s r k (length d.outputs) (total_outputs ds) (shown sc rows s d r k) (row_from sc rows r k (s + 1) ds)
-    (shown_is sc s d r (state sc rows s d r k) (All-head (λ d. IsDesc d) d ds h))
-    (row_from_is sc rows r k (s + 1) ds (All-tail (λ d. IsDesc d) d ds h)))
+    (shown_is sc s d r (state sc rows s d r k))
+    (row_from_is sc rows r k (s + 1) ds))
 
 -- a row has a value for each output, and each is an input
-pub row_is : (sc : Scenario) (rows : List (List ℤ)) (r k : ℕ) (vs : List ℤ) → IsScenario sc → row sc rows r k ≡ Ok vs → (length vs ≡ total_outputs sc.slaves) × All IsInput vs
+pub row_is : (sc : Scenario) (rows : List (List ℤ)) (r k : ℕ) (vs : List ℤ) → row sc rows r k ≡ Ok vs → (length vs ≡ total_outputs sc.slaves) × All IsInput vs
 unfolding IsRow
-row_is sc rows r k vs sound e = subst (IsRow (total_outputs sc.slaves)) e (row_from_is sc rows r k 1 sc.slaves sound.slaves)
+row_is sc rows r k vs e = subst (IsRow (total_outputs sc.slaves)) e (row_from_is sc rows r k 1 sc.slaves)

@@ -9,7 +9,6 @@ use Rattle.slave_desc.specs.declared.descriptions.SlaveDesc.{SlaveDesc}
 use Rattle.slave_desc.specs.Descriptions.{IsDesc}
 use Rattle.scenario.specs.declared.scenarios.Scenario.{Scenario}
 use Rattle.scenario.specs.Totals.{total_outputs}
-use Rattle.scenario.specs.Sound.{IsScenario}
 use Rattle.lockstep.specs.declared.parts.Part.{Part}
 use Rattle.lockstep.specs.declared.halts.Halt.{Halt}
 use Rattle.lockstep.specs.declared.halts.Halt.TheVariants as halts
@@ -87,11 +86,11 @@ closed g filled more same e =
     ∙ ap (λ (x : ℕ). grid_of x (filled.rows ++ filled.begun ∷ []) []) same.width
     ∙ ap (λ (x : List (List ℤ)). grid_of g.width (x ++ filled.begun ∷ []) []) same.rows
 
-pub standing_more : (sc : Scenario) (r k : ℕ) (g filled more : Grid) (parts : List Part) → IsScenario sc → IsMoment sc r k → SoFar sc ((r - 1) * (sc.steps + 1) + k) g →
+pub standing_more : (sc : Scenario) (r k : ℕ) (g filled more : Grid) (parts : List Part) → IsMoment sc r k → SoFar sc ((r - 1) * (sc.steps + 1) + k) g →
     row sc g.rows r k ≡ Ok filled.begun → AllStand sc g.rows r k parts → SameRows g filled → more ≡ grid_of filled.width (filled.rows ++ filled.begun ∷ []) [] → Standing sc r (k + 1) more parts
-standing_more sc r k g filled more parts sound m h here stand same e =
+standing_more sc r k g filled more parts m h here stand same e =
     let vs = filled.begun in
-    let values = row_is sc g.rows r k vs sound here in
+    let values = row_is sc g.rows r k vs here in
     let P : Grid → Type 0 = λ x. Standing sc r (k + 1) x parts in
     let back : k + 1 - 1 ≡ k = omega arith in
     subst P (sym (closed g filled more same e)) (record {
@@ -108,8 +107,8 @@ standing_more sc r k g filled more parts sound m h here stand same e =
       };
     })
 
-pub row_width : (sc : Scenario) (r k : ℕ) (g filled : Grid) → IsScenario sc → g.width ≡ total_outputs sc.slaves → row sc g.rows r k ≡ Ok filled.begun → SameRows g filled → length filled.begun ≡ filled.width
-row_width sc r k g filled sound w here same = (row_is sc g.rows r k filled.begun sound here).0 ∙ sym w ∙ sym same.width
+pub row_width : (sc : Scenario) (r k : ℕ) (g filled : Grid) → g.width ≡ total_outputs sc.slaves → row sc g.rows r k ≡ Ok filled.begun → SameRows g filled → length filled.begun ≡ filled.width
+row_width sc r k g filled w here same = (row_is sc g.rows r k filled.begun here).0 ∙ sym w ∙ sym same.width
 
 run_end : (r w : ℕ) → 1 ≤ r → (r - 1) * w + w ≡ r * w
 run_end r w h =

@@ -8,11 +8,13 @@ use Rattle.std.proofs.lemmas.List.Elements.{All-map, All-same}
 use Rattle.std.proofs.lemmas.List.FromFn.{length-map-range_with_len}
 use Rattle.std.proofs.lemmas.Option.{slice_get_within, get_or_from_slice_get}
 use Rattle.dcp_types.specs.declared.fault_codes.FaultCode.{FaultCode}
-use Rattle.fixed_models.specs.Kinds.{has_inputs, output_count}
+use Rattle.fixed_models.specs.declared.kinds.Kind.{Kind}
+use Rattle.fixed_models.specs.declared.kinds.Kind.TheVariants as kinds
+use Rattle.fixed_models.specs.Kinds.{is_external, has_inputs, output_count, has_output_count}
 use Rattle.fixed_models.specs.Steps.{model_step}
 use Rattle.fixed_models.specs.Views.{moved, step_of}
 use Rattle.slave_desc.specs.declared.descriptions.SlaveDesc.{SlaveDesc}
-use Rattle.slave_desc.specs.Descriptions.{IsDesc}
+use Rattle.slave_desc.specs.Descriptions.{IsDesc, HasModel}
 use Rattle.scenario.specs.declared.scenarios.Scenario.{Scenario}
 use Rattle.scenario.specs.declared.scenarios.Wire.{Wire}
 use Rattle.scenario.specs.declared.scenarios.Every.{Every}
@@ -39,6 +41,28 @@ both_second false b h = cc
 pub same_count : (a b : ℕ) → (a == b) ≡ true → a ≡ b
 same_count a b h = grind (arith)
 
+-- a kind that is here has as many outputs as its model
+kind_outputs : (kind : Kind) (n : ℕ) → is_external kind ≡ false → has_output_count kind n ≡ (n == output_count kind)
+kind_outputs kinds.Const n here = refl
+kind_outputs kinds.Ramp n here = refl
+kind_outputs kinds.Counter n here = refl
+kind_outputs kinds.Gain n here = refl
+kind_outputs kinds.Sum n here = refl
+kind_outputs kinds.Integrator n here = refl
+kind_outputs kinds.Lag n here = refl
+kind_outputs kinds.Delay n here = refl
+kind_outputs kinds.Limiter n here = refl
+kind_outputs kinds.Deadband n here = refl
+kind_outputs kinds.Divider n here = refl
+kind_outputs kinds.Oscillator n here = refl
+kind_outputs kinds.Tank n here = refl
+kind_outputs kinds.Switch n here = refl
+kind_outputs kinds.External n here = cc
+
+pub outputs_counted : (d : SlaveDesc) → IsDesc d → HasModel d → (length d.outputs == output_count d.kind) ≡ true
+outputs_counted d desc here =
+    sym (kind_outputs d.kind (length d.outputs) here) ∙ both_second (has_inputs d.kind (length d.inputs)) (has_output_count d.kind (length d.outputs)) desc.ports
+
 length-feeds_of : (sc : Scenario) (s n : ℕ) → length (feeds_of sc s n) ≡ n
 length-feeds_of sc s n = length-map-range_with_len (λ i. feed_of sc (wire_into sc.wires s i)) 0 n
 
@@ -47,12 +71,12 @@ ports_ok sc rows r k s d p h desc =
     let n : length p.feeds.items ≡ length d.inputs = ap (λ (fs : List (Option Feed)). length fs) h.feeds ∙ length-feeds_of sc s (length d.inputs) in
     ap (λ (x : ℕ). has_inputs p.model.kind x) n
     ∙ ap (λ k. has_inputs k (length d.inputs)) h.kind
-    ∙ both_first (has_inputs d.kind (length d.inputs)) (length d.outputs == output_count d.kind) desc.ports
+    ∙ both_first (has_inputs d.kind (length d.inputs)) (has_output_count d.kind (length d.outputs)) desc.ports
 
-pub types_ok : (sc : Scenario) (rows : List (List ℤ)) (r k s : ℕ) (d : SlaveDesc) (p : Part) → PartStandsAt sc rows r k s d p → IsDesc d → length p.model.types ≡ output_count p.model.kind
-types_ok sc rows r k s d p h desc =
+pub types_ok : (sc : Scenario) (rows : List (List ℤ)) (r k s : ℕ) (d : SlaveDesc) (p : Part) → PartStandsAt sc rows r k s d p → IsDesc d → HasModel d → length p.model.types ≡ output_count p.model.kind
+types_ok sc rows r k s d p h desc here =
     ap (λ ts. length ts) h.types ∙ length-map d.outputs (λ p. p.kind)
-    ∙ same_count (length d.outputs) (output_count d.kind) (both_second (has_inputs d.kind (length d.inputs)) (length d.outputs == output_count d.kind) desc.ports)
+    ∙ same_count (length d.outputs) (output_count d.kind) (outputs_counted d desc here)
     ∙ ap (λ k. output_count k) (sym h.kind)
 
 q_is : (o : Option Every) → IfSome o (λ e. 1 ≤ e.q) → 0 < q_of o

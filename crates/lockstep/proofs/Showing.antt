@@ -29,6 +29,7 @@ length-outputs kinds.Divider ps s = refl
 length-outputs kinds.Oscillator ps s = refl
 length-outputs kinds.Tank ps s = refl
 length-outputs kinds.Switch ps s = refl
+length-outputs kinds.External ps s = refl
 
 abbrev checked : Bool → ℤ → Result ℤ FaultCode
 checked b z = (if b then Ok z else Err OutOfRange)
@@ -77,5 +78,5 @@ pub show_all : (v : View) (p : ℕ) → length v.types ≡ output_count v.kind �
 show_all v p full le so_far =
     let lv : length (values v) ≤ p = omega (arith, full, length-outputs v.kind v.parameters v.state) in
     let fits_all : all_fit v.types (values v) ≡ true =
-    so_far ∙ ap (λ (x : List DataType). all_fit x (drop p (values v))) (drop_all p v.types le) in
+    so_far ∙ ap (λ (x : List DataType). all_fit x (drop p (values v))) (drop_all p v.types le) ∙ ap (λ (x : List ℤ). all_fit [] x) (drop_all p (values v) lv) in
     (take_all p (values v) lv, ap (λ (x : Bool). cond x (Ok (values v)) (Err OutOfRange)) fits_all)

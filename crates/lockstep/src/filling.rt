@@ -3,9 +3,9 @@
 ghost use Rattle.std.specs.Prelude.{◌≡◌, ◌-◌, [], length, All, Ok, IfOk, IfErr, OnOk};
 ghost use Rattle.fixed_models.specs.Domains.{IsInput};
 ghost use Rattle.slave_desc.specs.declared.descriptions.SlaveDesc.{SlaveDesc};
-ghost use Rattle.slave_desc.specs.Descriptions.{IsDesc};
+ghost use Rattle.slave_desc.specs.Descriptions.{IsDesc, HasModel};
 ghost use Rattle.scenario.specs.Totals.{total_outputs};
-ghost use Rattle.scenario.specs.Sound.{IsScenario};
+ghost use Rattle.scenario.specs.Sound.{IsScenario, HaveModels};
 ghost use Rattle.lockstep.specs.Cut.{SameRows};
 ghost use Rattle.lockstep.specs.Lockstep.{row_index, row, IsMoment};
 ghost use Rattle.lockstep.specs.Parts.{PartStandsAt, AllStand, Serves, Halted};
@@ -38,6 +38,7 @@ fn serve(
 ) -> Result<Result<(), FaultCode>, OutOfMemory>
     requires scenario { IsScenario scenario.now }
     requires desc { IsDesc desc.now }
+    requires model { HasModel desc.now }
     requires moment { IsMoment scenario.now at.run at.step }
     requires place { length rows.old.rows ≡ row_index scenario.now.steps at.run at.step }
     requires values { All (λ row. All IsInput row) rows.old.rows }
@@ -63,6 +64,7 @@ pub(crate) fn fill(
     inputs: &mut Vec<i128>,
 ) -> Result<(), Halt>
     requires scenario { IsScenario scenario.now }
+    requires models { HaveModels scenario.now.slaves }
     requires moment { IsMoment scenario.now at.run at.step }
     requires place { length rows.old.rows ≡ row_index scenario.now.steps at.run at.step }
     requires values { All (λ row. All IsInput row) rows.old.rows }

@@ -3,7 +3,7 @@
 ghost use Rattle.std.specs.Prelude.{◌≡◌, ◌<◌, ◌≤◌, ◌-◌, List, ℤ, Some, length, map, All, true, IfOk};
 ghost use Rattle.fixed_models.specs.Domains.{IsInput};
 ghost use Rattle.fixed_models.specs.Kinds.{has_inputs, output_count};
-ghost use Rattle.slave_desc.specs.Descriptions.{IsDesc};
+ghost use Rattle.slave_desc.specs.Descriptions.{IsDesc, HasModel};
 ghost use Rattle.scenario.specs.Lookups.{slave_at};
 ghost use Rattle.scenario.specs.Sound.{IsScenario, IsSlave};
 ghost use Rattle.fixed_models.specs.Views.{begun, accepts};
@@ -40,6 +40,7 @@ impl Part {
         requires slave { slave_at scenario.now.slaves slave ≡ Some desc.now }
         requires number { IsSlave scenario.now.slaves slave }
         requires desc { IsDesc desc.now }
+        requires model { HasModel desc.now }
         ensures { IfOk result (λ part. (rows : List (List ℤ)) → PartStandsAt scenario.now rows run 0 slave desc.now part) }
     {
         let types = types_of(alloc, desc.outputs.as_slice())?;

@@ -1,7 +1,7 @@
 //! All rows of all runs.
 
 ghost use Rattle.std.specs.Prelude.{◌≡◌, ◌+◌, ◌-◌, ◌*◌, ◌≤◌, [], List, ℤ, IfOk, OnOk, IfErr};
-ghost use Rattle.scenario.specs.Sound.{IsScenario};
+ghost use Rattle.scenario.specs.Sound.{IsScenario, HaveModels};
 ghost use Rattle.lockstep.specs.Lockstep.{IsReference};
 ghost use Rattle.lockstep.specs.Parts.{AllStand};
 ghost use Rattle.lockstep.specs.Filling.{SoFar, StoppedBy};
@@ -18,7 +18,8 @@ use std::alloc::Global;
 
 /// All slaves at the begin of a run.
 fn parts_of(alloc: Global, scenario: &Scenario, run: u32) -> Result<Vec<Part>, OutOfMemory>
-    requires { IsScenario scenario.now }
+    requires scenario { IsScenario scenario.now }
+    requires models { HaveModels scenario.now.slaves }
     ensures { IfOk result (λ parts. (rows : List (List ℤ)) → AllStand scenario.now rows run 0 parts.items) }
 {
     let slaves = scenario.slaves.as_slice();
@@ -39,6 +40,7 @@ fn run_once(
     inputs: &mut Vec<i128>,
 ) -> Result<(), Halt>
     requires scenario { IsScenario scenario.now }
+    requires models { HaveModels scenario.now.slaves }
     requires first { 1 ≤ run }
     requires last { run ≤ scenario.now.runs }
     requires rows { SoFar scenario.now ((run - 1) * (scenario.now.steps + 1)) rows.old }
@@ -66,6 +68,7 @@ fn run_all(
     inputs: &mut Vec<i128>,
 ) -> Result<(), Halt>
     requires scenario { IsScenario scenario.now }
+    requires models { HaveModels scenario.now.slaves }
     requires rows { SoFar scenario.now 0 rows.old }
     ensures done { OnOk result (SoFar scenario.now (scenario.now.runs * (scenario.now.steps + 1)) rows.new) }
     ensures halted { IfErr result (StoppedBy scenario.now rows.new) }
@@ -76,10 +79,11 @@ fn run_all(
     Ok(())
 }
 
-/// What a correct run of the scenario prints. The memory is that of the rows, taken once, and little
+/// What a correct run of the scenario prints, where each slave's model is one of this program's. The memory is that of the rows, taken once, and little
 /// more.
 pub fn reference(alloc: Global, scenario: &Scenario) -> Result<Reference, OutOfMemory>
-    requires { IsScenario scenario.now }
+    requires scenario { IsScenario scenario.now }
+    requires models { HaveModels scenario.now.slaves }
     ensures { IfOk result (λ reference. IsReference scenario.now reference.rows reference.fault) }
 {
     let width = total_outputs(scenario.slaves.as_slice()) as usize;

@@ -27,7 +27,7 @@ stands c =
 pub show-requires-clause-types : goal.show-requires-clause-types
 show-requires-clause-types c =
     let h = stands (goal.at.show-requires-clause-types c).In-Ok in
-    types_ok c.args.scenario.now c.args.rows.now.rows c.args.at.run c.args.at.step c.args._slave c.args.desc.now c.reach.new.self h c.requires.desc
+    types_ok c.args.scenario.now c.args.rows.now.rows c.args.at.run c.args.at.step c.args._slave c.args.desc.now c.reach.new.self h c.requires.desc c.requires.model
 
 pub returns-clause-served : goal.returns-clause-served
 returns-clause-served c =

@@ -10,10 +10,10 @@ returns-in-Err-clause-halted c =
 
 pub close-requires : goal.close-requires
 close-requires c =
-    row_width c.args.scenario.now c.args.run c.loop-step.step c.loop-step.rows c.fill.new.rows c.requires.scenario c.loop-step.invariant.rows.width c.in-Ok-fill.ensures.row c.fill.ensures.kept
+    row_width c.args.scenario.now c.args.run c.loop-step.step c.loop-step.rows c.fill.new.rows c.loop-step.invariant.rows.width c.in-Ok-fill.ensures.row c.fill.ensures.kept
 
 pub loop-step-preserved : goal.loop-step-preserved
 loop-step-preserved c =
     let m : IsMoment c.args.scenario.now c.args.run c.loop-step.step = record { first = c.requires.first; last = c.requires.last; within = omega arith } in
-    standing_more c.args.scenario.now c.args.run c.loop-step.step c.loop-step.rows c.fill.new.rows c.close.new.self c.fill.new.parts.items c.requires.scenario m c.loop-step.invariant.rows
+    standing_more c.args.scenario.now c.args.run c.loop-step.step c.loop-step.rows c.fill.new.rows c.close.new.self c.fill.new.parts.items m c.loop-step.invariant.rows
     c.in-Ok-fill.ensures.row c.in-Ok-fill.ensures.stand c.fill.ensures.kept c.close.ensures

@@ -17,7 +17,7 @@ begin-requires c =
     let ts : c.as_slice-4.result.now ≡ types_of_outputs d = c.as_slice-4.ensures.value ∙ c.in_ok-types.ensures ∙ ap (λ (x : List Port). map (λ p. p.kind) x) c.as_slice.ensures in
     ap (λ (x : List ℤ). accepts d.kind x (length c.as_slice-4.result.now)) ps
     ∙ ap (λ (x : List DataType). accepts d.kind (parameters sc c.args.slave d c.args.run) (length x)) ts
-    ∙ accepted sc c.args.slave c.args.run d c.requires.scenario c.requires.slave c.requires.number c.requires.desc
+    ∙ accepted sc c.args.slave c.args.run d c.requires.scenario c.requires.slave c.requires.number c.requires.desc c.requires.model
 
 pub returns : goal.returns
 returns c rows =
