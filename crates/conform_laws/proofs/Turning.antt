@@ -71,6 +71,7 @@ once_faults kinds.Divider ps state us = divided (rows.is_zero (nth us 0)) _ (wit
 once_faults kinds.Oscillator ps state us = within_faults _ _
 once_faults kinds.Tank ps state us = within_faults _ _
 once_faults kinds.Switch ps state us = within_faults _ _
+once_faults kinds.External ps state us = tt
 
 then_faults : (r : Result (List ℤ) FaultCode) (next : List ℤ → Result (List ℤ) FaultCode) → Faults r → ((state : List ℤ) → Faults (next state)) → Faults (and_then r next)
 then_faults (Ok state) next h f = f state

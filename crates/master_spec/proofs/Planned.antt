@@ -81,10 +81,10 @@ left : (a b : Bool) → (a && b) ≡ true → a ≡ true
 left true b e = refl
 left false b e = e
 
-one_of : (ps : List ℤ) (n : ℕ) → n ≤ 4 → (length ps == n) ≡ true → length ps ≤ 4
+one_of : (ps : List ℤ) (n : ℕ) → n ≤ 64 → (length ps == n) ≡ true → length ps ≤ 64
 one_of ps n h e = omega (arith, h, eqb-true (length ps) n e)
 
-takes_few : (k : Kind) (ps : List ℤ) → takes k ps ≡ true → length ps ≤ 4
+takes_few : (k : Kind) (ps : List ℤ) → takes k ps ≡ true → length ps ≤ 64
 takes_few kinds.Const ps e = one_of ps 1 (omega arith) e
 takes_few kinds.Ramp ps e = one_of ps 2 (omega arith) e
 takes_few kinds.Counter ps e = one_of ps 1 (omega arith) (left (length ps == 1) _ e)
@@ -99,8 +99,9 @@ takes_few kinds.Divider ps e = one_of ps 1 (omega arith) e
 takes_few kinds.Oscillator ps e = one_of ps 4 (omega arith) e
 takes_few kinds.Tank ps e = one_of ps 3 (omega arith) (left (length ps == 3) _ (left _ _ e))
 takes_few kinds.Switch ps e = one_of ps 1 (omega arith) e
+takes_few kinds.External ps e = grind (arith, nat_tests, e)
 
-parameters_few : (o : Option SlaveDesc) → ((d : SlaveDesc) → o ≡ Some d → IsDesc d) → length (parameters_in o) ≤ 4
+parameters_few : (o : Option SlaveDesc) → ((d : SlaveDesc) → o ≡ Some d → IsDesc d) → length (parameters_in o) ≤ 64
 parameters_few None h = omega arith
 parameters_few (Some d) h = takes_few d.kind d.parameters (h d refl).taken
 

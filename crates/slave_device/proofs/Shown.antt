@@ -38,6 +38,7 @@ count_of kinds.Divider ps s = refl
 count_of kinds.Oscillator ps s = refl
 count_of kinds.Tank ps s = refl
 count_of kinds.Switch ps s = refl
+count_of kinds.External ps s = refl
 
 fit_more : (i : ℕ) (ts : List DataType) (vs : List ℤ) → i < length ts → i < length vs → all_fit (take i ts) (take i vs) ≡ true → fits (slice_index_or ts i I64) (nth vs i) ≡ true
     → all_fit (take (suc i) ts) (take (suc i) vs) ≡ true

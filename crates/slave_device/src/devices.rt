@@ -1,7 +1,7 @@
 //! The machine of a slave, and how it is made.
 
 ghost use Rattle.std.specs.Prelude.{◌≡◌, ◌≤◌, IfOk};
-ghost use Rattle.slave_desc.specs.Descriptions.{IsDesc};
+ghost use Rattle.slave_desc.specs.Descriptions.{IsDesc, HasModel};
 ghost use Rattle.slave_spec.specs.Plants.{start_plant, model_with, output_types};
 ghost use Rattle.slave_spec.specs.Payloads.{bare_wires};
 ghost use Rattle.slave_device.specs.Made.{IsMade};
@@ -47,7 +47,8 @@ fn types_of(alloc: Global, desc: &SlaveDesc) -> Result<Vec<DataType>, OutOfMemor
 
 /// The model of a slave, with the parameters of its description, in its state at first.
 fn model_of(alloc: Global, desc: &SlaveDesc) -> Result<Model, OutOfMemory>
-    requires { IsDesc desc.now }
+    requires desc { IsDesc desc.now }
+    requires model { HasModel desc.now }
     ensures { IfOk result (λ model. model ≡ model_with desc.now desc.now.parameters) }
 {
     let types = types_of(alloc, desc)?;
@@ -100,6 +101,7 @@ impl<W: Wired> Device<W> {
         wiring: W,
     ) -> Result<Device<W>, OutOfMemory>
         requires desc { IsDesc desc }
+        requires model { HasModel desc }
         requires micro { (1 ≤ micro) × (micro ≤ 1000) }
         requires wiring { W.stands wiring desc bare_wires }
         ensures stands { IfOk result (λ d. DeviceFor W.stands d (start_plant (record { desc = desc; micro = micro }))) }

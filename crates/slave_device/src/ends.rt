@@ -1,7 +1,7 @@
 //! The slave of a description.
 
 ghost use Rattle.std.specs.Prelude.{◌≡◌, ◌≤◌, [], IfOk};
-ghost use Rattle.slave_desc.specs.Descriptions.{IsDesc};
+ghost use Rattle.slave_desc.specs.Descriptions.{IsDesc, HasModel};
 ghost use Rattle.slave_spec.specs.Slaves.{slave_rules_from};
 
 use crate::wirings::Wiring;
@@ -19,6 +19,7 @@ pub type SlaveEnd = SlaveCore<Device<Wiring>>;
 /// takes all the memory that it needs.
 pub fn new_slave(alloc: Global, desc: SlaveDesc, micro: u32) -> Result<SlaveEnd, OutOfMemory>
     requires desc { IsDesc desc }
+    requires model { HasModel desc }
     requires micro { (1 ≤ micro) × (micro ≤ 1000) }
     ensures stands { IfOk result (λ s. ⟦<SlaveCore<Device<Wiring>> as End>⟧.stands s []) }
     ensures rules { IfOk result (λ s. ⟦<SlaveCore<Device<Wiring>> as End>⟧.rules s ≡ slave_rules_from (record { desc = desc; micro = micro })) }

@@ -1,7 +1,7 @@
 //! A slave from its description, in one call.
 
 ghost use Rattle.std.specs.Prelude.{◌≡◌, ◌≤◌, [], IfOk};
-ghost use Rattle.slave_desc.specs.Descriptions.{IsDesc};
+ghost use Rattle.slave_desc.specs.Descriptions.{IsDesc, HasModel};
 ghost use Rattle.slave_spec.specs.Payloads.{bare_wires};
 ghost use Rattle.slave_spec.specs.Slaves.{slave_rules_from};
 
@@ -22,6 +22,7 @@ pub fn slave_over<W: Wired>(
     wiring: W,
 ) -> Result<SlaveCore<Device<W>>, OutOfMemory>
     requires desc { IsDesc desc }
+    requires model { HasModel desc }
     requires micro { (1 ≤ micro) × (micro ≤ 1000) }
     requires wiring { W.stands wiring desc bare_wires }
     ensures stands { IfOk result (λ s. ⟦<SlaveCore<Device<W>> as End>⟧.stands s []) }

@@ -85,6 +85,7 @@ once_model kinds.Divider ps s us = divided_model _ _ _
 once_model kinds.Oscillator ps s us = within_model _ _
 once_model kinds.Tank ps s us = within_model _ _
 once_model kinds.Switch ps s us = within_model _ _
+once_model kinds.External ps s us = tt
 
 micro_model : (n : ℕ) (kind : Kind) (ps s us : List ℤ) → FaultsByModel (micro_steps n kind ps s us)
 unfolding micro_steps

@@ -168,7 +168,7 @@ watch_back sc s d of rows r k vs h =
     let types : types_in d.outputs es ≡ map (λ (p : Port). p.kind) d.outputs = ap (map (λ vr. port_type (port_with vr d.outputs))) vrs ∙ kinds_back d.outputs apart in
     let bytes = payload d s (planned_changes sc s d) vs in
     cut_is (map (λ (p : Port). p.kind) d.outputs) bytes ∙ ap (λ (ks : List DataType). cut_values ks bytes) (sym types) ∙ read_back d s (planned_changes sc s d) vs fit
-    ∙ ap (map (λ vr. output_value vr d.outputs vs)) vrs ∙ values_back d.outputs vs apart (shown_length sc s d r (state sc rows s d r k) vs there.desc h)
+    ∙ ap (map (λ vr. output_value vr d.outputs vs)) vrs ∙ values_back d.outputs vs apart (shown_length sc s d r (state sc rows s d r k) vs h)
 
 -- ---- the watch link
 pub watch_interval : (sc : Scenario) (s : ℕ) (d : SlaveDesc) → IsScenarioSlave sc s d → interval_of sc s ≡ 1

@@ -173,7 +173,7 @@ module _ (sc : Scenario) (s : ℕ) (d : SlaveDesc) (of : IsScenarioSlave sc s d)
       value_is : slice_index_or (cut_values (types_in d.inputs (entries input l.id w.changes)) kept.payload) j (pos 0) ≡ slice_index_or h.values p.from (pos 0)
       value_is =
           let desc = (slave_there sc.slaves a c of.sound.slaves h.is).desc in
-          let count : length h.values ≡ length c.outputs = shown_length sc a c r (state sc rows a c r (sent_step sc l.id k)) h.values desc h.shows in
+          let count : length h.values ≡ length c.outputs = shown_length sc a c r (state sc rows a c r (sent_step sc l.id k)) h.values h.shows in
           ap (λ vs. slice_index_or vs j (pos 0)) values_are
           ∙ read_map (λ vr. output_value vr c.outputs h.values) (references (ports_out c.outputs ps)) j here.output.vr (pos 0) (output_at_place d.inputs c.outputs ps j p here.output all_joined place here.out)
           ∙ value_read c.outputs p.from here.output h.values (pairwise_from_all (λ (x y : Port). x.vr ≢ y.vr) c.outputs desc.outputs_apart) here.out count
