@@ -6,3 +6,5 @@ pub mod Ranges
 pub mod Answered
 pub mod Printed
 pub mod RoundTrip
+pub mod Named
+pub mod Firsts

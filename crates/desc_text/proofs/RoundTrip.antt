@@ -106,6 +106,7 @@ kind_back kinds.Divider = (refl, refl)
 kind_back kinds.Oscillator = (refl, refl)
 kind_back kinds.Tank = (refl, refl)
 kind_back kinds.Switch = (refl, refl)
+kind_back kinds.External = (refl, refl)
 
 port_back : (p : Port) → p.vr < 2 ^ 64 → port (decimal p.vr ∷ type_word p.kind ∷ []) ≡ Ok p
 port_back p small = rw (number_from_decimal 0 (2 ^ 64 - 1) p.vr small (omega arith) (omega arith), type_back p.kind) refl

@@ -36,4 +36,5 @@ kind_named w =
     else (if bytes_eq w (codes "oscillator") then Some kinds.Oscillator
     else (if bytes_eq w (codes "tank") then Some kinds.Tank
     else (if bytes_eq w (codes "switch") then Some kinds.Switch
-    else None)))))))))))))
+    else (if bytes_eq w (codes "external") then Some kinds.External
+    else None))))))))))))))

@@ -83,5 +83,8 @@ pub fn kind_of(word: &[u8]) -> Option<Kind>
     if word == b"switch".as_slice() {
         return Some(Kind::Switch);
     }
+    if word == b"external".as_slice() {
+        return Some(Kind::External);
+    }
     None
 }
