@@ -94,7 +94,7 @@ pub refused_run : (net : NetTold) (input : List ℕ) (refusal : TextRefused) (sa
     → SaysRun net input said.judgement (text_of said.text) []
 refused_run net input (refusals.Fault fault) said short bad refuses =
     let Judged : Judgement → Type 0 = λ judgement. SaysRun net input judgement (text_of said.text) [] in
-    subst Judged (sym refuses.0) (inl (short, (fault.line, fault.why, bad, refuses.1)), refl)
+    subst Judged (sym refuses.0) (inl (short, inl (fault.line, fault.why, bad, refuses.1)), refl)
 refused_run net input refusals.OutOfMemory said short bad refuses = absurd refuses
 
 -- the hosted master follows its rules

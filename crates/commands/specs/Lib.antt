@@ -6,6 +6,7 @@ pub mod Inputs
 pub mod Given
 pub mod Said
 pub mod Refusals
+pub mod Externals
 pub mod SaysDecoded
 pub mod SaysEncoded
 pub mod SaysDescribed

@@ -14,6 +14,7 @@ use Rattle.scenario_text.specs.Reads.{ReadsAsScenario}
 use Rattle.scenario_text.specs.Judging.{scenario_why_at}
 use Rattle.host.specs.declared.hosted.Hosted.{Hosted}
 use Rattle.host.specs.Hosting.{master_of, slaves_of}
+use Rattle.host.specs.Externals.{external_in}
 use Rattle.master_spec.specs.declared.causes.Cause.{Cause}
 use Rattle.master_spec.specs.declared.reports.Report.{Report}
 use Rattle.master_spec.specs.declared.reports.Report.TheVariants as reports
@@ -101,6 +102,16 @@ pub record NamesNone (input text : List ℕ) : Type 0 where
   pub lacks : AreThere scenario bits → ⊥
   pub text_is : text ≡ byte_refusal 5 (trace_word Header)
 
+-- the bytes are a trace of ends of which a slave has a model that is not this program's: it cannot be made anew
+pub record HostsExternal (input text : List ℕ) : Type 0 where
+  pub scenario : Scenario
+  pub hosted : Hosted
+  pub entries : List LogEntry
+  pub trace : IsTraceOf input scenario hosted entries
+  pub slave : ℕ
+  pub first : external_in scenario hosted ≡ Some slave
+  pub text_is : text ≡ byte_refusal 5 (trace_word Header)
+
 abbrev pub RefusesTrace : (input text : List ℕ) → Type 0
 RefusesTrace input text = IsNoTrace input text ⊎ (HasNoScenario input text ⊎ NamesNone input text)
 
@@ -110,4 +121,4 @@ SaysReplay input judged.Good text = (steps : ℕ) × ReplaysTo input (reports.Fi
 SaysReplay input judged.Failed text = (slave : ℕ) × (phase : ℕ) × (cause : Cause) × ReplaysTo input (reports.Failed slave phase cause) text
 SaysReplay input judged.Differs text = StopsShort input text
 SaysReplay input judged.Refused text =
-    ((length input ≤ trace_limit) × RefusesTrace input text) ⊎ ((trace_limit < length input) × (text ≡ byte_refusal 0 (codes "LIMIT")))
+    ((length input ≤ trace_limit) × (RefusesTrace input text ⊎ HostsExternal input text)) ⊎ ((trace_limit < length input) × (text ≡ byte_refusal 0 (codes "LIMIT")))

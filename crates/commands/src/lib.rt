@@ -9,6 +9,7 @@
 
 mod answers;
 mod command_words;
+mod externals;
 mod inputs;
 mod programs;
 mod refusals;
@@ -20,6 +21,7 @@ mod top_calls;
 mod word_lists;
 
 pub use command_words::Command;
+pub use externals::refuse_external;
 pub use inputs::{Gathered, LIMIT, TRACE_LIMIT, read_input};
 pub use programs::{Ended, run_program};
 pub use refusals::{refuse_line, refuse_past_limit, refuse_text};

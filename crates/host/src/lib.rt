@@ -9,6 +9,7 @@
 #![tactic(auto)]
 
 mod copies;
+mod externals;
 mod hosted;
 mod hosts;
 mod making;
@@ -19,6 +20,7 @@ mod running;
 mod runs;
 mod seated;
 
+pub use externals::external_in;
 pub use hosted::{ALL_ENDS, Hosted, Progress};
 pub use hosts::Host;
 pub use rounds::HostFault;

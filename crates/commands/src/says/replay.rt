@@ -1,15 +1,19 @@
 //! The command `replay`: the trace of a run gone through again.
 
 ghost use Rattle.std.specs.Prelude.{IfOk};
+ghost use Rattle.dcp_record.specs.Words.{trace_word};
+ghost use Rattle.dcp_record.specs.declared.faults.TraceWhy.TheVariants.{Header};
+ghost use Rattle.commands.specs.Refusals.{Refuses, byte_refusal};
 ghost use Rattle.commands.specs.Replays.{GivesReplay, SaysStop};
 
 use crate::answers::CommandAnswer;
 use crate::inputs::TRACE_LIMIT;
 use crate::refusals::refuse_byte;
 use crate::said::{Statement, Text};
-use crate::says::traces::{Opened, open};
+use crate::says::traces::{HOSTED_AT, Opened, open};
 use crate::statuses::Judgement;
 use dcp_types::OutOfMemory;
+use host::external_in;
 use replays::{ReplayFault, replay};
 use std::alloc::Global;
 
@@ -28,6 +32,13 @@ fn say_stop(alloc: Global, fault: ReplayFault) -> Result<Statement, OutOfMemory>
     })
 }
 
+/// Refuses the hosted ends of a trace.
+fn refuse_hosted(alloc: Global) -> Result<Statement, OutOfMemory>
+    ensures { IfOk result (Refuses (byte_refusal 5 (trace_word Header))) }
+{
+    refuse_byte(alloc, HOSTED_AT, "HEADER")
+}
+
 /// Goes through the trace, and gives the master with the rows and the report that it goes to, or where it
 /// differs or breaks off, or why the bytes are refused.
 pub fn say_replay(alloc: Global, input: &[u8]) -> Result<CommandAnswer, OutOfMemory>
@@ -44,6 +55,9 @@ pub fn say_replay(alloc: Global, input: &[u8]) -> Result<CommandAnswer, OutOfMem
         } => (scenario, hosted, entries),
         Opened::Refused(said) => return Ok(CommandAnswer::Said(said)),
     };
+    if external_in(&scenario, hosted).is_some() {
+        return Ok(CommandAnswer::Said(refuse_hosted(alloc)?));
+    }
     match replay(alloc, &scenario, hosted, &entries) {
         Ok(replayed) => Ok(CommandAnswer::Replayed { scenario, replayed }),
         Err(fault) => Ok(CommandAnswer::Said(say_stop(alloc, fault)?)),

@@ -6,10 +6,11 @@ ghost use Rattle.commands.specs.SaysRun.{StopsRun};
 ghost use Rattle.commands.specs.declared.command_words.Command.TheVariants.{Run};
 
 use crate::answers::{CommandAnswer, Unsaid};
+use crate::externals::refuse_external;
 use crate::inputs::LIMIT;
 use crate::refusals::{refuse_past_limit, refuse_text};
 use dcp_net::Net;
-use host::{HostFault, Stopped, run_scenario};
+use host::{ALL_ENDS, HostFault, Stopped, external_in, run_scenario};
 use scenario_text::read_scenario;
 use std::alloc::Global;
 
@@ -30,6 +31,9 @@ pub fn say_run<N: Net>(alloc: Global, input: &[u8], net: &mut N) -> Result<Comma
         Ok(scenario) => scenario,
         Err(refused) => return Ok(CommandAnswer::Said(refuse_text(alloc, refused)?)),
     };
+    if let Some(slave) = external_in(&scenario, ALL_ENDS) {
+        return Ok(CommandAnswer::Said(refuse_external(alloc, input, slave)?));
+    }
     match run_scenario(alloc, scenario, net) {
         Ok(host) => Ok(CommandAnswer::Ran(host)),
         Err(Stopped::Unmade) => Err(Unsaid::OutOfMemory),

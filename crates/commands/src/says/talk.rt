@@ -1,11 +1,12 @@
 //! The command `talk`: what a slave says to the events of a talk.
 
 ghost use Rattle.std.specs.Prelude.{◌≡◌, IfOk};
-ghost use Rattle.slave_desc.specs.Descriptions.{IsDesc};
+ghost use Rattle.slave_desc.specs.Descriptions.{IsDesc, HasModel};
 ghost use Rattle.commands.specs.Refusals.{OfText};
 ghost use Rattle.commands.specs.Said.{text_of};
 ghost use Rattle.commands.specs.SaysTalk.{SaysTalk, talk_lines};
 
+use crate::externals::refuse_external;
 use crate::inputs::LIMIT;
 use crate::refusals::{refuse_past_limit, refuse_text};
 use crate::said::{Statement, Text};
@@ -20,7 +21,8 @@ const MICRO: u32 = 1;
 
 /// The lines of the messages that the slave of a talk sends, in order.
 fn talk_lines(alloc: Global, talk: Talk) -> Result<Vec<u8>, OutOfMemory>
-    requires { IsDesc talk.desc }
+    requires desc { IsDesc talk.desc }
+    requires model { HasModel talk.desc }
     ensures { IfOk result (λ text. text.items ≡ talk_lines talk) }
 {
     let Talk { desc, events } = talk;
@@ -30,7 +32,8 @@ fn talk_lines(alloc: Global, talk: Talk) -> Result<Vec<u8>, OutOfMemory>
     Ok(text)
 }
 
-/// What the slave says, or the first line of the text that is refused.
+/// What the slave says; or the first line of the text that is refused, or that of a model which is not this
+/// program's.
 pub fn say_talk(alloc: Global, input: &[u8]) -> Result<Statement, OutOfMemory>
     ensures { IfOk result (λ said. OfText SaysTalk input.now said.judgement (text_of said.text)) }
 {
@@ -41,6 +44,9 @@ pub fn say_talk(alloc: Global, input: &[u8]) -> Result<Statement, OutOfMemory>
         Ok(talk) => talk,
         Err(refused) => return refuse_text(alloc, refused),
     };
+    if talk.desc.kind.is_external() {
+        return refuse_external(alloc, input, 1);
+    }
     let text = talk_lines(alloc, talk)?;
     Ok(Statement {
         judgement: Judgement::Good,

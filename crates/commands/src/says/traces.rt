@@ -19,7 +19,7 @@ use text_lines::TextRefused;
 const SCENARIO_AT: usize = 13;
 
 /// Where the hosted ends stand.
-const HOSTED_AT: usize = 5;
+pub const HOSTED_AT: usize = 5;
 
 /// What stands in a trace, or why it is refused.
 #[derive(Drop)]
