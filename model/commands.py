@@ -5,11 +5,12 @@ from typing import NamedTuple
 from .conform import Breaks, conform
 from .drawn import drawn_text
 from .host import Differs, Host, Unended, replay
+from .kinds import EXTERNAL
 from .messages import BytesRefused, decode, encode
 from .printed import parse_text, print_message
 from .reference import reference
-from .talk import talk_lines
-from .texts import print_description, read_description, read_scenario
+from .talk import read_talk, talk_lines
+from .texts import model_line, print_description, read_description, read_scenario
 from .traces import TraceRefused, read_trace, write_trace
 from .words import Refused, TextRefused, is_name
 
@@ -49,6 +50,15 @@ def scenario_of(data):
     return read_scenario(text_of(data))
 
 
+def runnable_of(data):
+    """The scenario that a text is, where each of its slaves has a model that is here."""
+    scenario = scenario_of(data)
+    for number, slave in scenario.numbered():
+        if slave.kind == EXTERNAL:
+            raise TextRefused(model_line(data, number), "EXTERNAL")
+    return scenario
+
+
 def trace_of(data):
     """The hosted ends, the scenario and the log of an input that is a trace."""
     if len(data) > TRACE_LIMIT:
@@ -83,18 +93,21 @@ def do_describe(data):
 
 
 def do_talk(data):
+    description, _ = read_talk(text_of(data))
+    if description.kind == EXTERNAL:
+        raise TextRefused(model_line(data, 1), "EXTERNAL")
     return Outcome(DONE, "".join(talk_lines(text_of(data))).encode())
 
 
 def do_reference(data):
-    scenario = scenario_of(data)
+    scenario = runnable_of(data)
     rows, fault = reference(scenario)
     last = fault.line() if fault else f"finished {scenario.steps}\n"
     return Outcome(DONE, (rows_text(rows) + last).encode())
 
 
 def do_run(data):
-    host = Host(scenario_of(data))
+    host = Host(runnable_of(data))
     host.run()
     return Outcome(*printed(host.master), write_trace(host.hosted, data, host.log))
 
@@ -106,6 +119,8 @@ def printed(master):
 
 def do_replay(data):
     hosted, scenario, log = trace_of(data)
+    if any(hosted >> number & 1 and slave.kind == EXTERNAL for number, slave in scenario.numbered()):
+        raise InputRefused("byte", 5, "HEADER")
     try:
         return Outcome(*printed(replay(scenario, hosted, log)))
     except Differs as differs:

@@ -101,18 +101,25 @@ KINDS = {
     "switch": Kind(1, 3, 3, _zero, lambda p, s, u: (u[1] if u[0] >= p[0] else u[2],), _shown),
 }
 
+# The kind of a model that is elsewhere: no step of it is computed here.
+EXTERNAL, MOST_EXTERNAL_PARAMETERS, MOST_PORTS = "external", 64, 8
+
 # How many outputs each kind has.
 OUTPUTS = {word: 2 if word in ("oscillator", "tank") else 1 for word in KINDS}
 
 
 def takes_parameters(kind, parameters):
     """Whether the kind takes these parameters."""
+    if kind == EXTERNAL:
+        return len(parameters) <= MOST_EXTERNAL_PARAMETERS
     row = KINDS[kind]
     return len(parameters) == row.parameters and row.takes(parameters)
 
 
 def has_ports(kind, inputs, outputs):
     """Whether a model of the kind can have so many inputs and outputs."""
+    if kind == EXTERNAL:
+        return inputs <= MOST_PORTS and 1 <= outputs <= MOST_PORTS
     row = KINDS[kind]
     return row.least_inputs <= inputs <= row.most_inputs and outputs == OUTPUTS[kind]
 
@@ -121,7 +128,7 @@ class Model:
     """A model with its parameters and its state. Its outputs have types of their own."""
 
     def __init__(self, kind, parameters, output_types):
-        if not takes_parameters(kind, parameters) or len(output_types) != OUTPUTS[kind]:
+        if kind == EXTERNAL or not takes_parameters(kind, parameters) or len(output_types) != OUTPUTS[kind]:
             raise BadParameters()
         self.kind, self.parameters = kind, list(parameters)
         self.output_types = [TYPE_OF[word] for word in output_types]

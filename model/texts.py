@@ -5,7 +5,7 @@ The first line that breaks a rule after the lines before it is refused, with the
 import re
 
 from .codes import TCP, TYPE_OF, UDP
-from .kinds import KINDS, has_ports, takes_parameters
+from .kinds import EXTERNAL, KINDS, has_ports, takes_parameters
 from .scenario import LIMITS, Chaos, Description, NetLine, Port, Scenario, Setting, Wire
 from .words import (Refused, TextRefused, address_of, int64_of, name_of, number_of, number_or_none, print_ip, print_uuid,
                     split_lines, uuid_of, words_of)
@@ -100,7 +100,7 @@ class DescriptionReader:
         self.open.address = address
 
     def take_model(self, kind, *words):
-        if kind not in KINDS:
+        if kind not in KINDS and kind != EXTERNAL:
             raise Refused("UNKNOWN_MODEL")
         parameters = [int64_of(word) for word in words]
         if not takes_parameters(kind, parameters):
@@ -132,6 +132,11 @@ class DescriptionReader:
         if len(ports) == MOST_PORTS:
             raise Refused("LIMIT")
         return Port(reference, word)
+
+
+def model_line(text, nth):
+    """The line of the model of the nth slave of a text that reads, both from 1 on."""
+    return [at for at, line in enumerate(split_lines(text), 1) if words_of(line)[:1] == ["model"]][nth - 1]
 
 
 class ScenarioReader(DescriptionReader):

@@ -1,6 +1,6 @@
 """Random scenarios that read, and texts with lines that are changed, absent or too many."""
 from model.codes import TYPE_OF
-from model.kinds import KINDS, OUTPUTS, takes_parameters
+from model.kinds import EXTERNAL, KINDS, OUTPUTS, takes_parameters
 from model.texts import print_description, read_scenario
 
 from .messages import number
@@ -12,7 +12,7 @@ HURT_TYPES = "01 02 03 04 05 06 07 08 09 0a 20 22 23 24 25 26 80 81 b0 b1 b2 b3 
 ODD_LINES = """wire s1 0 s1 0|wire s1 0 s2 0|set s1 0 1|set s1 9 1|drop 0 80 1|drop 9 80 1|copy 1 f0 0 1001|hold 1 f0 1 1
 chaos 1 0 0 0|chaos 1 0 0 1001|every s1 s2 2|every s1 s1 0|rerun_set 2 s1 0 1|rerun_set 1 s1 0 1|steps 5|micro 1001|runs 2
 runs 101|tries 0|protocol tcp|protocol TCP|slave s1|slave s9|slave 9|uuid 1|uuid {00112233-4455-6677-8899-aabbccddeeff}
-address 127.0.0.1 9000|address 127.0.0.1 9077|address 127.0.0.256 1|model gain 1|model gain|model nothing|model limiter 2 1
+address 127.0.0.1 9000|address 127.0.0.1 9077|address 127.0.0.256 1|model gain 1|model gain|model nothing|model external|model external 1 -2 3|model external x|model limiter 2 1
 busy 51|busy 5|heartbeat 7|resolution 0 1|input 1 int8|input 1 float|output 1 int64|output x int8|# comment||begin|turn
 step_tries 1|step_tries 2|master 127.0.0.1 8999""".replace("\n", "|").split("|")
 ODD_WORDS = ["", "x", "0", "-1", "1", "99999999999999999999", "s1", "s2", "int8", "1.2.3.4"]
@@ -37,6 +37,7 @@ def parameters(rng, kind, wild):
         "gain": lambda: [factor()], "sum": lambda: [], "integrator": lambda: [value(), factor()],
         "lag": lambda: [value(), share()], "delay": lambda: [value(), rng.choice([1, 2, 3, 8, 64])],
         "limiter": lambda: sorted([value(), value()]), "deadband": lambda: [size()],
+        EXTERNAL: lambda: [value() for _ in range(rng.choice([0, 1, 3, 5, 64]))],
         "oscillator": lambda: [value(), value(), factor(), factor()], "tank": lambda: [size(), factor(), share()],
     }.get(kind, lambda: [value()])()
 
@@ -77,19 +78,27 @@ class Draft:
 
     def block(self, slave):
         """The lines of a slave, whose ports come in any order."""
-        rng, kind = self.rng, self.rng.choice(list(KINDS))
+        rng, kind = self.rng, self.kind()
         values = parameters(rng, kind, self.wild)
         lines = [f"uuid {rng.getrandbits(128):032x}", f"address 127.0.0.1 {9000 + slave}",
                  " ".join(["model", kind] + [str(it) for it in values])]
         lines += [f"busy {rng.choice([0, 1, 3, 25, 50])}"] if rng.random() < .3 else []
         lines += [f"heartbeat {rng.choice([500, 1000] if self.lossless else [5, 30, 200])}"] if rng.random() < .2 else []
         lines += ["resolution 3 7"] if rng.random() < .2 else []
-        lines += self.ports("input", rng.randint(KINDS[kind].least_inputs, KINDS[kind].most_inputs))
-        lines += self.ports("output", OUTPUTS[kind])
+        lines += self.ports("input", self.inputs(kind))
+        lines += self.ports("output", rng.randint(1, 8) if kind == EXTERNAL else OUTPUTS[kind])
         rng.shuffle(lines)
         ports = {word: [line.split()[2] for line in lines if line.startswith(word)] for word in ("input", "output")}
         self.slaves.append((kind, values, ports["input"], ports["output"]))
         return [f"slave s{slave}"] + lines
+
+    def kind(self):
+        """A kind; seldom one that is elsewhere."""
+        return EXTERNAL if self.rng.random() < .02 else self.rng.choice(list(KINDS))
+
+    def inputs(self, kind):
+        """How many inputs a slave of a kind gets."""
+        return self.rng.randint(0, 8) if kind == EXTERNAL else self.rng.randint(KINDS[kind].least_inputs, KINDS[kind].most_inputs)
 
     def ports(self, word, count):
         references = self.rng.sample(range(100), count)
@@ -118,13 +127,13 @@ class Draft:
 
     def setting(self):
         """A setting that the kind takes after all before, or `none`."""
-        slave = self.rng.randrange(self.count)
+        rng, slave = self.rng, self.rng.randrange(self.count)
         kind, values = self.slaves[slave][:2]
         if not values:
             return "none"
-        index = self.rng.randrange(len(values))
+        index = rng.randrange(len(values))
         changed = list(values)
-        changed[index] = parameters(self.rng, kind, self.wild)[index]
+        changed[index] = rng.randint(-300, 300) if kind == EXTERNAL else parameters(rng, kind, self.wild)[index]
         if not takes_parameters(kind, changed):
             return "none"
         values[index] = changed[index]
