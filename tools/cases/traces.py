@@ -9,7 +9,10 @@ from .scenarios import scenario
 
 def trace(rng):
     """The trace of a run, and mostly not as it was."""
-    hosted, text, log = read_trace(call(["run"], scenario(rng)).trace)
+    hosted, text, log = read_trace(trace_of_run(rng))
+    if rng.random() < .1:
+        text = with_external(rng, text)
+        hosted = rng.choice([1, 1, hosted])
     if rng.random() < .6:
         change_log(rng, log)
         hosted = hosted & rng.getrandbits(6) if rng.random() < .2 else hosted
@@ -17,6 +20,22 @@ def trace(rng):
     if rng.random() < .2:
         damage(rng, data)
     return bytes(data)
+
+
+def trace_of_run(rng):
+    """The trace of a run of a scenario that can be run here."""
+    while True:
+        data = call(["run"], scenario(rng)).trace
+        if data:
+            return data
+
+
+def with_external(rng, text):
+    """The text of a scenario in which the model of one slave is elsewhere."""
+    lines = text.split(b"\n")
+    at = rng.choice([at for at, line in enumerate(lines) if line.startswith(b"model ")])
+    lines[at] = b" ".join([b"model", b"external", *lines[at].split()[2:]])
+    return b"\n".join(lines)
 
 
 def change_log(rng, log):
