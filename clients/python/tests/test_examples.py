@@ -8,6 +8,7 @@ from masters import KIT
 sys.path.insert(0, str(KIT / "examples"))
 
 from dcp_slave import read_scenario  # noqa: E402
+import exchanger  # noqa: E402
 import loop  # noqa: E402
 import oscillator  # noqa: E402
 
@@ -35,6 +36,19 @@ class Examples(unittest.TestCase):
         for _ in range(5):
             rows.append((amp.step([rows[-1][1]], 1)[0], acc.step([rows[-1][0]], 1)[0]))
         self.assertEqual(rows, [(0, 10), (20, 10), (20, 20), (40, 30), (60, 50), (100, 80)])
+
+    def test_the_exchanger_gives_the_rows_that_stand_beside_it(self):
+        text = (KIT / "examples/exchanger.txt").read_bytes()
+        slave = exchanger.Exchanger(read_scenario(text, "exchanger").description)
+        slave.parameters = [400, 200]  # as its `set` line says
+        # a ramp from 600 by 10, a constant, the exchanger on both, and the sum of its outputs; nobody sees what
+        # another shows in the same step
+        rows = [(600, 100, *slave.start(), 0)]
+        for _ in range(12):
+            last = rows[-1]
+            rows.append((last[0] + 10, 100, *slave.step(last[:2], 1), last[2] + last[3]))
+        said = "".join(f"{number} {' '.join(map(str, row))}\n" for number, row in enumerate(rows))
+        self.assertEqual((KIT / "examples/exchanger.rows").read_text(), f"{said}finished 12\n")
 
 
 if __name__ == "__main__":
