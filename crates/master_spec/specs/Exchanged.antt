@@ -1,5 +1,5 @@
 -- What the log of a finished run shows of each step: how its requests and answers follow one another, over all slaves.
-use Rattle.std.specs.Prelude.{◌≡◌, ℕ, zero, suc, ◌+◌, ◌-◌, ◌%◌, ◌<◌, ◌≤◌, ◌&&◌, ◌||◌, Bool, IsTrue, if◌then◌else◌, Option, Some, List, [], ◌∷◌, filter, reverse, slice_get}
+use Rattle.std.specs.Prelude.{◌≡◌, ◌⊎◌, ℕ, zero, suc, ◌+◌, ◌-◌, ◌%◌, ◌<◌, ◌≤◌, ◌&&◌, ◌||◌, Bool, IsTrue, if◌then◌else◌, Option, Some, List, [], ◌∷◌, filter, reverse, slice_get}
 use Rattle.dcp_types.specs.Codes.{state_code}
 use Rattle.dcp_types.specs.declared.states.State.TheVariants as states
 use Rattle.dcp_ends.specs.declared.entries.LogEntry.{LogEntry}
@@ -104,13 +104,19 @@ abbrev pub AreInTurn : (setup : Setup) (log : List LogEntry) (r k q l : ℕ) →
 AreInTurn setup log r k q l x y =
     (s t : Slave) (i : IsIn setup s) (j : IsIn setup t) → IsEndedBefore setup log s r k (x.each s i) (y.each t j).step.first
 
+-- a step of a run
+pub record StepOfRun (setup : Setup) : Type 0 where
+  pub run : ℕ
+  pub step : ℕ
+  pub run_is : (1 ≤ run) × (run ≤ setup.runs)
+  pub step_is : (1 ≤ step) × (step ≤ setup.steps)
+
+-- step l of run q is the one after step k of run r: the next of the run, or the first of the next run
+abbrev pub ComesNext : (steps r k q l : ℕ) → Type 0
+ComesNext steps r k q l = ((q ≡ r) × (l ≡ k + 1)) ⊎ ((q ≡ r + 1) × (k ≡ steps) × (l ≡ 1))
+
 -- What a finished run shows: all steps of all runs are exchanged, one after the other, and between two runs all slaves are reset.
 pub record AllExchanged (setup : Setup) (log : List LogEntry) : Type 0 where
-  pub steps : (r k : ℕ) → 1 ≤ r → r ≤ setup.runs → 1 ≤ k → k ≤ setup.steps → Exchanged setup log r k
-  -- from a step to the next one of its run
-  pub in_turn : (r k : ℕ) (a : 1 ≤ r) (b : r ≤ setup.runs) (c : 1 ≤ k) (d : k ≤ setup.steps) (e : 1 ≤ k + 1) (f : k + 1 ≤ setup.steps)
-      → AreInTurn setup log r k r (k + 1) (steps r k a b c d) (steps r (k + 1) a b e f)
-  -- from the last step of a run to the first one of the next
-  pub over : (r : ℕ) (a : 1 ≤ r) (b : r ≤ setup.runs) (c : 1 ≤ setup.steps) (d : setup.steps ≤ setup.steps) (e : 1 ≤ r + 1) (f : r + 1 ≤ setup.runs) (g : 1 ≤ 1)
-      → AreInTurn setup log r setup.steps (r + 1) 1 (steps r setup.steps a b c d) (steps (r + 1) 1 e f g c)
+  pub steps : (x : StepOfRun setup) → Exchanged setup log x.run x.step
+  pub in_turn : (x y : StepOfRun setup) → ComesNext setup.steps x.run x.step y.run y.step → AreInTurn setup log x.run x.step y.run y.step (steps x) (steps y)
   pub between : (r : ℕ) → 1 ≤ r → r < setup.runs → IsBetween setup log r

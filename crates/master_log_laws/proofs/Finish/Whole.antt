@@ -15,7 +15,7 @@ use Rattle.master_spec.specs.Setup.{setup_from, jobs_of}
 use Rattle.master_spec.specs.Course.{course}
 use Rattle.master_spec.specs.Jobs.{Job}
 use Rattle.master_spec.specs.Requests.{Asking, Decision, is_state_request, is_step, is_stop, is_reset}
-use Rattle.master_spec.specs.Exchanged.{IsIn, in_order, in_run, nth_of, IsDecided, IsEndedBefore, Exchanged, IsBetween, AllExchanged}
+use Rattle.master_spec.specs.Exchanged.{IsIn, in_order, in_run, nth_of, IsDecided, IsEndedBefore, Exchanged, IsBetween, StepOfRun, ComesNext, AllExchanged}
 use Rattle.master_log_laws.specs.Index.Dates.{phase_before}
 use Rattle.master_log_laws.specs.Index.Runs.{course_at, IsRun}
 use Rattle.master_log_laws.specs.Index.Laws.{AreHeard}
@@ -121,6 +121,18 @@ module _ (setup : Setup) (h : AreHeard setup) (log : List LogEntry) (run : IsRun
       let y : (suc r + 1 - 1) * (8 + 2 * setup.steps) ≡ suc r * (8 + 2 * setup.steps) = ap (λ (n : ℕ). n * (8 + 2 * setup.steps)) f in
       omega (arith, w, x, y)
 
+  full_at : (x : StepOfRun setup) (s : Slave) → IsIn setup s → Full setup log s x.run x.step (phase_of setup.steps x.run x.step)
+  full_at x s i = with_slave x.run x.step x.run_is.0 x.run_is.1 x.step_is.0 x.step_is.1 s i
+
+  -- the step after another stands in a later phase than the outputs of that one
+  next_phase : (x y : StepOfRun setup) → ComesNext setup.steps x.run x.step y.run y.step → suc (phase_of setup.steps x.run x.step) < phase_of setup.steps y.run y.step
+  next_phase x y (inl n) =
+      let P : ℕ → Type 0 = λ r. suc (phase_of setup.steps x.run x.step) < phase_of setup.steps r y.step in
+      subst P (sym n.0) (omega (arith, n.1))
+  next_phase x y (inr n) =
+      let P : ℕ → ℕ → ℕ → Type 0 = λ k r l. suc (phase_of setup.steps x.run k) < phase_of setup.steps r l in
+      subst (λ k. P k y.run y.step) (sym n.1.0) (subst (λ r. P setup.steps r y.step) (sym n.0) (subst (λ l. P setup.steps (x.run + 1) l) (sym n.1.1) (next_run x.run x.run_is.0)))
+
   -- ---- from one run to the next
   between_runs : (r : ℕ) (a : 1 ≤ r) → r < setup.runs → (s : Slave) → IsIn setup s → Over setup log s r (phase_of setup.steps r (setup.steps + 1))
   between_runs r a m s i = over setup log s (cut setup h log run steps report i.0 s i.1) r a (omega (arith, m)) m
@@ -164,14 +176,11 @@ module _ (setup : Setup) (h : AreHeard setup) (log : List LogEntry) (run : IsRun
   pub all_exchanged : AllExchanged setup log
   unfolding step_of_all
   all_exchanged = record {
-    steps = λ r k a b c d. step_of_all r k a b c d;
-    in_turn = λ r k a b c d e f s t i j.
-        let v = (with_slave r (k + 1) a b e f t j).step_in in
-        ended_before s r k (phase_of setup.steps r k) (with_slave r k a b c d s i) (((with_slave r (k + 1) a b e f t j).exchange).step).first (omega (arith, v));
-    over = λ r a b c d e f g s t i j.
-        let v = (with_slave (r + 1) 1 e f g c t j).step_in in
-        let w = next_run r a in
-        ended_before s r setup.steps (phase_of setup.steps r setup.steps) (with_slave r setup.steps a b c d s i) (((with_slave (r + 1) 1 e f g c t j).exchange).step).first (omega (arith, v, w));
+    steps = λ x. step_of_all x.run x.step x.run_is.0 x.run_is.1 x.step_is.0 x.step_is.1;
+    in_turn = λ x y n s t i j.
+        let v = (full_at y t j).step_in in
+        let w = next_phase x y n in
+        ended_before s x.run x.step (phase_of setup.steps x.run x.step) (full_at x s i) (((full_at y t j).exchange).step).first (omega (arith, v, w));
     between = λ r a m. between_of r a m;
   }
 

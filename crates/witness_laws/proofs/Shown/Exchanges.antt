@@ -1,5 +1,5 @@
 -- Steps that are exchanged.
-use Rattle.std.proofs.Common.{◌≡◌, ℕ, ◌≤◌, true, [], ◌∷◌, refl, arith, reverse, subst}
+use Rattle.std.proofs.Common.{◌≡◌, ℕ, ◌≤◌, true, [], ◌∷◌, refl, arith, reverse, subst, inl, inr}
 use Rattle.std.specs.List.{list_all}
 use Rattle.dcp_types.specs.Values.{digits}
 use Rattle.pdu_layout.specs.Reading.{message_in, spelling}
@@ -7,7 +7,7 @@ use Rattle.pdu_layout.specs.Fields.FieldValue.{Number}
 use Rattle.master_spec.specs.News.{news_of, request_bytes}
 use Rattle.master_spec.specs.Conversation.{reaction}
 use Rattle.master_spec.specs.Course.{step}
-use Rattle.master_spec.specs.Exchanged.{StepExchange, Exchanged, AllExchanged, in_order}
+use Rattle.master_spec.specs.Exchanged.{StepExchange, Exchanged, StepOfRun, ComesNext, AllExchanged, in_order}
 use Rattle.master_spec.specs.Requests.{Asking}
 use Rattle.master_spec.specs.declared.requests.Answer.TheVariants.{Ack, StateAck}
 use Rattle.master_spec.specs.declared.reports.Report.TheVariants as reports
@@ -74,11 +74,14 @@ exchanged : Exchanged (single 1) (reverse whole) 1 1
 unfolding exchange
 exchanged = alone (single 1) (reverse whole) (small_slave 1) 1 1 only exchange behind
 
+none_next : (x y : StepOfRun (single 1)) → ComesNext 1 x.run x.step y.run y.step → ⊥
+none_next x y (inl n) = let a = x.step_is in let b = y.step_is in omega (arith, a.0, b.1, n.1)
+none_next x y (inr n) = let a = x.run_is in let b = y.run_is in omega (arith, a.0, b.1, n.0)
+
 pub all_exchanged : AllExchanged (single 1) (reverse whole)
 all_exchanged = record {
-  steps = λ r k a b c d. subst (λ r. Exchanged (single 1) (reverse whole) r k) (one r a b) (subst (λ k. Exchanged (single 1) (reverse whole) 1 k) (one k c d) exchanged);
-  in_turn = λ r k a b c d e f. absurd (omega arith);
-  over = λ r a b c d e f g. absurd (omega arith);
+  steps = λ x. subst (λ r. Exchanged (single 1) (reverse whole) r x.step) (one x.run x.run_is.0 x.run_is.1) (subst (λ k. Exchanged (single 1) (reverse whole) 1 k) (one x.step x.step_is.0 x.step_is.1) exchanged);
+  in_turn = λ x y n. absurd (none_next x y n);
   between = λ r a b. absurd (omega arith);
 }
   where

@@ -1,5 +1,5 @@
 -- A run of two steps over a bad network.
-use Rattle.std.proofs.Common.{◌≡◌, ℕ, zero, suc, ◌+◌, ◌≤◌, true, List, [], ◌∷◌, refl, arith, reverse, subst}
+use Rattle.std.proofs.Common.{◌≡◌, ℕ, zero, suc, ◌+◌, ◌≤◌, true, List, [], ◌∷◌, refl, arith, reverse, subst, inl, inr}
 use Rattle.std.specs.List.{list_all}
 use Rattle.dcp_types.specs.Values.{digits}
 use Rattle.pdu_layout.specs.Reading.{message_in, spelling}
@@ -8,7 +8,7 @@ use Rattle.master_spec.specs.News.{news_of, request_bytes}
 use Rattle.master_spec.specs.Conversation.{reaction}
 use Rattle.master_spec.specs.Course.{step}
 use Rattle.master_spec.specs.Shown.{Last}
-use Rattle.master_spec.specs.Exchanged.{Brings, StepExchange, Exchanged, AllExchanged, AreInTurn, in_order}
+use Rattle.master_spec.specs.Exchanged.{Brings, StepExchange, Exchanged, ComesNext, AllExchanged, AreInTurn, in_order}
 use Rattle.master_spec.specs.Requests.{Asking, brings_outputs}
 use Rattle.master_spec.specs.declared.tasks.Task.TheVariants as tasks
 use Rattle.master_spec.specs.declared.causes.Cause.TheVariants.{DataMissing}
@@ -109,17 +109,33 @@ exchanged_in (suc (suc r)) k a b c d = absurd (omega arith)
 exchanged_in (suc zero) zero a b c d = absurd (omega arith)
 exchanged_in (suc zero) (suc (suc (suc k))) a b c d = absurd (omega arith)
 
-in_turn : (r k : ℕ) (a : 1 ≤ r) (b : r ≤ 1) (c : 1 ≤ k) (d : k ≤ 2) (e : 1 ≤ k + 1) (f : k + 1 ≤ 2)
-    → AreInTurn (single 2) (reverse rough_whole) r k r (k + 1) (exchanged_in r k a b c d) (exchanged_in r (k + 1) a b e f)
+-- of one run of two steps only the second comes behind the first
+one_next : (r k q l : ℕ) → r ≤ 1 → 1 ≤ k → 1 ≤ r → q ≤ 1 → l ≤ 2 → ComesNext 2 r k q l → (q ≡ 1) × (k ≡ 1) × (l ≡ 2)
+one_next r k q l a b c d e (inl n) = (omega (arith, n.0), omega (arith, n.1), omega (arith, n.1))
+one_next r k q l a b c d e (inr n) = absurd (omega (arith, n.0))
+
+in_turn : (r k q l : ℕ) (a : 1 ≤ r) (b : r ≤ 1) (c : 1 ≤ k) (d : k ≤ 2) (e : 1 ≤ q) (f : q ≤ 1) (g : 1 ≤ l) (h : l ≤ 2) → (q ≡ 1) × (k ≡ 1) × (l ≡ 2)
+    → AreInTurn (single 2) (reverse rough_whole) r k q l (exchanged_in r k a b c d) (exchanged_in q l e f g h)
 unfolding exchanged_in exchanged_1 exchanged_2 exchange_1 exchange_2
-in_turn (suc zero) (suc zero) a b c d e f = λ s t i j. (omega arith, omega arith)
-in_turn zero k a b c d e f = absurd (omega arith)
-in_turn (suc (suc r)) k a b c d e f = absurd (omega arith)
-in_turn (suc zero) zero a b c d e f = absurd (omega arith)
-in_turn (suc zero) (suc (suc k)) a b c d e f = absurd (omega arith)
+in_turn (suc zero) (suc zero) (suc zero) (suc (suc zero)) a b c d e f g h n = λ s t i j. (omega arith, omega arith)
+in_turn zero k q l a b c d e f g h n = absurd (omega arith)
+in_turn (suc (suc r)) k q l a b c d e f g h n = absurd (omega arith)
+in_turn (suc zero) zero q l a b c d e f g h n = absurd (omega arith)
+in_turn (suc zero) (suc (suc k)) q l a b c d e f g h n = absurd (omega (arith, n.1.0))
+in_turn (suc zero) (suc zero) zero l a b c d e f g h n = absurd (omega arith)
+in_turn (suc zero) (suc zero) (suc (suc q)) l a b c d e f g h n = absurd (omega arith)
+in_turn (suc zero) (suc zero) (suc zero) zero a b c d e f g h n = absurd (omega arith)
+in_turn (suc zero) (suc zero) (suc zero) (suc zero) a b c d e f g h n = absurd (omega (arith, n.1.1))
+in_turn (suc zero) (suc zero) (suc zero) (suc (suc (suc l))) a b c d e f g h n = absurd (omega arith)
 
 pub all_rough : AllExchanged (single 2) (reverse rough_whole)
-all_rough = record { steps = exchanged_in; in_turn = in_turn; over = λ r a b c d e f g. absurd (omega arith); between = λ r a b. absurd (omega arith) }
+all_rough = record {
+  steps = λ x. exchanged_in x.run x.step x.run_is.0 x.run_is.1 x.step_is.0 x.step_is.1;
+  in_turn = λ x y n.
+      in_turn x.run x.step y.run y.step x.run_is.0 x.run_is.1 x.step_is.0 x.step_is.1 y.run_is.0 y.run_is.1 y.step_is.0 y.step_is.1
+      (one_next x.run x.step y.run y.step x.run_is.1 x.step_is.0 x.run_is.0 y.run_is.1 y.step_is.1 n);
+  between = λ r a b. absurd (omega arith);
+}
 
 -- ---- the outputs of the second step are missing
 

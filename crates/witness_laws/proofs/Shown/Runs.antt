@@ -8,7 +8,7 @@ use Rattle.pdu_layout.specs.Fields.FieldValue.{Number}
 use Rattle.master_spec.specs.News.{news_of, request_bytes}
 use Rattle.master_spec.specs.Conversation.{reaction}
 use Rattle.master_spec.specs.Course.{step}
-use Rattle.master_spec.specs.Exchanged.{IsIn, IsDecided, Brings, StepExchange, Exchanged, AllExchanged, AreInTurn, IsBetween, in_order, in_run, nth_of}
+use Rattle.master_spec.specs.Exchanged.{IsIn, IsDecided, Brings, StepExchange, Exchanged, StepOfRun, ComesNext, AllExchanged, AreInTurn, IsBetween, in_order, in_run, nth_of}
 use Rattle.master_spec.specs.Requests.{brings_outputs, Asking, is_prepare, is_step, is_stop, is_reset, is_acked}
 use Rattle.master_spec.specs.declared.requests.Answer.TheVariants.{Ack, Nack, StateAck}
 use Rattle.master_spec.specs.declared.reports.Report.TheVariants as reports
@@ -184,15 +184,33 @@ exchanged_in (suc r) (suc (suc k)) a b c d = absurd (omega arith)
 between_in : (r : ℕ) → 1 ≤ r → r < 2 → IsBetween twice (reverse two_runs) r
 between_in r a b = let one : 1 ≡ r = omega arith in subst (IsBetween twice (reverse two_runs)) one between_runs
 
-over : (r : ℕ) (a : 1 ≤ r) (b : r ≤ 2) (c : 1 ≤ 1) (d : 1 ≤ 1) (e : 1 ≤ r + 1) (f : r + 1 ≤ 2) (g : 1 ≤ 1)
-    → AreInTurn twice (reverse two_runs) r 1 (r + 1) 1 (exchanged_in r 1 a b c d) (exchanged_in (r + 1) 1 e f g c)
+-- of two runs of one step only that of the second run comes behind that of the first
+one_next : (r k q l : ℕ) → 1 ≤ r → 1 ≤ k → q ≤ 2 → l ≤ 1 → ComesNext 1 r k q l → (r ≡ 1) × (k ≡ 1) × (q ≡ 2) × (l ≡ 1)
+one_next r k q l a b c d (inl n) = absurd (omega (arith, n.1))
+one_next r k q l a b c d (inr n) = (omega (arith, n.0), omega (arith, n.1.0), omega (arith, n.0), omega (arith, n.1.1))
+
+in_turn : (r k q l : ℕ) (a : 1 ≤ r) (b : r ≤ 2) (c : 1 ≤ k) (d : k ≤ 1) (e : 1 ≤ q) (f : q ≤ 2) (g : 1 ≤ l) (h : l ≤ 1) → (r ≡ 1) × (k ≡ 1) × (q ≡ 2) × (l ≡ 1)
+    → AreInTurn twice (reverse two_runs) r k q l (exchanged_in r k a b c d) (exchanged_in q l e f g h)
 unfolding exchanged_in exchanged_1 exchanged_2 exchange_1 exchange_2
-over (suc zero) a b c d e f g = λ s t i j. (omega arith, omega arith)
-over zero a b c d e f g = absurd (omega arith)
-over (suc (suc r)) a b c d e f g = absurd (omega arith)
+in_turn (suc zero) (suc zero) (suc (suc zero)) (suc zero) a b c d e f g h n = λ s t i j. (omega arith, omega arith)
+in_turn zero k q l a b c d e f g h n = absurd (omega arith)
+in_turn (suc (suc r)) k q l a b c d e f g h n = absurd (omega (arith, n.0))
+in_turn (suc zero) zero q l a b c d e f g h n = absurd (omega arith)
+in_turn (suc zero) (suc (suc k)) q l a b c d e f g h n = absurd (omega arith)
+in_turn (suc zero) (suc zero) zero l a b c d e f g h n = absurd (omega arith)
+in_turn (suc zero) (suc zero) (suc zero) l a b c d e f g h n = absurd (omega (arith, n.1.1.0))
+in_turn (suc zero) (suc zero) (suc (suc (suc q))) l a b c d e f g h n = absurd (omega arith)
+in_turn (suc zero) (suc zero) (suc (suc zero)) zero a b c d e f g h n = absurd (omega arith)
+in_turn (suc zero) (suc zero) (suc (suc zero)) (suc (suc l)) a b c d e f g h n = absurd (omega arith)
 
 pub all_twice : AllExchanged twice (reverse two_runs)
-all_twice = record { steps = exchanged_in; in_turn = λ r k a b c d e f. absurd (omega arith); over = over; between = between_in }
+all_twice = record {
+  steps = λ x. exchanged_in x.run x.step x.run_is.0 x.run_is.1 x.step_is.0 x.step_is.1;
+  in_turn = λ x y n.
+      in_turn x.run x.step y.run y.step x.run_is.0 x.run_is.1 x.step_is.0 x.step_is.1 y.run_is.0 y.run_is.1 y.step_is.0 y.step_is.1
+      (one_next x.run x.step y.run y.step x.run_is.0 x.step_is.0 y.run_is.1 y.step_is.1 n);
+  between = between_in;
+}
 
 -- ---- runs that lack a reset
 
@@ -272,7 +290,9 @@ overlapping_not x =
     let b : 1 ≤ 2 = omega arith in
     let t : 2 ≤ 2 = omega arith in
     let i : IsIn twice set_between = (0, refl) in
-    not_in_turn ((x.steps 1 1 a b a a).each set_between i) ((x.steps 2 1 b t a a).each set_between i) (x.over 1 a b a a b t a set_between set_between i i).1
+    let first : StepOfRun twice = record { run = 1; step = 1; run_is = (a, b); step_is = (a, a) } in
+    let second : StepOfRun twice = record { run = 2; step = 1; run_is = (b, t); step_is = (a, a) } in
+    not_in_turn ((x.steps first).each set_between i) ((x.steps second).each set_between i) (x.in_turn first second (inr (refl, (refl, refl))) set_between set_between i i).1
 
 -- ---- outputs of the first run in the second
 

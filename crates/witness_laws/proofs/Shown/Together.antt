@@ -8,7 +8,7 @@ use Rattle.pdu_layout.specs.Fields.FieldValue.{Number}
 use Rattle.master_spec.specs.News.{news_of, request_bytes}
 use Rattle.master_spec.specs.Conversation.{reaction}
 use Rattle.master_spec.specs.Course.{step}
-use Rattle.master_spec.specs.Exchanged.{StepExchange, Exchanged, AllExchanged, in_order, in_run, nth_of}
+use Rattle.master_spec.specs.Exchanged.{StepExchange, Exchanged, StepOfRun, ComesNext, AllExchanged, in_order, in_run, nth_of}
 use Rattle.master_spec.specs.Requests.{Asking, brings_outputs, is_step, is_stop, is_outputs}
 use Rattle.master_spec.specs.declared.requests.Answer.TheVariants.{Ack, StateAck}
 use Rattle.master_spec.specs.declared.reports.Report.TheVariants as reports
@@ -178,11 +178,14 @@ exchanged = record {
   sent = λ s t i j a n e k b. ended s i.0 i.1 a.first (later t j.0 j.1 a n e k b);
 }
 
+none_next : (x y : StepOfRun (pair 3 1 1)) → ComesNext 1 x.run x.step y.run y.step → ⊥
+none_next x y (inl n) = let a = x.step_is in let b = y.step_is in omega (arith, a.0, b.1, n.1)
+none_next x y (inr n) = let a = x.run_is in let b = y.run_is in omega (arith, a.0, b.1, n.0)
+
 pub all_together : AllExchanged (pair 3 1 1) (reverse together)
 all_together = record {
-  steps = λ r k a b c d. subst (λ r. Exchanged (pair 3 1 1) (reverse together) r k) (one r a b) (subst (λ k. Exchanged (pair 3 1 1) (reverse together) 1 k) (one k c d) exchanged);
-  in_turn = λ r k a b c d e f. absurd (omega arith);
-  over = λ r a b c d e f g. absurd (omega arith);
+  steps = λ x. subst (λ r. Exchanged (pair 3 1 1) (reverse together) r x.step) (one x.run x.run_is.0 x.run_is.1) (subst (λ k. Exchanged (pair 3 1 1) (reverse together) 1 k) (one x.step x.step_is.0 x.step_is.1) exchanged);
+  in_turn = λ x y n. absurd (none_next x y n);
   between = λ r a b. absurd (omega arith);
 }
   where
