@@ -1,5 +1,5 @@
 -- A finished run has the whole exchange of every step with every slave.
-use Rattle.std.proofs.Common.{◌≡◌, ℕ, zero, suc, ◌+◌, ◌-◌, ◌*◌, ◌<◌, ◌≤◌, ◌⊎◌, inl, inr, Bool, true, false, Option, Some, None, List, [], reverse, refl, sym, ap, ◌∙◌, arith}
+use Rattle.std.proofs.Common.{◌≡◌, ℕ, zero, suc, ◌+◌, ◌-◌, ◌*◌, ◌<◌, ◌≤◌, ◌⊎◌, inl, inr, Bool, true, false, Option, Some, None, List, [], reverse, refl, sym, ap, ◌∙◌, arith, subst}
 use Rattle.std.specs.Prelude.{◌&&◌, ◌||◌, nat_le, slice_get}
 use Rattle.std.proofs.Math.Nat.{suc-mul}
 use Rattle.std.proofs.lemmas.Bool.{eqb-true}
@@ -121,7 +121,7 @@ module _ (setup : Setup) (h : AreHeard setup) (log : List LogEntry) (run : IsRun
       let y : (suc r + 1 - 1) * (8 + 2 * setup.steps) ≡ suc r * (8 + 2 * setup.steps) = ap (λ (n : ℕ). n * (8 + 2 * setup.steps)) f in
       omega (arith, w, x, y)
 
-  full_at : (x : StepOfRun setup) (s : Slave) → IsIn setup s → Full setup log s x.run x.step (phase_of setup.steps x.run x.step)
+  abbrev full_at : (x : StepOfRun setup) (s : Slave) → IsIn setup s → Full setup log s x.run x.step (phase_of setup.steps x.run x.step)
   full_at x s i = with_slave x.run x.step x.run_is.0 x.run_is.1 x.step_is.0 x.step_is.1 s i
 
   -- the step after another stands in a later phase than the outputs of that one
@@ -131,7 +131,7 @@ module _ (setup : Setup) (h : AreHeard setup) (log : List LogEntry) (run : IsRun
       subst P (sym n.0) (omega (arith, n.1))
   next_phase x y (inr n) =
       let P : ℕ → ℕ → ℕ → Type 0 = λ k r l. suc (phase_of setup.steps x.run k) < phase_of setup.steps r l in
-      subst (λ k. P k y.run y.step) (sym n.1.0) (subst (λ r. P setup.steps r y.step) (sym n.0) (subst (λ l. P setup.steps (x.run + 1) l) (sym n.1.1) (next_run x.run x.run_is.0)))
+      subst (λ k. P k y.run y.step) (sym n.1) (subst (λ r. P setup.steps r y.step) (sym n.0) (subst (λ l. P setup.steps (x.run + 1) l) (sym n.2) (next_run x.run x.run_is.0)))
 
   -- ---- from one run to the next
   between_runs : (r : ℕ) (a : 1 ≤ r) → r < setup.runs → (s : Slave) → IsIn setup s → Over setup log s r (phase_of setup.steps r (setup.steps + 1))

@@ -121,11 +121,11 @@ in_turn (suc zero) (suc zero) (suc zero) (suc (suc zero)) a b c d e f g h n = λ
 in_turn zero k q l a b c d e f g h n = absurd (omega arith)
 in_turn (suc (suc r)) k q l a b c d e f g h n = absurd (omega arith)
 in_turn (suc zero) zero q l a b c d e f g h n = absurd (omega arith)
-in_turn (suc zero) (suc (suc k)) q l a b c d e f g h n = absurd (omega (arith, n.1.0))
+in_turn (suc zero) (suc (suc k)) q l a b c d e f g h n = absurd (omega (arith, n.1))
 in_turn (suc zero) (suc zero) zero l a b c d e f g h n = absurd (omega arith)
 in_turn (suc zero) (suc zero) (suc (suc q)) l a b c d e f g h n = absurd (omega arith)
 in_turn (suc zero) (suc zero) (suc zero) zero a b c d e f g h n = absurd (omega arith)
-in_turn (suc zero) (suc zero) (suc zero) (suc zero) a b c d e f g h n = absurd (omega (arith, n.1.1))
+in_turn (suc zero) (suc zero) (suc zero) (suc zero) a b c d e f g h n = absurd (omega (arith, n.2))
 in_turn (suc zero) (suc zero) (suc zero) (suc (suc (suc l))) a b c d e f g h n = absurd (omega arith)
 
 pub all_rough : AllExchanged (single 2) (reverse rough_whole)

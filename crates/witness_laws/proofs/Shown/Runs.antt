@@ -187,7 +187,7 @@ between_in r a b = let one : 1 ≡ r = omega arith in subst (IsBetween twice (re
 -- of two runs of one step only that of the second run comes behind that of the first
 one_next : (r k q l : ℕ) → 1 ≤ r → 1 ≤ k → q ≤ 2 → l ≤ 1 → ComesNext 1 r k q l → (r ≡ 1) × (k ≡ 1) × (q ≡ 2) × (l ≡ 1)
 one_next r k q l a b c d (inl n) = absurd (omega (arith, n.1))
-one_next r k q l a b c d (inr n) = (omega (arith, n.0), omega (arith, n.1.0), omega (arith, n.0), omega (arith, n.1.1))
+one_next r k q l a b c d (inr n) = (omega (arith, n.0, c, a), n.1, omega (arith, n.0, c, a), n.2)
 
 in_turn : (r k q l : ℕ) (a : 1 ≤ r) (b : r ≤ 2) (c : 1 ≤ k) (d : k ≤ 1) (e : 1 ≤ q) (f : q ≤ 2) (g : 1 ≤ l) (h : l ≤ 1) → (r ≡ 1) × (k ≡ 1) × (q ≡ 2) × (l ≡ 1)
     → AreInTurn twice (reverse two_runs) r k q l (exchanged_in r k a b c d) (exchanged_in q l e f g h)
@@ -198,7 +198,7 @@ in_turn (suc (suc r)) k q l a b c d e f g h n = absurd (omega (arith, n.0))
 in_turn (suc zero) zero q l a b c d e f g h n = absurd (omega arith)
 in_turn (suc zero) (suc (suc k)) q l a b c d e f g h n = absurd (omega arith)
 in_turn (suc zero) (suc zero) zero l a b c d e f g h n = absurd (omega arith)
-in_turn (suc zero) (suc zero) (suc zero) l a b c d e f g h n = absurd (omega (arith, n.1.1.0))
+in_turn (suc zero) (suc zero) (suc zero) l a b c d e f g h n = absurd (omega (arith, n.2))
 in_turn (suc zero) (suc zero) (suc (suc (suc q))) l a b c d e f g h n = absurd (omega arith)
 in_turn (suc zero) (suc zero) (suc (suc zero)) zero a b c d e f g h n = absurd (omega arith)
 in_turn (suc zero) (suc zero) (suc (suc zero)) (suc (suc l)) a b c d e f g h n = absurd (omega arith)
@@ -292,7 +292,7 @@ overlapping_not x =
     let i : IsIn twice set_between = (0, refl) in
     let first : StepOfRun twice = record { run = 1; step = 1; run_is = (a, b); step_is = (a, a) } in
     let second : StepOfRun twice = record { run = 2; step = 1; run_is = (b, t); step_is = (a, a) } in
-    not_in_turn ((x.steps first).each set_between i) ((x.steps second).each set_between i) (x.in_turn first second (inr (refl, (refl, refl))) set_between set_between i i).1
+    not_in_turn ((x.steps first).each set_between i) ((x.steps second).each set_between i) (x.in_turn first second (inr (refl, refl, refl)) set_between set_between i i).1
 
 -- ---- outputs of the first run in the second
 
