@@ -1,6 +1,6 @@
 //! The master's calls.
 
-ghost use Rattle.std.specs.Prelude.{◌≡◌, ◌≤◌, ◌-◌, ◌^◌, min, List, [], reverse, length, None, IfOk};
+ghost use Rattle.std.specs.Prelude.{◌≡◌, ◌≤◌, ◌-◌, ◌^◌, min, List, [], reverse, length, None, IfOk, option_map, slice_get};
 ghost use Rattle.std.specs.List.{list_all};
 ghost use Rattle.dcp_ends.specs.Events.{Event};
 ghost use Rattle.scenario.specs.Sound.{IsScenario};
@@ -14,7 +14,7 @@ ghost use Rattle.master_core.specs.Talking.{Now};
 ghost use Rattle.master_core.specs.Standing.{StandsIn, StandsFor, StandsAfter, Meets, IsBehind, core_setup, is_row_due, with_counted, with_talks_turned, with_gram_heard};
 
 use crate::records::{MasterCore, MasterOutbox};
-use crate::rows::Rows;
+use crate::rows::{Rows, value_in};
 use crate::setups::talks_of;
 use crate::stages::Schedule;
 use crate::surveys::{
@@ -63,13 +63,21 @@ impl MasterCore {
         self.rows.counted
     }
 
+    /// The values of row k, which counts over all runs: the outputs of all slaves, by slave and then by
+    /// port. None where there is no such row.
+    pub fn row_values(&self, k: u32) -> Option<&[i128]>
+        ensures { (events : List Event) → StandsAfter self.now events → option_map (λ values. values.now) result ≡ slice_get (course.course (core_setup self.now) (reverse events)).rows k }
+    {
+        self.rows.row(k)
+    }
+
     /// The value of a port in row k, which counts over all runs; slaves count from 1, ports from 0. None
     /// where there is no such row, slave or port.
     pub fn row(&self, k: u32, slave: u8, port: u8) -> Option<i128>
         ensures { (events : List Event) → StandsAfter self.now events → result ≡ column_value (core_setup self.now).slaves (course.course (core_setup self.now) (reverse events)).rows k slave port }
     {
         match column(&self.talks, slave, port) {
-            Some(column) => self.rows.value(k, column),
+            Some(column) => value_in(self.row_values(k), column),
             None => None,
         }
     }

@@ -31,8 +31,8 @@ pub(crate) struct Talk {
 
 /// The master. It is driven as an end: `on_gram` and `on_turn` are its events; `outgoing` is what the
 /// newest event sends, and `clear_outgoing` says that it was sent. Only then may the next event come.
-/// `report`, `rows`, `row` and `turns` tell at any time how far it has come, and `is_over` whether there
-/// is a report. Only `new` takes memory.
+/// `report`, `rows`, `row_values`, `row` and `turns` tell at any time how far it has come, and `is_over`
+/// whether there is a report. Only `new` takes memory.
 #[derive(Debug, Drop)]
 pub struct MasterCore {
     pub(crate) address: Address,

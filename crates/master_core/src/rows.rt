@@ -1,6 +1,7 @@
 //! The rows that came: the outputs of all slaves, by slave and then by port.
 
-ghost use Rattle.std.specs.Prelude.{◌≡◌, ◌≤◌, ◌<◌, ◌+◌, ◌*◌, ◌++◌, ◌∷◌, [], length, IfOk, nat_lt, if◌then◌else◌, None, slice_get, vec_capacity};
+ghost use Rattle.std.specs.Prelude.{◌≡◌, ◌≤◌, ◌<◌, ◌+◌, ◌*◌, ◌++◌, ◌∷◌, [], length, take, drop, IfOk, Some, None, option_map, slice_get, vec_capacity};
+ghost use Rattle.std.specs.Option.{option_and_then};
 ghost use Rattle.master_spec.specs.Course.{values_in};
 
 use dcp_types::{DataType, OutOfMemory, get_value};
@@ -36,16 +37,27 @@ impl Rows {
         })
     }
 
-    /// A value; none where there is no such row.
-    pub fn value(&self, row: u32, column: usize) -> Option<i128>
-        requires { column < 128 }
-        ensures { result ≡ (if nat_lt row self.now.counted then slice_get self.now.values.items (row * self.now.width + column) else None) }
+    /// The values of a row; none where there is no such row.
+    pub fn row(&self, row: u32) -> Option<&[i128]>
+        ensures past { self.now.counted ≤ row → result ≡ None }
+        ensures within { row < self.now.counted → row * self.now.width + self.now.width ≤ length self.now.values.items → option_map (λ values. values.now) result ≡ Some (take self.now.width (drop (row * self.now.width) self.now.values.items)) }
     {
         if row < self.counted {
-            self.values.get(row as usize * self.width + column).copied()
+            let from = row as usize * self.width;
+            self.values.as_slice().get(from..from + self.width)
         } else {
             None
         }
+    }
+}
+
+/// The value at this place of a row; none where there is no such row or place.
+pub(crate) fn value_in(row: Option<&[i128]>, column: usize) -> Option<i128>
+    ensures { result ≡ option_and_then (λ values. slice_get values column) (option_map (λ values. values.now) row.entry) }
+{
+    match row {
+        Some(values) => values.get(column).copied(),
+        None => None,
     }
 }
 

@@ -1,6 +1,6 @@
 //! How all conversations stand.
 
-ghost use Rattle.std.specs.Prelude.{◌≡◌, ◌<◌, ◌≤◌, ◌+◌, ◌++◌, List, length, map, nat_lt, if◌then◌else◌, Some, None, IfSome, vec_capacity};
+ghost use Rattle.std.specs.Prelude.{◌≡◌, ◌<◌, ◌≤◌, ◌+◌, ◌++◌, List, length, map, nat_lt, if◌then◌else◌, Some, None, vec_capacity};
 ghost use Rattle.std.specs.List.{list_all, flat_map};
 ghost use Rattle.dcp_types.specs.declared.limits.Limits.{Limits};
 ghost use Rattle.master_spec.specs.Marks.{verdict_of};
@@ -152,8 +152,7 @@ pub(crate) fn width_of(talks: &[Talk]) -> usize
 /// Where the value of a port stands in a row; none where there is no such slave or port.
 pub(crate) fn column(talks: &[Talk], slave: u8, port: u8) -> Option<usize>
     requires { length talks.now ≤ 16 }
-    ensures column { result ≡ column_in (map slave_talked_to talks.now) slave port }
-    ensures few { IfSome result (λ column. column < 128) }
+    ensures { result ≡ column_in (map slave_talked_to talks.now) slave port }
 {
     let mut first = 0;
     for talk in talks {
