@@ -58,7 +58,8 @@ impl Host {
     /// A host of these ends of a scenario, to which nothing has happened. It takes the memory of the
     /// ends.
     pub fn new(alloc: Global, scenario: Scenario, hosted: Hosted) -> Result<Host, OutOfMemory>
-        requires { IsScenario scenario }
+        requires scenario { IsScenario scenario }
+        requires models { HaveModels (hosted_slaves scenario hosted) }
         ensures { IfOk result (λ host. host ≡ record { scenario = scenario; hosted = hosted; log = []; fault = None }) }
     {
         let master = seated_master(alloc, &scenario, hosted)?;

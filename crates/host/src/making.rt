@@ -2,8 +2,8 @@
 
 ghost use Rattle.std.specs.Prelude.{◌≡◌, ◌≤◌, ◌+◌, ◌++◌, List, Some, None, if◌then◌else◌, All, length, map, IfOk, OnOk};
 ghost use Rattle.std.specs.List.{AllZip};
-ghost use Rattle.slave_desc.specs.Descriptions.{IsDesc};
-ghost use Rattle.scenario.specs.Sound.{IsScenario};
+ghost use Rattle.slave_desc.specs.Descriptions.{IsDesc, HasModel};
+ghost use Rattle.scenario.specs.Sound.{IsScenario, HaveModels};
 ghost use Rattle.slave_spec.specs.declared.words.SlaveSetup.{SlaveSetup};
 ghost use Rattle.host.specs.Hosting.{hosted_from, hosted_slaves};
 ghost use Rattle.host.specs.Seats.{IsFresh, IsFirstFresh, Making, master_making, slave_making};
@@ -33,6 +33,7 @@ fn seated_slave(
     desc: &SlaveDesc,
 ) -> Result<SlaveSeat, OutOfMemory>
     requires desc { IsDesc desc.now }
+    requires model { HasModel desc.now }
     requires micro { (1 ≤ scenario.now.micro) × (scenario.now.micro ≤ 1000) }
     ensures { IfOk result (λ seat. IsFresh ⟦<SlaveSeat as Seat>⟧ seat (slave_making scenario.now desc.now)) }
 {
@@ -52,6 +53,7 @@ fn seat_hosted(
 ) -> Result<(), OutOfMemory>
     requires micro { (1 ≤ scenario.now.micro) × (scenario.now.micro ≤ 1000) }
     requires descs { All (λ d. IsDesc d) descs.now }
+    requires models { HaveModels (hosted_from hosted slave descs.now) }
     requires number { (1 ≤ slave) × (slave + length descs.now ≤ 17) }
     ensures { OnOk result ((all : List (Making SlaveSetup)) → AllZip (IsFresh ⟦<SlaveSeat as Seat>⟧) seats.old.items all
         → AllZip (IsFresh ⟦<SlaveSeat as Seat>⟧) seats.new.items (all ++ map (slave_making scenario.now) (hosted_from hosted slave descs.now))) }
@@ -66,13 +68,14 @@ fn seat_hosted(
     Ok(())
 }
 
-/// The hosted slaves in their seats, in order.
+/// The hosted slaves in their seats, in order: each has a model here.
 pub(crate) fn seated_slaves(
     alloc: Global,
     scenario: &Scenario,
     hosted: Hosted,
 ) -> Result<Vec<SlaveSeat>, OutOfMemory>
-    requires { IsScenario scenario.now }
+    requires scenario { IsScenario scenario.now }
+    requires models { HaveModels (hosted_slaves scenario.now hosted) }
     ensures { IfOk result (λ seats. AllZip (IsFresh ⟦<SlaveSeat as Seat>⟧) seats.items (map (slave_making scenario.now) (hosted_slaves scenario.now hosted))) }
 {
     let mut seats = Vec::new(alloc);

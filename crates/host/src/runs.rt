@@ -1,9 +1,9 @@
 //! A run, round by round.
 
 ghost use Rattle.std.specs.Prelude.{◌≡◌, IsTrue, OnOk, OnErr, IfOk, IfErr, IfSome};
-ghost use Rattle.scenario.specs.Sound.{IsScenario};
+ghost use Rattle.scenario.specs.Sound.{IsScenario, HaveModels};
 ghost use Rattle.rounds.specs.Steps.{Caused};
-ghost use Rattle.host.specs.Hosting.{all_ends, opening_of};
+ghost use Rattle.host.specs.Hosting.{all_ends, hosted_slaves, opening_of};
 ghost use Rattle.host.specs.Views.{fault_of, Tells};
 ghost use Rattle.host.specs.Runs.{IsBegun, IsWhole, IsCutShort, StopsAt};
 
@@ -45,7 +45,8 @@ fn run_on<N: Net>(host: &mut Host, net: &mut N) -> Result<(), HostFault>
 /// Runs all ends of a scenario over this network until the master has its report. The host that is
 /// answered has the log, the rows and the report.
 pub fn run_scenario<N: Net>(alloc: Global, scenario: Scenario, net: &mut N) -> Result<Host, Stopped>
-    requires { IsScenario scenario }
+    requires scenario { IsScenario scenario }
+    requires models { HaveModels (hosted_slaves scenario all_ends) }
     ensures setup { IfOk result (λ host. (host.scenario ≡ scenario) × (host.hosted ≡ all_ends)) }
     ensures whole { IfOk result (λ host. IsWhole host) }
     ensures told { IfOk result (λ host. Tells (N.calls net.new) host.log) }
