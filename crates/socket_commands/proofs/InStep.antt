@@ -20,6 +20,7 @@ use Rattle.socket_commands.specs.declared.parts.Part.TheVariants as parts
 use Rattle.socket_commands.specs.Changes.{LiveChange}
 use Rattle.socket_commands.specs.Parts.{hosted_of}
 use Rattle.socket_commands.specs.Says.{ComesTo, HasLived, HostsMaster, ReportsOn}
+use Rattle.socket_commands.proofs.Live.{whole}
 
 -- a hosted master follows its rules
 leads : (host : HostView) (part : Part) → HostsMaster part → host.hosted ≡ hosted_of part → IfSome (master_in host) (λ rules. Follows rules host.log) → MasterRun host.scenario host.log
@@ -49,7 +50,9 @@ module _ (words : List (List ℕ)) (net : LiveChange) (input : List ℕ) (part :
   text_is = came.3 ∙ ap (run_text host) same_report
 
   has : HasRounds host
-  has = record { sound = sound; hosted = lived.hosted ∙ ap hosted_of all; count = lived.run.count; rounds = lived.run.rounds; master = master; slaves = slaves }
+  has =
+      let run = lived.run in
+      record { sound = sound; hosted = lived.hosted ∙ ap hosted_of all; count = run.count; rounds = whole _ _ _ run.count run.resting host.log run.rounds; master = master; slaves = slaves }
 
   pub lives_in_step : IsInStepIfHonest host.scenario host.log report text
   lives_in_step other honest = let Printed : List ℕ → Type 0 = λ printed. KeepsInStep host.scenario other host.log report printed in subst Printed (sym text_is) (in_step host has report reported other honest)

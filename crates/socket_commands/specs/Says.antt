@@ -24,16 +24,16 @@ use Rattle.socket_commands.specs.declared.parts.Part.{Part}
 use Rattle.socket_commands.specs.declared.parts.Part.TheVariants as parts
 use Rattle.socket_commands.specs.Changes.{LiveChange}
 use Rattle.socket_commands.specs.Lines.{slave_line}
-use Rattle.socket_commands.specs.Lives.{HasRun}
+use Rattle.socket_commands.specs.Lives.{HasRun, stays}
 use Rattle.socket_commands.specs.Parts.{HasNoPart, NamesPart, bits_in, hosted_of}
 
--- The ends that the words name, of the scenario that the text is, have run until they were done. Where the network tells them, it was opened for these ends with the scenario's plan, and its calls are the host's log without its turns.
+-- The ends that the words name, of the scenario that the text is, have run until they were done, and a slave without its master until its last request could not come again. Where the network tells them, it was opened for these ends with the scenario's plan, and its calls are the host's log without its turns.
 pub record HasLived (words : List (List ℕ)) (net : LiveChange) (input : List ℕ) (part : Part) (host : HostView) : Type 0 where
   pub short : length input ≤ input_limit
   pub reads : ReadsAsScenario input host.scenario
   pub named : NamesPart words host.scenario part
   pub hosted : host.hosted ≡ hosted_of part
-  pub run : HasRun net.waits_before net.waits_now host
+  pub run : HasRun net.waits_before net.waits_now (stays part host.scenario.limits) host
   pub opened : IfSome net.told.opening (λ opening. opening ≡ opening_of host.scenario (hosted_of part))
   pub told : Tells net.told.calls host.log
 
