@@ -1,6 +1,7 @@
 pub mod Places
 pub mod Apart
 pub mod Fresh
+pub mod Models
 pub mod Follow
 pub mod AllOver
 pub mod Found

@@ -1,4 +1,5 @@
 pub mod Hosting
+pub mod Externals
 pub mod Views
 pub mod Seats
 pub mod Hosts

@@ -1,5 +1,7 @@
 //! Hosted slaves whose models are not this program's, so that they cannot run here.
 
+#![tactic(auto, using(crate::proofs::Models::models_here))]
+
 ghost use Rattle.std.specs.Prelude.{◌≡◌, ◌≤◌, ◌+◌, length, IfNone, IfSome};
 ghost use Rattle.scenario.specs.Sound.{IsScenario, HaveModels};
 ghost use Rattle.host.specs.Externals.{external_from, external_in};

@@ -1,10 +1,10 @@
 //! A host: the hosted ends of one scenario, their rounds, their log, and the fault that stopped them.
 
 ghost use Rattle.std.specs.Prelude.{◌≡◌, ◌+◌, [], ℕ, None, Err, IsTrue, OnOk, OnErr, IfOk, IfSome};
-ghost use Rattle.scenario.specs.Sound.{IsScenario};
+ghost use Rattle.scenario.specs.Sound.{IsScenario, HaveModels};
 ghost use Rattle.rounds.specs.Rounds.{IsRound, IsRoundPart, Rounds};
 ghost use Rattle.rounds.specs.Steps.{AddsPart, Caused};
-ghost use Rattle.host.specs.Hosting.{opening_of};
+ghost use Rattle.host.specs.Hosting.{hosted_slaves, opening_of};
 ghost use Rattle.host.specs.Views.{fault_of, is_done, master_in, progress_of, slaves_in, Tells};
 
 use crate::hosted::{Hosted, Progress};

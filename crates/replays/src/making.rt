@@ -1,13 +1,15 @@
 //! How the hosted ends are made anew.
 
+#![tactic(auto, using(host::proofs::Models::models_here))]
+
 ghost use Rattle.std.specs.Prelude.{◌≡◌, ◌≤◌, ◌+◌, ◌++◌, All, length, map, IfOk, IfSome, OnOk};
 ghost use Rattle.std.specs.Option.{option_map};
-ghost use Rattle.slave_desc.specs.Descriptions.{IsDesc};
-ghost use Rattle.scenario.specs.Sound.{IsScenario};
+ghost use Rattle.slave_desc.specs.Descriptions.{IsDesc, HasModel};
+ghost use Rattle.scenario.specs.Sound.{IsScenario, HaveModels};
 ghost use Rattle.master_core.specs.Standing.{core_setup};
 ghost use Rattle.master_spec.specs.Setup.{setup_from};
 ghost use Rattle.rounds.specs.Rounds.{places_of};
-ghost use Rattle.host.specs.Hosting.{hosted_from, is_hosted, master_of, slave_rules, slaves_of};
+ghost use Rattle.host.specs.Hosting.{hosted_from, hosted_slaves, is_hosted, master_of, slave_rules, slaves_of};
 ghost use Rattle.replays.specs.Visits.{IsNewEnd};
 
 use crate::copies::copied_desc;
@@ -32,6 +34,7 @@ fn is_hosted(hosted: Hosted, slave: u8) -> bool
 /// A slave of this description.
 fn slave_of(alloc: Global, scenario: &Scenario, desc: &SlaveDesc) -> Result<SlaveEnd, OutOfMemory>
     requires desc { IsDesc desc.now }
+    requires model { HasModel desc.now }
     requires micro { (1 ≤ scenario.now.micro) × (scenario.now.micro ≤ 1000) }
     ensures rules { IfOk result (λ end. ⟦<SlaveEnd as End>⟧.rules end ≡ slave_rules scenario.now desc.now) }
     ensures fresh { IfOk result (λ end. IsNewEnd ⟦<SlaveEnd as End>⟧ end) }
@@ -53,6 +56,7 @@ fn add_slaves(
 ) -> Result<(), OutOfMemory>
     requires micro { (1 ≤ scenario.now.micro) × (scenario.now.micro ≤ 1000) }
     requires descs { All (λ d. IsDesc d) descs.now }
+    requires models { HaveModels (hosted_from hosted slave descs.now) }
     requires number { (1 ≤ slave) × (slave + length descs.now ≤ 17) }
     ensures rules { OnOk result (map ⟦<SlaveEnd as End>⟧.rules ends.new.items
         ≡ map ⟦<SlaveEnd as End>⟧.rules ends.old.items ++ map (slave_rules scenario.now) (hosted_from hosted slave descs.now)) }
@@ -68,13 +72,14 @@ fn add_slaves(
     Ok(())
 }
 
-/// The hosted slaves, in order.
+/// The hosted slaves, in order: each has a model here.
 pub(crate) fn new_slaves(
     alloc: Global,
     scenario: &Scenario,
     hosted: Hosted,
 ) -> Result<Vec<SlaveEnd>, OutOfMemory>
-    requires { IsScenario scenario.now }
+    requires scenario { IsScenario scenario.now }
+    requires models { HaveModels (hosted_slaves scenario.now hosted) }
     ensures rules { IfOk result (λ ends. map ⟦<SlaveEnd as End>⟧.rules ends.items ≡ slaves_of scenario.now hosted) }
     ensures fresh { IfOk result (λ ends. All (IsNewEnd ⟦<SlaveEnd as End>⟧) ends.items) }
 {

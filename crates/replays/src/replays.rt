@@ -1,7 +1,8 @@
 //! A trace gone through again.
 
 ghost use Rattle.std.specs.Prelude.{◌≡◌, IfOk};
-ghost use Rattle.scenario.specs.Sound.{IsScenario};
+ghost use Rattle.scenario.specs.Sound.{IsScenario, HaveModels};
+ghost use Rattle.host.specs.Hosting.{hosted_slaves};
 ghost use Rattle.replays.specs.Replays.{Answers, IsReplayed, replay_fault};
 
 use crate::faults::ReplayFault;
@@ -36,7 +37,7 @@ fn fault_of(stop: Stop, entries: usize) -> ReplayFault
 
 /// Makes the hosted ends of a scenario anew, gives them the Gots and Turns of a trace, and compares what
 /// they then send with its Sents. The answer is the master with its report, or where the trace differs or
-/// breaks off. Where no master is hosted there is no report, so a trace that does not differ breaks off.
+/// breaks off. Each hosted slave has a model here. Where no master is hosted there is no report, so a trace that does not differ breaks off.
 /// Only making the ends takes memory.
 pub fn replay(
     alloc: Global,
@@ -44,7 +45,8 @@ pub fn replay(
     hosted: Hosted,
     entries: &Entries<'_>,
 ) -> Result<Replayed, ReplayFault>
-    requires { IsScenario scenario.now }
+    requires scenario { IsScenario scenario.now }
+    requires models { HaveModels (hosted_slaves scenario.now hosted) }
     ensures answers { Answers scenario.now hosted entries.now result }
     ensures replayed { IfOk result (λ replayed. IsReplayed scenario.now entries.now replayed) }
 {
