@@ -30,7 +30,6 @@ use Rattle.run_laws.proofs.Rounded.{rounds_are_runs}
 use Rattle.run_laws.specs.Headline.Headline.{IsInLockstep, KeepsToReference}
 use Rattle.run_laws.proofs.Headline.Headline.{keep_to_reference}
 use Rattle.run_text.specs.Closings.{reference_text, report_text}
-use Rattle.run_text.proofs.Outputs.{table_is_rows}
 use Rattle.commands.specs.InStep.{IsInStepIfHonest, PrintsReference, SumsInStep}
 use Rattle.commands.specs.SaysRun.{master_events, report_after, run_text}
 use Rattle.commands.specs.SaysSoak.{rows_after}
@@ -101,7 +100,7 @@ module _ (host : HostView) (report : Report) (reported : report_after host ≡ S
   report_is = ap (λ (z : List Event). (course (setup_from host.scenario) z).report) (events_reverse (setup_from host.scenario) host.log) ∙ reported
 
   pub text_is : run_text host report ≡ report_text (course_at (setup_from host.scenario) (reverse host.log)).rows report
-  text_is = ap (λ (rows : List (List ℤ)). report_text rows report) (table_is_rows host.scenario (master_events host) ∙ sym rows_are)
+  text_is = ap (λ (rows : List (List ℤ)). report_text rows report) (sym rows_are)
 
   prints : (other : SlaveDesc) (rows : List (List ℤ)) (fault : Option RefFault) → IsInLockstep host.scenario other rows fault (reverse host.log)
       → ((steps : ℕ) → report ≡ Finished steps → steps ≡ host.scenario.steps) → PrintsReference host.scenario rows fault report (run_text host report)
@@ -133,7 +132,7 @@ pub sums_in_step : (host : HostView) (report : Report) → report_after host ≡
     → SumsInStep host.scenario other host.log report (rows_after host)
 sums_in_step host report reported other keeps =
     let now = keeps.always [] (reverse host.log) refl in
-    let same : rows_after host ≡ (course_at (setup_from host.scenario) (reverse host.log)).rows = table_is_rows host.scenario (master_events host) ∙ sym (rows_are host report reported) in
+    let same : rows_after host ≡ (course_at (setup_from host.scenario) (reverse host.log)).rows = sym (rows_are host report reported) in
     record {
       keeps = keeps;
       sums = record {

@@ -155,7 +155,7 @@ refused_soak number net input said refused given =
 pub replay_says : (held holds : Option (List ℕ)) (before now : ℕ) (kept : Option (List ℕ)) (count : ℕ) (net : NetTold) (input : List ℕ) (scenario : Scenario) (replayed : Replayed) (status : Status)
     → (goes : GoesThrough input scenario replayed) → ReplayDelivered held holds before now scenario goes.entries replayed status → Delivered held holds before now kept kept count count Replay net input status
 replay_says held holds before now kept count net input scenario replayed status goes run =
-    let text = text_after scenario (setup_from scenario) (reverse (events_at scenario.master goes.entries)) replayed.report in
+    let text = text_after (setup_from scenario) (reverse (events_at scenario.master goes.entries)) replayed.report in
     let runs : ReplaysTo input replayed.report text =
     record { scenario = scenario; hosted = goes.hosted; entries = goes.entries; trace = goes.trace; right = goes.right; ended = goes.ended; reported = goes.stands.report; text_is = refl } in
     (judgement_of_report replayed.report, run.delivery, text, [], (says replayed.report text runs, refl), text_alone held holds before now kept count text run.delivery run.delivered, run.status_is)

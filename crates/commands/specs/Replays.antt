@@ -69,5 +69,5 @@ FollowsReport report status = (delivery : Delivery) × (status ≡ status_after 
 -- the rows and the report were delivered, and the status follows
 pub record ReplayDelivered (held holds : Option (List ℕ)) (before now : ℕ) (scenario : Scenario) (entries : List LogEntry) (replayed : replays.Replayed) (status : Status) : Type 0 where
   pub delivery : Delivery
-  pub delivered : Delivers held holds before now (text_after scenario (setup_from scenario) (reverse (events_at scenario.master entries)) replayed.report) delivery
+  pub delivered : Delivers held holds before now (text_after (setup_from scenario) (reverse (events_at scenario.master entries)) replayed.report) delivery
   pub status_is : status ≡ status_after (judgement_of_report replayed.report) delivery

@@ -55,7 +55,7 @@ pub record ReplaysTo (input : List ℕ) (report : Report) (text : List ℕ) : Ty
   pub right : AreRight (master_of scenario hosted) (slaves_of scenario hosted) entries
   pub ended : IsEnded (master_of scenario hosted) (slaves_of scenario hosted) entries
   pub reported : (course (setup_from scenario) (reverse (events_at scenario.master entries))).report ≡ Some report
-  pub text_is : text ≡ text_after scenario (setup_from scenario) (reverse (events_at scenario.master entries)) report
+  pub text_is : text ≡ text_after (setup_from scenario) (reverse (events_at scenario.master entries)) report
 
 -- from 0
 abbrev pub differs_line : (at : ℕ) → List ℕ

@@ -61,7 +61,7 @@ report_after host = (course (setup_from host.scenario) (master_events host)).rep
 
 -- the rows of the scenario's master after its events in the log, and the line of this report
 abbrev pub run_text : HostView → Report → List ℕ
-run_text host report = text_after host.scenario (setup_from host.scenario) (master_events host) report
+run_text host report = text_after (setup_from host.scenario) (master_events host) report
 
 -- the trace of all ends, the input and the log
 abbrev pub run_trace : (input : List ℕ) → HostView → List ℕ

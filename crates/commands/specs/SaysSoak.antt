@@ -3,8 +3,8 @@ use Rattle.std.specs.Prelude.{◌≡◌, ℕ, ℤ, List}
 use Rattle.master_spec.specs.declared.causes.Cause.{Cause}
 use Rattle.master_spec.specs.declared.reports.Report.{Report}
 use Rattle.master_spec.specs.declared.reports.Report.TheVariants as reports
+use Rattle.master_spec.specs.Course.{course}
 use Rattle.master_spec.specs.Setup.{setup_from}
-use Rattle.run_text.specs.Tables.{table_after}
 use Rattle.host.specs.Views.{HostView}
 use Rattle.soaks.specs.Summaries.{summary}
 use Rattle.commands.specs.declared.statuses.Judgement.{Judgement}
@@ -15,7 +15,7 @@ use Rattle.commands.specs.SaysRun.{NetTold, RunsTo, master_events}
 
 -- the rows of the scenario's master after its events in the log
 abbrev pub rows_after : HostView → List (List ℤ)
-rows_after host = table_after host.scenario (setup_from host.scenario) (master_events host)
+rows_after host = (course (setup_from host.scenario) (master_events host)).rows
 
 -- There is a run of the scenario that the text is, as `run` has it; what it would print and trace is not written. What is written instead is the line of its report and the sum of its rows.
 pub record SoaksTo (number : ℕ) (net : NetTold) (input : List ℕ) (report : Report) (text : List ℕ) : Type 0 where

@@ -4,7 +4,7 @@ ghost use Rattle.std.specs.Prelude.{◌≡◌, ℕ, List};
 ghost use Rattle.commands.specs.Answers.{Delivered, GivesAnswer, IsRefusal, IsAlone, IsWritable, IsWritableAnswer, RunDelivered, SoakDelivered};
 ghost use Rattle.commands.specs.Replays.{FollowsReport, ReplayDelivered};
 ghost use Rattle.replays.specs.Replays.{IsReplayed};
-ghost use Rattle.scenario.specs.Sound.{IsScenario};
+ghost use Rattle.scenario.specs.declared.scenarios.Scenario.{Scenario};
 ghost use Rattle.dcp_ends.specs.declared.entries.LogEntry.{LogEntry};
 ghost use Rattle.commands.specs.Statuses.{ComesBeforeWriting, ComesWithoutNet, judgement_of_report};
 ghost use Rattle.commands.specs.SaysRun.{NetTold};
@@ -95,13 +95,12 @@ fn deliver_run<K: Sink, R: Sink>(out: &mut K, trace: &mut R, host: &Host, input:
 }
 
 /// Writes the rows and the report of a trace that went through.
-fn deliver_replayed<K: Sink>(out: &mut K, scenario: &Scenario, replayed: &Replayed) -> Status
-    requires { IsScenario scenario.now }
+fn deliver_replayed<K: Sink>(out: &mut K, replayed: &Replayed) -> Status
     ensures follows { FollowsReport replayed.now.report result }
-    ensures delivered { (entries : List LogEntry) → IsReplayed scenario.now entries replayed.now
-        → ReplayDelivered (K.written out.old) (K.written out.new) (K.faults out.old) (K.faults out.new) scenario.now entries replayed.now result }
+    ensures delivered { (scenario : Scenario) (entries : List LogEntry) → IsReplayed scenario entries replayed.now
+        → ReplayDelivered (K.written out.old) (K.written out.new) (K.faults out.old) (K.faults out.new) scenario entries replayed.now result }
 {
-    let delivery = write_report(out, scenario, &replayed.master, replayed.report);
+    let delivery = write_report(out, &replayed.master, replayed.report);
     judgement_of(replayed.report).status(delivery)
 }
 
@@ -117,7 +116,7 @@ fn deliver_soak<K: Sink>(out: &mut K, number: u32, host: &Host) -> Status
         unreachable!()
     };
     let _log = host.log();
-    let delivery = write_summary(out, number, host.scenario(), task.end(), report);
+    let delivery = write_summary(out, number, task.end(), report);
     judgement_of(report).status(delivery)
 }
 
@@ -139,9 +138,7 @@ pub fn deliver<K: Sink, R: Sink>(
     match answer {
         CommandAnswer::Said(said) => said.judgement.status(write_text(out, &said.text)),
         CommandAnswer::Ran(host) => deliver_run(out, trace, &host, input),
-        CommandAnswer::Replayed { scenario, replayed } => deliver_replayed(
-            out, &scenario, &replayed,
-        ),
+        CommandAnswer::Replayed { replayed, .. } => deliver_replayed(out, &replayed),
         CommandAnswer::Soaked { number, host } => deliver_soak(out, number, &host),
     }
 }

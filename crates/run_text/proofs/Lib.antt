@@ -1,4 +1,1 @@
 pub mod Growth
-pub mod Widths
-pub mod Outputs
-pub mod Tables

@@ -9,7 +9,7 @@ use itoa::Buffer;
 use lockstep::Rows;
 
 /// Puts the number that a row begins with.
-pub fn put_number<K: Sink>(spool: &mut Spool, out: &mut K, number: usize)
+fn put_number<K: Sink>(spool: &mut Spool, out: &mut K, number: usize)
     ensures { Puts (K.written out.old) (K.written out.new) (K.faults out.old) (K.faults out.new) spool.old spool.new (decimal number) }
 {
     let mut digits = Buffer::new();
@@ -17,7 +17,7 @@ pub fn put_number<K: Sink>(spool: &mut Spool, out: &mut K, number: usize)
 }
 
 /// Puts a value of a row behind a space.
-pub fn put_value<K: Sink>(spool: &mut Spool, out: &mut K, value: &i128)
+fn put_value<K: Sink>(spool: &mut Spool, out: &mut K, value: &i128)
     ensures { Puts (K.written out.old) (K.written out.new) (K.faults out.old) (K.faults out.new) spool.old spool.new (spaced_value value.now) }
 {
     let mut digits = Buffer::new();
@@ -26,7 +26,7 @@ pub fn put_value<K: Sink>(spool: &mut Spool, out: &mut K, value: &i128)
 }
 
 /// Puts the end of a row's line.
-pub fn put_row_end<K: Sink>(spool: &mut Spool, out: &mut K)
+fn put_row_end<K: Sink>(spool: &mut Spool, out: &mut K)
     ensures { Puts (K.written out.old) (K.written out.new) (K.faults out.old) (K.faults out.new) spool.old spool.new (codes "\n") }
 {
     spool.put(out, b"\n");

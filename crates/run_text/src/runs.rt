@@ -31,27 +31,21 @@ pub fn write_run<K: Sink, R: Sink>(
     requires input { length input.now < 2 ^ 32 }
     ensures { (events : List Event) → StandsAfter master.now events → DeliversBoth (K.written out.old) (K.written out.new) (K.faults out.old) (K.faults out.new)
         (R.written trace.old) (R.written trace.new) (R.faults trace.old) (R.faults trace.new)
-        (text_after scenario.now (core_setup master.now) (reverse events) report) (trace_bytes (all_bits (length scenario.now.slaves)) input.now log.now.entries) result }
+        (text_after (core_setup master.now) (reverse events) report) (trace_bytes (all_bits (length scenario.now.slaves)) input.now log.now.entries) result }
 {
-    match write_report(out, scenario, master, report) {
+    match write_report(out, master, report) {
         Delivery::Whole => write_trace(trace, scenario, input, log),
         Delivery::Cut => Delivery::Cut,
     }
 }
 
 /// Writes the rows and the line of the report.
-pub fn write_report<K: Sink>(
-    out: &mut K,
-    scenario: &Scenario,
-    master: &MasterCore,
-    report: Report,
-) -> Delivery
-    requires { IsScenario scenario.now }
+pub fn write_report<K: Sink>(out: &mut K, master: &MasterCore, report: Report) -> Delivery
     ensures { (events : List Event) → StandsAfter master.now events → Delivers (K.written out.old) (K.written out.new) (K.faults out.old) (K.faults out.new)
-        (text_after scenario.now (core_setup master.now) (reverse events) report) result }
+        (text_after (core_setup master.now) (reverse events) report) result }
 {
     let mut spool = Spool::new();
-    put_rows(&mut spool, out, scenario, master);
+    put_rows(&mut spool, out, master);
     put_report_line(&mut spool, out, report);
     spool.finish(out)
 }

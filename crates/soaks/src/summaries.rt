@@ -3,11 +3,10 @@
 ghost use Rattle.std.specs.Prelude.{◌≡◌, ◌≤◌, List, length, reverse};
 ghost use Rattle.dcp_io.specs.Outputs.{Delivers};
 ghost use Rattle.dcp_ends.specs.Events.{Event};
-ghost use Rattle.scenario.specs.Sound.{IsScenario};
+ghost use Rattle.master_spec.specs.Course.{course};
 ghost use Rattle.master_core.specs.Standing.{StandsAfter, core_setup};
 ghost use Rattle.run_text.specs.Closings.{named};
 ghost use Rattle.run_text.specs.Puts.{Puts};
-ghost use Rattle.run_text.specs.Tables.{table_after};
 ghost use Rattle.soaks.specs.Summaries.{first_line, sum_text, summary};
 
 use crate::sums::sum_of_rows;
@@ -16,7 +15,6 @@ use itoa::Buffer;
 use master_core::MasterCore;
 use master_spec::Report;
 use run_text::put_report_line;
-use scenario::Scenario;
 
 /// Puts a word, and a number behind it.
 fn put_named<K: Sink>(spool: &mut Spool, out: &mut K, name: &str, number: u32)
@@ -54,15 +52,13 @@ fn put_first<K: Sink>(spool: &mut Spool, out: &mut K, number: u32, report: Repor
 pub fn write_summary<K: Sink>(
     out: &mut K,
     number: u32,
-    scenario: &Scenario,
     master: &MasterCore,
     report: Report,
 ) -> Delivery
-    requires { IsScenario scenario.now }
     ensures { (events : List Event) → StandsAfter master.now events → Delivers (K.written out.old) (K.written out.new) (K.faults out.old) (K.faults out.new)
-        (summary number report (table_after scenario.now (core_setup master.now) (reverse events))) result }
+        (summary number report (course (core_setup master.now) (reverse events)).rows) result }
 {
-    let sum = sum_of_rows(scenario, master);
+    let sum = sum_of_rows(master);
     let mut spool = Spool::new();
     put_first(&mut spool, out, number, report);
     put_sum(&mut spool, out, sum);

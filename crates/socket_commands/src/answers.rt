@@ -6,7 +6,6 @@ ghost use Rattle.commands.specs.SaysRun.{run_text};
 ghost use Rattle.commands.specs.Statuses.{ComesBeforeWriting, ComesWithoutNet};
 ghost use Rattle.dcp_record.specs.Traces.{trace_bytes};
 ghost use Rattle.run_text.specs.Runs.{DeliversBoth};
-ghost use Rattle.scenario.specs.Sound.{IsScenario};
 ghost use Rattle.socket_commands.specs.Answers.{Delivered, GivesLive, HasMaster, IsLiveRefusal, IsWritableRun, IsWritableLive, RunDelivered, ended_text};
 ghost use Rattle.socket_commands.specs.Changes.{LiveChange};
 ghost use Rattle.socket_commands.specs.Parts.{IsPart, bits_in};
@@ -49,20 +48,18 @@ pub enum Ending {
 
 /// Writes the rows of the master and its report.
 fn write_rows<K: Sink>(out: &mut K, host: &Host, report: Report) -> Delivery
-    requires sound { IsScenario host.now.scenario }
-    requires hosted { host.now.hosted.master ≡ true }
+    requires { host.now.hosted.master ≡ true }
     ensures { Delivers (K.written out.old) (K.written out.new) (K.faults out.old) (K.faults out.new) (run_text host.now report) result }
 {
     let Some(task) = host.master_task() else {
         unreachable!()
     };
-    write_report(out, host.scenario(), task.end(), report)
+    write_report(out, task.end(), report)
 }
 
 /// Writes the text of a run.
 fn write_ending<K: Sink>(out: &mut K, run: &Run) -> Delivery
-    requires sound { IsScenario run.now.host.scenario }
-    requires master { HasMaster run.now.host run.now.ending }
+    requires { HasMaster run.now.host run.now.ending }
     ensures { Delivers (K.written out.old) (K.written out.new) (K.faults out.old) (K.faults out.new) (ended_text run.now.host run.now.ending) result }
 {
     match &run.ending {
@@ -102,7 +99,6 @@ fn write_both<K: Sink, R: Sink>(
     input: &[u8],
     log: &RunLog,
 ) -> Delivery
-    requires sound { IsScenario run.now.host.scenario }
     requires master { HasMaster run.now.host run.now.ending }
     requires part { IsPart run.now.part }
     requires few { slaves ≤ 16 }

@@ -22,7 +22,7 @@ returns-in-Replayed-clause-delivered g c = λ command net gives.
     let trace = c.args.trace.now in
     let Said : Command → Type 0 = λ word. Delivered (g.K.Sink.written out) (g.K.Sink.written after.out) (g.K.Sink.faults out) (g.K.Sink.faults after.out)
     (g.R.Sink.written trace) (g.R.Sink.written trace) (g.R.Sink.faults trace) (g.R.Sink.faults trace) word net c.args.input.now c.deliver_replayed.result in
-    subst Said (sym given.0) (replay_says _ _ _ _ _ _ net c.args.input.now c.in-Replayed.scenario c.in-Replayed.replayed c.deliver_replayed.result given.1 (c.deliver_replayed.ensures.delivered given.1.entries given.1.stands))
+    subst Said (sym given.0) (replay_says _ _ _ _ _ _ net c.args.input.now c.in-Replayed.scenario c.in-Replayed.replayed c.deliver_replayed.result given.1 (c.deliver_replayed.ensures.delivered c.in-Replayed.scenario given.1.entries given.1.stands))
 
 pub returns-in-Replayed-clause-written : goal.returns-in-Replayed-clause-written
 returns-in-Replayed-clause-written g c = (wrote c.in-Replayed.replayed.report c.deliver_replayed.result c.deliver_replayed.ensures.follows).0

@@ -14,12 +14,11 @@ returns-clause-follows g c =
     (delivery, c.status.ensures ∙ ap (λ (j : Judgement). status_after j delivery) c.judgement_of.ensures)
 
 pub returns-clause-delivered : goal.returns-clause-delivered
-returns-clause-delivered g c = λ entries replayed.
-    let scenario = c.args.scenario.now in
+returns-clause-delivered g c = λ scenario entries replayed.
     let events = events_at scenario.master entries in
     let delivery = c.write_report-delivery.result in
     let Made : Setup → Type 0 = λ setup. Delivers (g.K.Sink.written c.args.out.now) (g.K.Sink.written c.write_report-delivery.new.out) (g.K.Sink.faults c.args.out.now) (g.K.Sink.faults c.write_report-delivery.new.out)
-    (text_after scenario setup (reverse events) c.args.replayed.now.report) delivery in
+    (text_after setup (reverse events) c.args.replayed.now.report) delivery in
     record {
       delivery = delivery;
       delivered = subst Made replayed.made (c.write_report-delivery.ensures events replayed.stands);

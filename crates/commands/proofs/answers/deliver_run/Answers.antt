@@ -36,7 +36,7 @@ returns g c =
     let Master : Hosted → Option Report = λ h. if h.master then report_after host else None in
     let Both : Scenario → Setup → List LogEntry → Type 0 = λ sc setup log. DeliversBoth (g.K.Sink.written c.args.out.now) (g.K.Sink.written c.write_run-delivery.new.out) (g.K.Sink.faults c.args.out.now) (g.K.Sink.faults c.write_run-delivery.new.out)
     (g.R.Sink.written c.args.trace.now) (g.R.Sink.written c.write_run-delivery.new.trace) (g.R.Sink.faults c.args.trace.now) (g.R.Sink.faults c.write_run-delivery.new.trace)
-    (text_after sc setup (reverse events) report) (trace_bytes (all_bits (length sc.slaves)) c.args.input.now log) delivery in
+    (text_after setup (reverse events) report) (trace_bytes (all_bits (length sc.slaves)) c.args.input.now log) delivery in
     let Scenarios : Scenario → Type 0 = λ sc. Both sc (core_setup master) c.log.result.now.entries in
     let Logs : List LogEntry → Type 0 = λ log. Both host.scenario (core_setup master) log in
     let Setups : Setup → Type 0 = λ setup. Both host.scenario setup host.log in
