@@ -19,6 +19,10 @@ use Rattle.run_text.specs.Closings.{reference_text}
 abbrev pub IsNoScenario : (input text : List ℕ) → Type 0
 IsNoScenario input text = (line : ℕ) × (why : TextWhy) × FirstBad scenario_why_at input line why × (text ≡ line_refusal line (cause_word why))
 
+-- the same, said of a text that is refused
+abbrev pub SaysUnread : List ℕ → Judgement → List ℕ → Type 0
+SaysUnread input judgement text = IsNoScenario input text
+
 -- the rows of the scenario that it is, and the line after them; or the first line that is refused, or that of the first model which is not this program's
 abbrev pub SaysReference : List ℕ → Judgement → List ℕ → Type 0
 SaysReference input judged.Good text =

@@ -18,8 +18,10 @@ use Rattle.commands.specs.Complete.{FailsForReasonIfHonest, IsCompleteIfTimely}
 use Rattle.commands.specs.InStep.{IsInStepIfHonest}
 use Rattle.commands.specs.Limits.{input_limit}
 use Rattle.commands.specs.Statuses.{judgement_of_report}
-use Rattle.commands.specs.Refusals.{line_refusal}
-use Rattle.commands.specs.SaysRun.{SaysRun, ShowsEnd, report_after, run_text}
+use Rattle.commands.specs.Externals.{LacksModel}
+use Rattle.commands.specs.Refusals.{OfText, line_refusal}
+use Rattle.commands.specs.SaysReference.{SaysUnread}
+use Rattle.commands.specs.SaysRun.{ShowsEnd, report_after, run_text}
 use Rattle.socket_commands.specs.declared.parts.Part.{Part}
 use Rattle.socket_commands.specs.declared.parts.Part.TheVariants as parts
 use Rattle.socket_commands.specs.Changes.{LiveChange}
@@ -85,9 +87,16 @@ abbrev pub NoSlave : List (List ℕ) → List ℕ → List ℕ → Type 0
 NoSlave words input text =
     (length input ≤ input_limit) × ((sc : Scenario) × ReadsAsScenario input sc × HasNoPart words sc) × (text ≡ line_refusal 0 (codes "UNKNOWN_SLAVE"))
 
--- a text that is no scenario is refused as `run` refuses it
+-- the text is a scenario in which a slave that the words name has a model that is not this program's
+pub record NoModel (words : List (List ℕ)) (input text : List ℕ) : Type 0 where
+  pub short : length input ≤ input_limit
+  pub part : Part
+  pub lacks : LacksModel (hosted_of part) input text
+  pub named : NamesPart words lacks.scenario part
+
+-- a text that is no scenario is refused at its first line that is refused
 abbrev pub SaysLive : List (List ℕ) → LiveChange → List ℕ → Judgement → (text trace : List ℕ) → Type 0
 SaysLive words net input judged.Good text trace = LivesTo words net input judged.Good text trace
 SaysLive words net input judged.Failed text trace = LivesTo words net input judged.Failed text trace
 SaysLive words net input judged.Differs text trace = ⊥
-SaysLive words net input judged.Refused text trace = SaysRun net.told input judged.Refused text trace ⊎ (NoSlave words input text × (trace ≡ []))
+SaysLive words net input judged.Refused text trace = (OfText SaysUnread input judged.Refused text ⊎ (NoSlave words input text ⊎ NoModel words input text)) × (trace ≡ [])

@@ -1,8 +1,8 @@
 //! Hosted ends that run in rounds, with a wait before each.
 
 ghost use Rattle.std.specs.Prelude.{◌≡◌, ◌≤◌, ◌<◌, ◌+◌, ◌^◌, [], ℕ, None, IsTrue, IfOk, IfErr, IfSome, OnOk, if◌then◌else◌};
-ghost use Rattle.scenario.specs.Sound.{IsLimits, IsScenario};
-ghost use Rattle.host.specs.Hosting.{opening_of};
+ghost use Rattle.scenario.specs.Sound.{HaveModels, IsLimits, IsScenario};
+ghost use Rattle.host.specs.Hosting.{hosted_slaves, opening_of};
 ghost use Rattle.host.specs.Views.{Tells, master_in, slaves_in};
 ghost use Rattle.socket_commands.specs.Lives.{CauseOf, HasRun, RestingRounds, is_done_by, live_fault, stays};
 ghost use Rattle.socket_commands.specs.Parts.{IsPart, hosted_of};
@@ -138,6 +138,7 @@ pub(crate) fn host_part<W: Wait, N: Net, P: Ready>(
 ) -> Result<Host, LiveFault>
     requires scenario { IsScenario scenario }
     requires part { IsPart part }
+    requires models { HaveModels (hosted_slaves scenario (hosted_of part)) }
     ensures setup { IfOk result (λ host. (host.scenario ≡ scenario) × (host.hosted ≡ hosted_of part)) }
     ensures run { IfOk result (λ host. HasRun (P.waits ready.old) (P.waits ready.new) (stays part scenario.limits) host) }
     ensures told { IfOk result (λ host. Tells (N.calls net.new) host.log) }

@@ -11,8 +11,9 @@ use crate::endings::ended;
 use crate::hosting::{LiveFault, host_part};
 use crate::parts::part_of;
 use command_line::CommandLine;
-use commands::{LIMIT, refuse_line, refuse_past_limit, refuse_text};
+use commands::{LIMIT, refuse_external, refuse_line, refuse_past_limit, refuse_text};
 use dcp_net::{Net, Ready};
+use host::external_in;
 use scenario_text::read_scenario;
 use std::alloc::Global;
 use std::sync::Wait;
@@ -52,6 +53,9 @@ pub(crate) fn say_live<W: Wait, N: Net, P: Ready>(
     let Some(part) = part_of(line, &scenario) else {
         return Ok(LiveAnswer::Refused(refuse_line(alloc, 0, "UNKNOWN_SLAVE")?));
     };
+    if let Some(slave) = external_in(&scenario, part.hosted()) {
+        return Ok(LiveAnswer::Refused(refuse_external(alloc, input, slave)?));
+    }
     let host = host_part(rt, alloc, scenario, part, net, ready)?;
     Ok(LiveAnswer::Ran(ended(alloc, part, host)?))
 }

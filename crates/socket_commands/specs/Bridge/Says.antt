@@ -7,7 +7,7 @@ use Rattle.commands.specs.declared.statuses.Judgement.TheVariants.{Refused}
 use Rattle.commands.specs.Limits.{input_limit}
 use Rattle.commands.specs.Refusals.{OfText, line_refusal}
 use Rattle.commands.specs.Said.{text_of}
-use Rattle.commands.specs.SaysReference.{SaysReference}
+use Rattle.commands.specs.SaysReference.{SaysUnread}
 use Rattle.socket_commands.specs.declared.bridge_stops.Stop.{Stop}
 use Rattle.socket_commands.specs.declared.bridge_stops.Stop.TheVariants as stops
 use Rattle.socket_commands.specs.Bridge.Standing.{BridgeChange, HasNotBegun, HasStood, StopCause}
@@ -21,7 +21,7 @@ pub record IsOfCount (Fits : (n slaves : ℕ) → Type 0) (n : ℕ) (input : Lis
 -- the line that refuses the text: that of a text that is no scenario, or of a scenario in which no slave is left for TCP
 abbrev pub RefusalLine : (n : ℕ) → (input text : List ℕ) → Type 0
 RefusalLine n input text =
-    OfText SaysReference input Refused text
+    OfText SaysUnread input Refused text
     ⊎ (((sc : Scenario) × IsOfCount (λ n slaves. slaves ≤ n) n input sc) × (text ≡ line_refusal 0 (codes "LIMIT")))
 
 abbrev pub RefusesBridge : (n : ℕ) → (input : List ℕ) → Statement → Type 0
