@@ -6,5 +6,3 @@ pub mod Ranges
 pub mod Answered
 pub mod Printed
 pub mod RoundTrip
-pub mod Named
-pub mod Firsts

@@ -5,6 +5,5 @@ pub mod Said
 pub mod Reads
 pub mod Judging
 pub mod Canonical
-pub mod Externals
 -- The code's own bookkeeping: what the reader keeps of the lines so far.
 pub mod Machine

@@ -6,7 +6,6 @@
 //! of a description reads back as that description.
 #![tactic(auto)]
 
-mod externals;
 mod items;
 mod keys;
 mod partials;
@@ -14,7 +13,6 @@ mod printing;
 mod reading;
 mod words;
 
-pub use externals::{desc_external_line, external_line};
 pub use printing::print_desc;
 pub use reading::{read_desc, reads_or_refused};
 
