@@ -50,6 +50,12 @@ description|slave a;model wave 1;|2 UNKNOWN_MODEL
 description|slave a;output 1 float;|2 UNSUPPORTED_TYPE
 description|slave a;output 1 int8^|2 UNSUPPORTED_TYPE
 description|slave a;model lag 1 65537;|2 PARAMETERS
+description|slave a;uuid 00000000000000000000000000000001;address 127.0.0.1 9001;model external;output 1 uint32;|slave a;uuid 00000000-0000-0000-0000-000000000001;address 127.0.0.1 9001;model external;busy 0;heartbeat 0;resolution 1 1000;output 1 uint32;
+description|slave a;uuid 00000000000000000000000000000001;address 127.0.0.1 9001;model external 7 -1;input 2 int8;input 3 int64;output 2 uint8;output 3 int32;|slave a;uuid 00000000-0000-0000-0000-000000000001;address 127.0.0.1 9001;model external 7 -1;busy 0;heartbeat 0;resolution 1 1000;input 2 int8;input 3 int64;output 2 uint8;output 3 int32;
+description|slave a;uuid 00000000000000000000000000000001;address 127.0.0.1 9001;model external 1 1 1 1 1 1 1 1 1 1 1 1 1 1 1 1 1 1 1 1 1 1 1 1 1 1 1 1 1 1 1 1 1 1 1 1 1 1 1 1 1 1 1 1 1 1 1 1 1 1 1 1 1 1 1 1 1 1 1 1 1 1 1 1;input 0 int8;input 1 int8;input 2 int8;input 3 int8;input 4 int8;input 5 int8;input 6 int8;input 7 int8;output 0 int8;output 1 int8;output 2 int8;output 3 int8;output 4 int8;output 5 int8;output 6 int8;output 7 int8;|slave a;uuid 00000000-0000-0000-0000-000000000001;address 127.0.0.1 9001;model external 1 1 1 1 1 1 1 1 1 1 1 1 1 1 1 1 1 1 1 1 1 1 1 1 1 1 1 1 1 1 1 1 1 1 1 1 1 1 1 1 1 1 1 1 1 1 1 1 1 1 1 1 1 1 1 1 1 1 1 1 1 1 1 1;busy 0;heartbeat 0;resolution 1 1000;input 0 int8;input 1 int8;input 2 int8;input 3 int8;input 4 int8;input 5 int8;input 6 int8;input 7 int8;output 0 int8;output 1 int8;output 2 int8;output 3 int8;output 4 int8;output 5 int8;output 6 int8;output 7 int8;
+description|slave a;uuid 00000000000000000000000000000001;address 127.0.0.1 9001;model external;|5 MISSING
+description|slave a;model external 1 1 1 1 1 1 1 1 1 1 1 1 1 1 1 1 1 1 1 1 1 1 1 1 1 1 1 1 1 1 1 1 1 1 1 1 1 1 1 1 1 1 1 1 1 1 1 1 1 1 1 1 1 1 1 1 1 1 1 1 1 1 1 1 1;|2 PARAMETERS
+description|slave a;model external 1 x;|2 BAD_NUMBER
 description|slave a;busy 51;|2 LIMIT
 description|slave a;busy 99999999999999999999;|2 LIMIT
 description|slave a;heartbeat 100001;|2 LIMIT
