@@ -7,7 +7,7 @@ from model.texts import read_scenario
 
 from .source import Table, constant
 
-FILES = "end_tests/src"
+FILES = "part_tests/src"
 HERE = 0x7F000001
 LIMITS = "turn_limit tries watch_turns state_limit retry_turns data_turns step_tries".split()
 SMALL = dict(zip(LIMITS, (5, 2, 3, 4, 2, 3, 2)))

@@ -7,7 +7,7 @@ from .source import camel, table
 
 
 def tables():
-    yield table("text_tests/src/messages.rt", "ROWS", again)
+    yield table("part_tests/src/messages.rt", "ROWS", again)
 
 
 def again(row):

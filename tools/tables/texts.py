@@ -8,7 +8,7 @@ from model.words import (Refused, TextRefused, address_of, int64_of, is_name, ip
 
 from .source import camel, constant, table
 
-FILES = "text_tests/src"
+FILES = "part_tests/src"
 FAULT_NAMES = {code: camel(word) for word, code in FAULTS.items()}
 
 

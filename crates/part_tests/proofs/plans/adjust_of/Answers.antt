@@ -2,7 +2,7 @@ use Rattle.std.proofs.Common.{◌≤◌, ◌-◌, [], List, length, get_or, sym,
 use Rattle.slave_desc.specs.declared.descriptions.SlaveDesc.{SlaveDesc}
 use Rattle.master_spec.specs.Plans.{PlanOf}
 use Rattle.master_core.proofs.Copies.{adjusts_length, adjust_lists_length}
-use Rattle.end_tests.proofs.plans.adjust_of.Goals as goal
+use Rattle.part_tests.proofs.plans.adjust_of.Goals as goal
 
 pub adjust-requires-clause-run : goal.adjust-requires-clause-run
 adjust-requires-clause-run c =

@@ -2,7 +2,7 @@ use Rattle.std.proofs.Common.{◌≤◌, List, length, sym, ap, subst, arith}
 use Rattle.slave_desc.specs.declared.descriptions.SlaveDesc.{SlaveDesc}
 use Rattle.master_spec.specs.Plans.{PlanOf}
 use Rattle.master_core.proofs.Copies.{setups_length}
-use Rattle.end_tests.proofs.plans.setup_of.Goals as goal
+use Rattle.part_tests.proofs.plans.setup_of.Goals as goal
 
 pub setup-requires : goal.setup-requires
 setup-requires c =

@@ -1,5 +1,5 @@
 use Rattle.std.proofs.Common.{◌≡◌, length}
-use Rattle.text_tests.proofs.models.tell_acts.Given as goal
+use Rattle.part_tests.proofs.models.tell_acts.Given as goal
 
 -- no act changes the kind, nor how many outputs and parameters there are
 abbrev pub invariant-loop-letter : goal.invariant-loop-letter
