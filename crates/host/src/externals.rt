@@ -1,15 +1,22 @@
 //! Hosted slaves whose models are not this program's, so that they cannot run here.
 
-#![tactic(auto, using(crate::proofs::Models::models_here))]
-
-ghost use Rattle.std.specs.Prelude.{◌≡◌, ◌≤◌, ◌+◌, length, IfNone, IfSome};
+ghost use Rattle.std.specs.Prelude.{◌≡◌, ◌≤◌, ◌+◌, ◌&&◌, length, IfNone, IfSome};
+ghost use Rattle.fixed_models.specs.Kinds.{is_external};
 ghost use Rattle.scenario.specs.Sound.{IsScenario, HaveModels};
 ghost use Rattle.host.specs.Externals.{external_from, external_in};
-ghost use Rattle.host.specs.Hosting.{hosted_from, hosted_slaves};
+ghost use Rattle.host.specs.Hosting.{hosted_from, hosted_slaves, is_hosted};
 
 use crate::hosted::Hosted;
 use scenario::Scenario;
 use slave_desc::SlaveDesc;
+
+/// Whether the slave of this number, 1 to 16, is hosted and its model is not here.
+fn lacks_model(hosted: Hosted, slave: u8, desc: &SlaveDesc) -> bool
+    requires { (1 ≤ slave) × (slave ≤ 16) }
+    ensures { result ≡ (is_hosted hosted slave && is_external desc.now.kind) }
+{
+    hosted.has(slave) && desc.kind.is_external()
+}
 
 /// The first of these slaves, which are numbered from this number on, that is hosted and whose model is
 /// not here.
@@ -22,7 +29,7 @@ fn external_from(hosted: Hosted, slave: u8, descs: &[SlaveDesc]) -> Option<u8>
     let [desc, rest @ ..] = descs else {
         return None;
     };
-    if hosted.has(slave) && desc.kind.is_external() {
+    if lacks_model(hosted, slave, desc) {
         return Some(slave);
     }
     external_from(hosted, slave + 1, rest)

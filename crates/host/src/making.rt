@@ -1,7 +1,5 @@
 //! How the hosted ends are made.
 
-#![tactic(auto, using(crate::proofs::Models::models_here))]
-
 ghost use Rattle.std.specs.Prelude.{◌≡◌, ◌≤◌, ◌+◌, ◌++◌, List, Some, None, if◌then◌else◌, All, length, map, IfOk, OnOk};
 ghost use Rattle.std.specs.List.{AllZip};
 ghost use Rattle.slave_desc.specs.Descriptions.{IsDesc, HasModel};

@@ -1,7 +1,5 @@
 //! How the hosted ends are made anew.
 
-#![tactic(auto, using(host::proofs::Models::models_here))]
-
 ghost use Rattle.std.specs.Prelude.{◌≡◌, ◌≤◌, ◌+◌, ◌++◌, All, length, map, IfOk, IfSome, OnOk};
 ghost use Rattle.std.specs.Option.{option_map};
 ghost use Rattle.slave_desc.specs.Descriptions.{IsDesc, HasModel};

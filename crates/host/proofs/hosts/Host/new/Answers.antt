@@ -12,7 +12,7 @@ invariant_of-result c =
     let rest = c.in_ok-slaves.ensures in (
       c.in_ok-opening.ensures,
       record {
-        apart = hosted_apart c.args.scenario c.args.hosted c.requires;
+        apart = hosted_apart c.args.scenario c.args.hosted c.requires.scenario;
         master_is = first_rules _ _ _ first ∙ master_rules_are c.args.scenario c.args.hosted.master;
         slaves_are = fresh_rules _ _ _ rest ∙ slave_rules_are c.args.scenario (hosted_slaves c.args.scenario c.args.hosted);
         master_made = first_made _ _ _ first ∙ master_made_is c.args.scenario c.args.hosted.master;
