@@ -19,10 +19,10 @@ use Rattle.live_net.specs.Live.{At, SocketEnd, Live, SendsBy, SendsFrom, TakesHe
 abbrev place_at : SocketEnd → Address
 place_at e = e.place
 
-pub at_end : (Change : SocketEnd → SocketEnd → Type 0) (old : Live) (ends : List LiveEnd) (place faults : ℕ) (before after : LiveEnd)
-    → record { ends = map socket_end ends; faults = faults } ≡ old → place < length old.ends → before ≡ get_or ends place before
-    → Change (socket_end before) (socket_end after) → At place Change old (record { ends = map socket_end (set ends place after); faults = faults })
-at_end Change old ends place faults before after seen within is change =
+pub at_end : (Change : SocketEnd → SocketEnd → Type 0) (old : Live) (all : List Address) (ends : List LiveEnd) (place faults : ℕ) (before after : LiveEnd)
+    → record { all = all; ends = map socket_end ends; faults = faults } ≡ old → place < length old.ends → before ≡ get_or ends place before
+    → Change (socket_end before) (socket_end after) → At place Change old (record { all = all; ends = map socket_end (set ends place after); faults = faults })
+at_end Change old all ends place faults before after seen within is change =
     let same : map socket_end ends ≡ old.ends = ap (λ (l : Live). l.ends) seen in
     let here : place < length ends = omega (arith, within, ap (λ (es : List SocketEnd). length es) same, length-map ends socket_end) in
     record {

@@ -1,8 +1,7 @@
 -- The connections to one end.
-use Rattle.std.specs.Prelude.{◌≡◌, ℕ, ◌||◌, not, nat_eq, nat_lt, List, length, take, remove, slice_get, slice_set, unwrap_or, Bool, if◌then◌else◌, Option, Some, None}
-use Rattle.std.specs.List.{list_any, position}
+use Rattle.std.specs.Prelude.{◌≡◌, ℕ, ◌||◌, not, nat_eq, nat_lt, List, length, take, remove, slice_get, slice_set, unwrap_or, Bool, IsTrue, if◌then◌else◌, Option, Some, None}
+use Rattle.std.specs.List.{position}
 use Rattle.dcp_types.specs.declared.addresses.Address.{Address}
-use Rattle.dcp_ends.specs.Logs.{same_address}
 use Rattle.stream_frame.specs.Frames.{IsFrame}
 use Rattle.stream_frame.specs.Greetings.{greeting}
 use Rattle.stream_frame.specs.Inlets.{Arriving}
@@ -12,31 +11,33 @@ use Rattle.live_net.specs.declared.connections.Connection.{Connection}
 use Rattle.live_net.specs.declared.connections.Heard.{Heard}
 use Rattle.live_net.specs.declared.connections.Heard.TheVariants.{Gram, Later, Over}
 use Rattle.live_net.specs.Intakes.{Hands}
+use Rattle.live_net.specs.Strangers.{is_end_of}
 
 -- a connection is known once it has brought a message from one of the ends
 abbrev pub known_after : Bool → List Address → Taking → Bool
-known_after known all (taking.Gram from) = known || list_any (λ place. same_address place from) all
+known_after known all (taking.Gram from) = known || is_end_of all from
 known_after known all taking.NotYet = known
 known_after known all taking.Bad = known
 
--- a connection is over where its stream is, behind its last message, and where it gave a length that no frame has
-abbrev pub heard_from : Taking → Bool → Heard
-heard_from (taking.Gram from) is_over = Gram from
-heard_from taking.NotYet is_over = if is_over then Over else Later
-heard_from taking.Bad is_over = Over
+-- a connection is over where its stream is, behind its last message, where it brought a message from none of the ends, and where it gave a length that no
+-- frame has
+abbrev pub heard_from : List Address → Taking → Bool → Heard
+heard_from all (taking.Gram from) is_over = if is_end_of all from then Gram from else Over
+heard_from all taking.NotYet is_over = if is_over then Over else Later
+heard_from all taking.Bad is_over = Over
 
--- a message is a frame's, and comes from the sender of the greeting
-abbrev pub BringsMessage : Heard → Arriving → Type 0
-BringsMessage (Gram from) inlet = (greeting from ≡ inlet.greeting) × IsFrame inlet.reader.last
-BringsMessage Later inlet = Unit {0}
-BringsMessage Over inlet = Unit {0}
+-- a message is a frame's, and comes from the sender of the greeting, which is one of the ends
+abbrev pub BringsMessage : List Address → Heard → Arriving → Type 0
+BringsMessage all (Gram from) inlet = IsTrue (is_end_of all from) × (greeting from ≡ inlet.greeting) × IsFrame inlet.reader.last
+BringsMessage all Later inlet = Unit {0}
+BringsMessage all Over inlet = Unit {0}
 
 -- a connection was asked for a message
 pub record HearsNext (before asked : Connection) (all : List Address) (heard : Heard) : Type 0 where
   pub answer : Taking
   pub hands : Hands answer asked.intake.inlet
   pub known : asked.is_known ≡ known_after before.is_known all answer
-  pub told : heard ≡ heard_from answer asked.intake.source.is_over
+  pub told : heard ≡ heard_from all answer asked.intake.source.is_over
 
 -- no more than 32 connections are kept
 abbrev pub is_crowded : List Connection → Bool

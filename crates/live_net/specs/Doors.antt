@@ -1,7 +1,8 @@
 -- Who comes in at a listener.
 use Rattle.std.specs.Prelude.{◌≡◌, ℕ, ◌∷◌, ◌++◌, [], take, false, List, Option, Some, None, Result, MatchResult}
-use Rattle.std.specs.IoError.{raw_os_error}
+use Rattle.std.specs.IoError.{error_kind, raw_os_error}
 use Rattle.std.specs.declared.io.Error.{Error}
+use Rattle.std.specs.declared.io.ErrorKind.TheVariants.{WouldBlock}
 use Rattle.std.specs.declared.net.socket_addr.SocketAddr.{SocketAddr}
 use Rattle.mio.specs.declared.net.stream.TcpStream.{TcpStream}
 use Rattle.dcp_net.specs.declared.nets.Taken.{Taken}
@@ -16,10 +17,11 @@ use Rattle.live_net.specs.Answers.{FailsOwn}
 use Rattle.live_net.specs.Connections.{HandedOut, with_room}
 use Rattle.live_net.specs.Failures.{IsOwn}
 
--- the listener fails exactly where the own socket does
+-- the listener fails exactly where the own socket does, and nobody waits at it exactly where it would wait itself
 abbrev pub MeansKnock : Knock → Result (TcpStream × SocketAddr) Error → Type 0
 MeansKnock (knock.Came stream) answer = MatchResult answer (λ came. stream ≡ came.0) (λ error. ⊥)
-MeansKnock knock.Nobody answer = MatchResult answer (λ came. ⊥) (λ error. ¬ IsOwn (raw_os_error error))
+MeansKnock knock.Nobody answer = MatchResult answer (λ came. ⊥) (λ error. ¬ IsOwn (raw_os_error error) × (error_kind error ≡ WouldBlock))
+MeansKnock knock.Lost answer = MatchResult answer (λ came. ⊥) (λ error. ¬ IsOwn (raw_os_error error) × ¬ (error_kind error ≡ WouldBlock))
 MeansKnock knock.Failed answer = FailsOwn answer
 
 -- a connection that cannot be watched is closed, and nothing else happens; one that can be is the newest, behind those that stay

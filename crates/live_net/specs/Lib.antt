@@ -9,4 +9,5 @@ pub mod Intakes
 pub mod Live
 pub mod Motions
 pub mod Receivers
+pub mod Strangers
 pub mod Waits

@@ -27,8 +27,9 @@ abbrev pub socket_end : LiveEnd → SocketEnd
 socket_end (Udp end) = record { place = end.place; protocol = by.Udp; inlets = []; leaving = [] }
 socket_end (Tcp end) = record { place = end.departures.from; protocol = by.Tcp; inlets = map inlet_of end.arrivals.connections.items; leaving = map leaving_of end.departures.outward.items }
 
--- a network: the ends that have a socket, and how often it has failed
+-- a network: all ends, those of them that have a socket, and how often it has failed
 pub record Live : Type 0 where
+  pub all : List Address
   pub ends : List SocketEnd
   pub faults : ℕ
 

@@ -1,11 +1,12 @@
 //! What comes to one end over TCP.
 
-ghost use Rattle.std.specs.Prelude.{◌≡◌, ◌<◌, ◌≤◌, ◌++◌, ◌∷◌, [], ⊤, None, Some, false, map, length, not, position, take, vec_len, IfOk, IfErr, IfSome, MatchOption};
+ghost use Rattle.std.specs.Prelude.{◌≡◌, ◌<◌, ◌≤◌, ◌++◌, ◌∷◌, [], ⊤, None, Some, false, map, length, not, position, take, vec_len, IfOk, IfErr, IfSome, IsTrue, MatchOption};
 ghost use Rattle.std.specs.declared.net.socket_addr.SocketAddr.{SocketAddr};
 ghost use Rattle.dcp_net.specs.Nets.{IsWithinRoom};
 ghost use Rattle.live_net.specs.Addresses.{address_in};
 ghost use Rattle.live_net.specs.Connections.{HandedOut, Visits, gives_way, inlet_of, is_crowded, turn_of, with_room};
 ghost use Rattle.live_net.specs.Doors.{LetsIn, Given, MeansKnock};
+ghost use Rattle.live_net.specs.Strangers.{ComesFrom, is_end_of};
 ghost use Rattle.live_net.specs.declared.connections.Connection.{Connection};
 
 use crate::addresses::socket_of;
@@ -13,12 +14,13 @@ use crate::connections::{Connection, Heard};
 use crate::failures::is_own;
 use crate::refusals::Refused;
 use crate::sockets::{Bound, listener_at, watched};
+use crate::watches::Watch;
 use dcp_net::Taken;
 use dcp_types::{Address, OutOfMemory};
-use mio::Registry;
 use mio::net::{TcpListener, TcpStream};
 use std::alloc::Global;
 use std::io;
+use std::io::ErrorKind;
 use std::net::{Net, SocketAddr};
 
 /// The most connections to one end that are kept.
@@ -32,6 +34,8 @@ const MOST_LET_IN: u32 = 8;
 enum Knock {
     Came(TcpStream),
     Nobody,
+    /// Somebody who has gone, or who cannot be let in now.
+    Lost,
     /// The listener itself failed.
     Failed,
 }
@@ -53,14 +57,16 @@ pub(crate) struct Arrivals {
     listener: Bound<TcpListener>,
     connections: Vec<Connection>,
     next: usize,
+    /// How many knocks waits had told of when nobody waited at the listener.
+    answered: u64,
     ghost few: { vec_len connections ≤ 32 },
 }
 
 impl Arrivals {
-    /// A listener at this address, which wakes the waits of the registry.
+    /// A listener at this address, which is watched.
     pub(crate) fn open<H: Net>(
         net: &H,
-        registry: &Registry,
+        watch: &Watch,
         alloc: Global,
         place: Address,
     ) -> Result<Arrivals, Refused>
@@ -68,11 +74,12 @@ impl Arrivals {
         ensures bound { IfOk result (λ made. address_in made.listener.at ≡ Some place) }
         ensures fresh { IfOk result (λ made. made.connections.items ≡ []) }
     {
-        let listener = listener_at(net, registry, socket_of(place))?;
+        let listener = listener_at(net, watch, socket_of(place))?;
         Ok(Arrivals {
             listener,
             connections: Vec::new(alloc),
             next: 0,
+            answered: watch.knocks(),
         })
     }
 
@@ -80,22 +87,23 @@ impl Arrivals {
     /// as long as one came and none has a message.
     pub(crate) fn take(
         &mut self,
-        registry: &Registry,
+        watch: &Watch,
         alloc: Global,
         all: &[Address],
         room: &mut [u8; 1025],
     ) -> Taken
         ensures len { IsWithinRoom result }
+        ensures known { ComesFrom all.now result }
         ensures handed { Given result (map inlet_of self.new.connections.items) room.new }
     {
         for _ in 0..MOST_LET_IN {
-            let door = self.open_door(registry, alloc);
+            let door = self.open_door(watch, alloc);
             match door {
                 Door::Passed | Door::Nobody => {}
                 Door::Failed => return Taken::Failed,
                 Door::OutOfMemory => return Taken::OutOfMemory,
             }
-            if let Some((from, len)) = self.ask_all(all, room) {
+            if let Some((from, len)) = self.ask_all(watch, all, room) {
                 return Taken::Gram { from, len };
             }
             if door == Door::Nobody {
@@ -105,22 +113,37 @@ impl Arrivals {
         Taken::Nothing
     }
 
-    /// Lets in who waits at the listener, if there is one.
-    fn open_door(&mut self, registry: &Registry, alloc: Global) -> Door {
+    /// Lets in who waits at the listener, if there is one. It is asked only where a wait has told of a knock
+    /// since nobody waited there.
+    fn open_door(&mut self, watch: &Watch, alloc: Global) -> Door {
+        let knocks = watch.knocks();
+        if self.answered == knocks {
+            return Door::Nobody;
+        }
         match knock_of(self.listener.socket.accept()) {
-            Knock::Came(stream) => self.admit(alloc, watched(registry, stream)),
-            Knock::Nobody => Door::Nobody,
+            Knock::Came(stream) => self.admit(alloc, watched(watch, stream)),
+            Knock::Nobody => {
+                self.answered = knocks;
+                Door::Nobody
+            }
+            Knock::Lost => Door::Nobody,
             Knock::Failed => Door::Failed,
         }
     }
 
     /// Asks each connection once at most, until one has a message.
-    fn ask_all(&mut self, all: &[Address], room: &mut [u8; 1025]) -> Option<(Address, usize)>
+    fn ask_all(
+        &mut self,
+        watch: &Watch,
+        all: &[Address],
+        room: &mut [u8; 1025],
+    ) -> Option<(Address, usize)>
         ensures len { IfSome result (λ gram. gram.1 ≤ 1025) }
+        ensures known { IfSome result (λ gram. IsTrue (is_end_of all.now gram.0)) }
         ensures handed { IfSome result (λ gram. HandedOut (map inlet_of self.new.connections.items) gram.0 (take gram.1 room.new)) }
     {
         for _ in 0..self.connections.len() {
-            if let Some(gram) = self.visit(all, room) {
+            if let Some(gram) = self.visit(watch, all, room) {
                 return Some(gram);
             }
         }
@@ -205,11 +228,17 @@ impl Arrivals {
     }
 
     /// Asks the connection whose turn it is for a message. One that is over is closed.
-    fn visit(&mut self, all: &[Address], room: &mut [u8; 1025]) -> Option<(Address, usize)>
+    fn visit(
+        &mut self,
+        watch: &Watch,
+        all: &[Address],
+        room: &mut [u8; 1025],
+    ) -> Option<(Address, usize)>
         ensures none { vec_len self.old.connections ≡ 0 → (result ≡ None) × (self.new ≡ self.old) }
         ensures visits { 0 < vec_len self.old.connections
             → Visits (turn_of (vec_len self.old.connections) self.old.next) all.now self.old.connections.items self.new.connections.items result room.new }
         ensures len { IfSome result (λ gram. gram.1 ≤ 1025) }
+        ensures known { IfSome result (λ gram. IsTrue (is_end_of all.now gram.0)) }
         ensures handed { IfSome result (λ gram. HandedOut (map inlet_of self.new.connections.items) gram.0 (take gram.1 room.new)) }
     {
         if self.connections.is_empty() {
@@ -217,7 +246,7 @@ impl Arrivals {
         }
         let turn = self.turn();
         let connection = &mut self.connections[turn];
-        match connection.hear(all) {
+        match connection.hear(watch, all) {
             Heard::Gram { from } => {
                 let len = put_front(room, connection.message());
                 self.next = turn + 1;
@@ -244,9 +273,11 @@ fn knock_of(answer: io::Result<(TcpStream, SocketAddr)>) -> Knock
         Ok((stream, _)) => Knock::Came(stream),
         Err(error) => {
             if is_own(&error) {
-                Knock::Failed
-            } else {
-                Knock::Nobody
+                return Knock::Failed;
+            }
+            match error.kind() {
+                ErrorKind::WouldBlock => Knock::Nobody,
+                _ => Knock::Lost,
             }
         }
     }

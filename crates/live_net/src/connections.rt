@@ -4,7 +4,9 @@ ghost use Rattle.std.specs.Prelude.{◌≡◌, false, not, IfOk};
 ghost use Rattle.live_net.specs.Connections.{BringsMessage, HearsNext, heard_from, known_after};
 
 use crate::intakes::{Intake, Taking};
+use crate::strangers::is_end_of;
 use crate::streams::Stream;
+use crate::watches::Watch;
 use dcp_types::{Address, OutOfMemory};
 use mio::net::TcpStream;
 use std::alloc::Global;
@@ -12,7 +14,7 @@ use std::alloc::Global;
 /// What a connection answered that was asked for a message.
 #[derive(Clone, Copy, Debug, PartialEq, Eq)]
 pub(crate) enum Heard {
-    /// A message from this sender, which `message` then gives.
+    /// A message from this end, which `message` then gives.
     Gram { from: Address },
     /// No message is whole now.
     Later,
@@ -47,14 +49,19 @@ impl Connection {
         !self.is_known
     }
 
-    /// Asks for the next message. `all` are the ends.
-    pub(crate) fn hear(&mut self, all: &[Address]) -> Heard
+    /// Asks for the next message. `all` are the ends: one that brings a message from somebody else is over,
+    /// and one that is known for the first time wakes waits from then on.
+    pub(crate) fn hear(&mut self, watch: &Watch, all: &[Address]) -> Heard
         ensures hears { HearsNext self.old self.new all.now result }
-        ensures message { BringsMessage result self.new.intake.inlet }
+        ensures message { BringsMessage all.now result self.new.intake.inlet }
     {
         let taking = self.intake.next();
-        self.is_known = is_known_after(self.is_known, all, taking);
-        heard_of(taking, self.intake.source().is_over())
+        let is_known = is_known_after(self.is_known, all, taking);
+        if is_known && self.is_unknown() {
+            watch.let_wake(self.intake.source().inner());
+        }
+        self.is_known = is_known;
+        heard_of(all, taking, self.intake.source().is_over())
     }
 
     /// The last message, or nothing before the first.
@@ -71,18 +78,18 @@ fn is_known_after(is_known: bool, all: &[Address], taking: Taking) -> bool
     ensures { result ≡ known_after is_known all.now taking }
 {
     match taking {
-        Taking::Gram { from } => is_known || all.contains(&from),
+        Taking::Gram { from } => is_known || is_end_of(all, from),
         Taking::NotYet | Taking::Bad => is_known,
     }
 }
 
-/// What a connection answered whose stream is over or not.
-fn heard_of(taking: Taking, is_over: bool) -> Heard
-    ensures { result ≡ heard_from taking is_over }
+/// What a connection answered whose stream is over or not. A stranger has no message.
+fn heard_of(all: &[Address], taking: Taking, is_over: bool) -> Heard
+    ensures { result ≡ heard_from all.now taking is_over }
 {
     match taking {
-        Taking::Gram { from } => Heard::Gram { from },
+        Taking::Gram { from } if is_end_of(all, from) => Heard::Gram { from },
         Taking::NotYet if !is_over => Heard::Later,
-        Taking::NotYet | Taking::Bad => Heard::Over,
+        Taking::Gram { from: _ } | Taking::NotYet | Taking::Bad => Heard::Over,
     }
 }

@@ -7,8 +7,8 @@ ghost use Rattle.live_net.specs.Receivers.{Departs, place_to};
 use crate::addresses::socket_of;
 use crate::sockets::{Bound, stream_to};
 use crate::streams::Stream;
+use crate::watches::Watch;
 use dcp_types::{Address, OutOfMemory};
-use mio::Registry;
 use mio::net::TcpStream;
 use std::alloc::Global;
 use std::net::Net;
@@ -61,7 +61,7 @@ impl Departures {
     pub(crate) fn send<H: Net>(
         &mut self,
         net: &H,
-        registry: &Registry,
+        watch: &Watch,
         alloc: Global,
         to: Address,
         bytes: &[u8],
@@ -73,7 +73,7 @@ impl Departures {
         ensures nothing { OnErr result (self.new.outward.items ≡ self.old.outward.items) }
     {
         match self.find(to) {
-            Some(i) => self.outward[i].send(net, registry, alloc, self.from, bytes),
+            Some(i) => self.outward[i].send(net, watch, alloc, self.from, bytes),
             None => Ok(()),
         }
     }
@@ -99,7 +99,7 @@ impl Outward {
     fn send<H: Net>(
         &mut self,
         net: &H,
-        registry: &Registry,
+        watch: &Watch,
         alloc: Global,
         from: Address,
         bytes: &[u8],
@@ -109,7 +109,7 @@ impl Outward {
         ensures sends { IfOk result (λ _. Sends from bytes.now self.old self.new) }
         ensures nothing { OnErr result (self.new ≡ self.old) }
     {
-        self.connect(net, registry, alloc, from)?;
+        self.connect(net, watch, alloc, from)?;
         self.post(bytes);
         Ok(())
     }
@@ -118,7 +118,7 @@ impl Outward {
     fn connect<H: Net>(
         &mut self,
         net: &H,
-        registry: &Registry,
+        watch: &Watch,
         alloc: Global,
         from: Address,
     ) -> Result<(), OutOfMemory>
@@ -129,7 +129,7 @@ impl Outward {
         if self.link.is_some() {
             return Ok(());
         }
-        if let Ok(stream) = stream_to(net, registry, socket_of(self.to)) {
+        if let Ok(stream) = stream_to(net, watch, socket_of(self.to)) {
             self.link = Some(Link::new(alloc, from, Stream::new(stream))?);
         }
         Ok(())

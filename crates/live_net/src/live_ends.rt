@@ -1,17 +1,19 @@
 //! One hosted end over sockets.
 
-ghost use Rattle.std.specs.Prelude.{◌≡◌, ◌≤◌, length, IfOk, IfErr};
+ghost use Rattle.std.specs.Prelude.{◌≡◌, ◌≤◌, length, IfOk};
 ghost use Rattle.dcp_net.specs.Nets.{IsWithinRoom};
 ghost use Rattle.live_net.specs.Live.{SendsBy, TakesBy, socket_end, opened_as};
+ghost use Rattle.live_net.specs.Strangers.{ComesFrom};
 
 use crate::datagrams::UdpEnd;
 use crate::refusals::Refused;
 use crate::tcp_ends::TcpEnd;
+use crate::watches::Watch;
 use dcp_net::{Done, Taken};
 use dcp_types::{Address, Protocol};
-use mio::Registry;
 use std::alloc::Global;
 use std::net::Net;
+use std::rc::Rc;
 
 /// An end with its sockets.
 #[derive(Drop)]
@@ -21,22 +23,22 @@ pub(crate) enum LiveEnd {
 }
 
 impl LiveEnd {
-    /// Opens the socket at which the end takes its messages. `all` are the ends that it may send to.
+    /// Opens the socket at which the end takes its messages. `all` are the ends that it may send to and
+    /// that it hears.
     pub(crate) fn open<H: Net>(
         net: &H,
-        registry: &Registry,
+        watch: &Watch,
         alloc: Global,
         protocol: Protocol,
         place: Address,
-        all: &[Address],
+        all: &Rc<Vec<Address>>,
     ) -> Result<LiveEnd, Refused>
-        ensures opened { IfOk result (λ end. socket_end end ≡ opened_as protocol all.now place) }
-        ensures refused { protocol ≡ Protocol.Udp → IfErr result (λ refused. refused ≡ Refused.System) }
+        ensures { IfOk result (λ end. socket_end end ≡ opened_as protocol all.now.value.items place) }
     {
         match protocol {
-            Protocol::Udp => Ok(LiveEnd::Udp(UdpEnd::open(net, registry, place)?)),
+            Protocol::Udp => Ok(LiveEnd::Udp(UdpEnd::open(net, watch, alloc, place, all)?)),
             Protocol::Tcp => {
-                let end = TcpEnd::open(net, registry, alloc, place, all)?;
+                let end = TcpEnd::open(net, watch, alloc, place, all)?;
                 Ok(LiveEnd::Tcp(end))
             }
         }
@@ -56,7 +58,7 @@ impl LiveEnd {
     pub(crate) fn send<H: Net>(
         &mut self,
         net: &H,
-        registry: &Registry,
+        watch: &Watch,
         alloc: Global,
         to: Address,
         bytes: &[u8],
@@ -67,24 +69,25 @@ impl LiveEnd {
     {
         match self {
             LiveEnd::Udp(end) => end.send(to, bytes),
-            LiveEnd::Tcp(end) => end.send(net, registry, alloc, to, bytes),
+            LiveEnd::Tcp(end) => end.send(net, watch, alloc, to, bytes),
         }
     }
 
     /// Takes the next message, if one is there.
     pub(crate) fn take(
         &mut self,
-        registry: &Registry,
+        watch: &Watch,
         alloc: Global,
         all: &[Address],
         room: &mut [u8; 1025],
     ) -> Taken
         ensures takes { TakesBy result room.new (socket_end self.old) (socket_end self.new) }
         ensures len { IsWithinRoom result }
+        ensures known { ComesFrom all.now result }
     {
         match self {
-            LiveEnd::Udp(end) => end.take(room),
-            LiveEnd::Tcp(end) => end.take(registry, alloc, all, room),
+            LiveEnd::Udp(end) => end.take(all, room),
+            LiveEnd::Tcp(end) => end.take(watch, alloc, all, room),
         }
     }
 }

@@ -5,28 +5,32 @@ ghost use Rattle.dcp_io.specs.Faults.{one_more};
 ghost use Rattle.dcp_ends.specs.Logs.{same_address};
 ghost use Rattle.dcp_net.specs.Nets.{HasCause, IsWithinRoom};
 ghost use Rattle.live_net.specs.Live.{SendsFrom, TakesHere, has_socket, socket_places, socket_end, opened_as, end_place};
+ghost use Rattle.live_net.specs.Strangers.{ComesFrom};
 
 use crate::answers::begun_of;
 use crate::live_ends::LiveEnd;
 use crate::refusals::Refused;
 use crate::waits::MioReady;
+use crate::watches::Watch;
 use dcp_net::{Done, Net, Opening, Taken};
 use dcp_types::{Address, Protocol};
-use mio::Registry;
 use std::alloc::Global;
 use std::marker::Model;
 use std::net;
+use std::rc::Rc;
+use std::rt::Clock;
 
 /// A network over sockets, by UDP or TCP as it is opened. It tells neither its calls nor what it was opened
 /// with, since no one knows what a socket does; a plan of what is to be lost or held back it ignores.
 ///
-/// Contracts see the ends that have a socket of their own, with what waits there, and how often it has failed.
+/// Contracts see all ends, those of them that have a socket of their own, with what waits there, and how often
+/// it has failed.
 #[derive(Drop)]
 pub struct LiveNet<H: net::Net + Clone + Drop> {
     net: H,
     alloc: Global,
-    registry: Registry,
-    all: Vec<Address>,
+    watch: Rc<Watch>,
+    all: Rc<Vec<Address>>,
     ends: Vec<LiveEnd>,
     faults: u64,
 }
@@ -37,23 +41,25 @@ impl<H: net::Net + Clone + Drop> Model for LiveNet<H> {
 
     ghost Value = { Live };
 
-    ghost view = { λ s. record { ends = map socket_end s.ends.items; faults = s.faults } };
+    ghost view = { λ s. record { all = s.all.value.items; ends = map socket_end s.ends.items; faults = s.faults } };
 }
 
 impl<H: net::Net + Clone + Drop> LiveNet<H> {
-    /// A network with no socket yet, whose sockets wake the waits of `ready`.
-    ///
-    /// System where the system does not share that set of sockets.
+    /// A network with no socket yet, whose sockets are watched by the waits of `ready`: over TCP a connection
+    /// is let in once one of these has told of it.
     pub fn new(rt: &H, alloc: Global, ready: &MioReady<H>) -> Result<LiveNet<H>, Refused>
-        ensures { IfOk result (λ made. made ≡ record { ends = []; faults = 0 }) }
+    where
+        H: Clock,
+        ensures { IfOk result (λ made. made ≡ record { all = []; ends = []; faults = 0 }) }
     {
         let net = rt.clone()?;
-        let registry = ready.registry().try_clone()?;
+        let watch = ready.watch()?;
+        let all = Rc::new(alloc, Vec::new(alloc))?;
         Ok(LiveNet {
             net,
             alloc,
-            registry,
-            all: Vec::new(alloc),
+            watch,
+            all,
             ends: Vec::new(alloc),
             faults: 0,
         })
@@ -61,15 +67,17 @@ impl<H: net::Net + Clone + Drop> LiveNet<H> {
 
     /// Opens a socket for each of the ends that are hosted. Where one cannot be had, none stays open.
     fn open(&mut self, plan: &Opening) -> Result<(), Refused>
+        ensures all { IfOk result (λ _. self.new.all ≡ plan.now.all) }
         ensures opened { IfOk result (λ _. self.new.ends ≡ map (opened_as plan.now.protocol plan.now.all) plan.now.ends) }
         ensures closed { OnErr result (self.new.ends ≡ []) }
         ensures faults { self.new.faults ≡ self.old.faults }
     {
         self.ends = Vec::new(self.alloc);
-        self.all = plan.all.as_slice().to_vec(self.alloc)?;
+        let all = plan.all.as_slice().to_vec(self.alloc)?;
+        self.all = Rc::new(self.alloc, all)?;
         self.ends = open_all(
             &self.net,
-            &self.registry,
+            &self.watch,
             self.alloc,
             plan.protocol,
             plan.ends.as_slice(),
@@ -91,10 +99,11 @@ impl<H: net::Net + Clone + Drop> LiveNet<H> {
         requires low { 1 ≤ length bytes.now }
         requires high { length bytes.now ≤ 1024 }
         ensures sends { SendsFrom from to bytes.now result self.old self.new }
+        ensures all { self.new.all ≡ self.old.all }
         ensures faults { self.new.faults ≡ self.old.faults }
     {
         match self.find(from) {
-            Some(i) => self.ends[i].send(&self.net, &self.registry, self.alloc, to, bytes),
+            Some(i) => self.ends[i].send(&self.net, &self.watch, self.alloc, to, bytes),
             None => Done::Ok,
         }
     }
@@ -102,11 +111,13 @@ impl<H: net::Net + Clone + Drop> LiveNet<H> {
     /// Takes by the socket of this end, where it has one.
     fn take_at(&mut self, at: Address, room: &mut [u8; 1025]) -> Taken
         ensures takes { TakesHere at result room.new self.old self.new }
+        ensures all { self.new.all ≡ self.old.all }
         ensures faults { self.new.faults ≡ self.old.faults }
         ensures len { IsWithinRoom result }
+        ensures known { ComesFrom self.old.all result }
     {
         match self.find(at) {
-            Some(i) => self.ends[i].take(&self.registry, self.alloc, &self.all, room),
+            Some(i) => self.ends[i].take(&self.watch, self.alloc, &self.all, room),
             None => Taken::Nothing,
         }
     }
@@ -120,20 +131,21 @@ fn place_in(ends: &[LiveEnd], at: Address) -> Option<usize>
     ends.iter().position(|end| end.place() == at)
 }
 
-/// An end with its sockets at each of these places. `all` are the ends that it may send to.
+/// An end with its sockets at each of these places. `all` are the ends that it may send to and
+/// that it hears.
 fn open_all<H: net::Net>(
     net: &H,
-    registry: &Registry,
+    watch: &Watch,
     alloc: Global,
     protocol: Protocol,
     places: &[Address],
-    all: &[Address],
+    all: &Rc<Vec<Address>>,
 ) -> Result<Vec<LiveEnd>, Refused>
-    ensures { IfOk result (λ ends. map socket_end ends.items ≡ map (opened_as protocol all.now) places.now) }
+    ensures { IfOk result (λ ends. map socket_end ends.items ≡ map (opened_as protocol all.now.value.items) places.now) }
 {
     let mut ends = Vec::new(alloc);
     for place in places {
-        let end = LiveEnd::open(net, registry, alloc, protocol, *place, all)?;
+        let end = LiveEnd::open(net, watch, alloc, protocol, *place, all)?;
         ends.push(end)?;
     }
     Ok(ends)
@@ -160,6 +172,7 @@ impl<H: net::Net + Clone + Drop> Net for LiveNet<H> {
         ensures once { result ≡ Done.Failed → self.new.faults ≡ one_more self.old.faults }
         ensures hosted { result ≡ Done.Ok → socket_places self.new ≡ plan.now.ends }
         ensures ends { result ≡ Done.Ok → self.new.ends ≡ map (opened_as plan.now.protocol plan.now.all) plan.now.ends }
+        ensures all { result ≡ Done.Ok → self.new.all ≡ plan.now.all }
         ensures closed { result ≢ Done.Ok → self.new.ends ≡ [] }
     {
         let begun = begun_of(&self.open(plan));
@@ -182,6 +195,7 @@ impl<H: net::Net + Clone + Drop> Net for LiveNet<H> {
         ensures hosted { socket_places self.new ≡ socket_places self.old }
         ensures elsewhere { has_socket self.old from ≡ false → result ≡ Done.Ok }
         ensures sends { SendsFrom from to bytes.now result self.old self.new }
+        ensures all { self.new.all ≡ self.old.all }
     {
         let sent = self.send_by(from, to, bytes);
         if sent == Done::Failed {
@@ -190,7 +204,7 @@ impl<H: net::Net + Clone + Drop> Net for LiveNet<H> {
         sent
     }
 
-    /// Takes by the socket of the end. An end that has none is given nothing.
+    /// Takes by the socket of the end what comes from one of the ends. An end that has none is given nothing.
     fn take(&mut self, at: Address, room: &mut [u8; 1025]) -> Taken
         requires { IsTrue true }
         ensures is_open { IsTrue true }
@@ -202,6 +216,8 @@ impl<H: net::Net + Clone + Drop> Net for LiveNet<H> {
         ensures hosted { socket_places self.new ≡ socket_places self.old }
         ensures elsewhere { has_socket self.old at ≡ false → result ≡ Taken.Nothing }
         ensures takes { TakesHere at result room.new self.old self.new }
+        ensures all { self.new.all ≡ self.old.all }
+        ensures known { ComesFrom self.old.all result }
     {
         let taken = self.take_at(at, room);
         if taken == Taken::Failed {

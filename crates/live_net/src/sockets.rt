@@ -1,13 +1,16 @@
-//! Sockets that wake a wait, each with the address that it was asked for.
+//! Sockets that a wait watches, each with the address that it was asked for.
 
 ghost use Rattle.std.specs.Prelude.{◌≡◌, ◌≤◌, List, None, Option, length, IfOk, IfSome};
 ghost use Rattle.live_net.specs.Datagrams.{Datagram, sent_more};
 
-use crate::wakes::WAKE;
+use crate::refusals::Refused;
+use crate::watches::Watch;
+use dcp_types::Address;
 use mio::net::{TcpListener, TcpStream, UdpSocket};
-use mio::{Interest, Registry};
+use std::alloc::Global;
 use std::io;
 use std::net::{Net, SocketAddr};
+use std::rc::Rc;
 
 /// A socket, and the address that it was asked for: its own, or for a stream its peer's.
 #[derive(Drop)]
@@ -17,52 +20,62 @@ pub(crate) struct Bound<T> {
 }
 
 /// A socket for datagrams at this address.
-pub(crate) fn datagrams_at<H: Net>(
-    net: &H,
-    registry: &Registry,
-    at: SocketAddr,
-) -> io::Result<Bound<UdpSocket>>
+pub(crate) fn datagrams_at<H: Net>(net: &H, at: SocketAddr) -> io::Result<Bound<UdpSocket>>
     ensures { IfOk result (λ bound. bound.at ≡ at) }
 {
-    let mut socket = UdpSocket::bind(net, at)?;
-    registry.register(&mut socket, WAKE, Interest::READABLE)?;
+    let socket = UdpSocket::bind(net, at)?;
     Ok(Bound { socket, at })
+}
+
+/// The socket for datagrams, which the wait sees too, and at which these ends are heard.
+pub(crate) fn shared(
+    watch: &Watch,
+    alloc: Global,
+    all: &Rc<Vec<Address>>,
+    bound: Bound<UdpSocket>,
+) -> Result<Bound<Rc<UdpSocket>>, Refused>
+    ensures { IfOk result (λ shared. shared.at ≡ bound.at) }
+{
+    let socket = Rc::new(alloc, bound.socket)?;
+    watch.watch_datagrams(&socket, all)?;
+    Ok(Bound {
+        socket,
+        at: bound.at,
+    })
 }
 
 /// A listener at this address.
 pub(crate) fn listener_at<H: Net>(
     net: &H,
-    registry: &Registry,
+    watch: &Watch,
     at: SocketAddr,
 ) -> io::Result<Bound<TcpListener>>
     ensures { IfOk result (λ bound. bound.at ≡ at) }
 {
-    let mut socket = TcpListener::bind(net, at)?;
-    registry.register(&mut socket, WAKE, Interest::READABLE)?;
+    let socket = TcpListener::bind(net, at)?;
+    watch.watch_listener(&socket)?;
     Ok(Bound { socket, at })
 }
 
 /// A stream to this address, whose connection has begun.
 pub(crate) fn stream_to<H: Net>(
     net: &H,
-    registry: &Registry,
+    watch: &Watch,
     at: SocketAddr,
 ) -> io::Result<Bound<TcpStream>>
     ensures { IfOk result (λ bound. bound.at ≡ at) }
 {
-    let mut socket = TcpStream::connect(net, at)?;
+    let socket = TcpStream::connect(net, at)?;
     socket.set_nodelay(true)?;
-    registry.register(&mut socket, WAKE, Interest::WRITABLE)?;
+    watch.watch_outward(&socket)?;
     Ok(Bound { socket, at })
 }
 
 /// The stream that was let in, where the system watches it.
-pub(crate) fn watched(registry: &Registry, mut stream: TcpStream) -> Option<TcpStream>
+pub(crate) fn watched(watch: &Watch, stream: TcpStream) -> Option<TcpStream>
     ensures { IfSome result (λ s. s ≡ stream) }
 {
-    registry
-        .register(&mut stream, WAKE, Interest::READABLE)
-        .ok()?;
+    watch.watch_inward(&stream).ok()?;
     Some(stream)
 }
 
@@ -80,7 +93,7 @@ pub(crate) trait Datagrams {
         ensures sent { sent self.new ≡ sent self.old };
 }
 
-impl Datagrams for Bound<UdpSocket> {
+impl Datagrams for Bound<Rc<UdpSocket>> {
     ghost sent = { λ s. None };
 
     fn send_to(&mut self, bytes: &[u8], to: SocketAddr) -> io::Result<usize> {

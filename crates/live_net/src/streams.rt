@@ -44,6 +44,13 @@ impl<T> Stream<T> {
         }
     }
 
+    /// The stream inside.
+    pub fn inner(&self) -> &T
+        ensures { result.now ≡ self.now.inner }
+    {
+        &self.inner
+    }
+
     /// Whether the stream has ended or is broken, so that no later call on it moves a byte.
     pub fn is_over(&self) -> bool
         ensures { result ≡ self.now.is_over }

@@ -6,13 +6,14 @@ ghost use Rattle.live_net.specs.Connections.{inlet_of};
 ghost use Rattle.live_net.specs.Departures.{FlushesAll, leaving_of, unconnected};
 ghost use Rattle.live_net.specs.Doors.{Given};
 ghost use Rattle.live_net.specs.Receivers.{DepartsIf};
+ghost use Rattle.live_net.specs.Strangers.{ComesFrom};
 
 use crate::arrivals::Arrivals;
 use crate::departures::Departures;
 use crate::refusals::Refused;
+use crate::watches::Watch;
 use dcp_net::{Done, Taken};
 use dcp_types::Address;
-use mio::Registry;
 use std::alloc::Global;
 use std::net::Net;
 
@@ -27,7 +28,7 @@ impl TcpEnd {
     /// A listener at this address, and no connection yet.
     pub(crate) fn open<H: Net>(
         net: &H,
-        registry: &Registry,
+        watch: &Watch,
         alloc: Global,
         place: Address,
         all: &[Address],
@@ -36,7 +37,7 @@ impl TcpEnd {
         ensures arrivals { IfOk result (λ end. end.arrivals.connections.items ≡ []) }
         ensures leads { IfOk result (λ end. map leaving_of end.departures.outward.items ≡ map unconnected all.now) }
     {
-        let arrivals = Arrivals::open(net, registry, alloc, place)?;
+        let arrivals = Arrivals::open(net, watch, alloc, place)?;
         let departures = Departures::new(alloc, place, all)?;
         Ok(TcpEnd {
             arrivals,
@@ -55,7 +56,7 @@ impl TcpEnd {
     pub(crate) fn send<H: Net>(
         &mut self,
         net: &H,
-        registry: &Registry,
+        watch: &Watch,
         alloc: Global,
         to: Address,
         bytes: &[u8],
@@ -66,7 +67,7 @@ impl TcpEnd {
         ensures from { self.new.departures.from ≡ self.old.departures.from }
         ensures departs { DepartsIf result self.old.departures.from to bytes.now self.old.departures.outward.items self.new.departures.outward.items }
     {
-        match self.departures.send(net, registry, alloc, to, bytes) {
+        match self.departures.send(net, watch, alloc, to, bytes) {
             Ok(()) => Done::Ok,
             Err(_) => Done::OutOfMemory,
         }
@@ -75,7 +76,7 @@ impl TcpEnd {
     /// Writes what still waits to be sent, and takes the next message, if one has come.
     pub(crate) fn take(
         &mut self,
-        registry: &Registry,
+        watch: &Watch,
         alloc: Global,
         all: &[Address],
         room: &mut [u8; 1025],
@@ -83,9 +84,10 @@ impl TcpEnd {
         ensures from { self.new.departures.from ≡ self.old.departures.from }
         ensures flushes { FlushesAll self.old.departures.outward.items self.new.departures.outward.items }
         ensures len { IsWithinRoom result }
+        ensures known { ComesFrom all.now result }
         ensures handed { Given result (map inlet_of self.new.arrivals.connections.items) room.new }
     {
         self.departures.flush();
-        self.arrivals.take(registry, alloc, all, room)
+        self.arrivals.take(watch, alloc, all, room)
     }
 }

@@ -8,7 +8,7 @@ pub returns-in-Gram-clause-handed : goal.returns-in-Gram-clause-handed
 returns-in-Gram-clause-handed c =
     let some : 0 < vec_len c.args.self.now.connections = search rules in
     let here : c.turn-turn.result < length c.args.self.now.connections.items = omega (arith, c.args.self.now.connections.ok.0, c.turn-turn.ensures.within some) in
-    handed_out c.args.self.now.connections.items c.turn-turn.result c.put_front-len.result c.hear.new.self c.in-Gram.from c.put_front-len.new.room here c.in-Gram.ensures.message
+    handed_out c.args.all.now c.args.self.now.connections.items c.turn-turn.result c.put_front-len.result c.hear.new.self c.in-Gram.from c.put_front-len.new.room here c.in-Gram.ensures.message
     (c.put_front-len.ensures.front ∙ c.message.ensures)
 
 pub returns-in-Later-clause-visits : goal.returns-in-Later-clause-visits
