@@ -27,7 +27,7 @@ use std::net::{Net, SocketAddr};
 pub const MOST_INWARD: usize = 32;
 
 /// The most connections that one take lets in.
-const MOST_LET_IN: u32 = 8;
+const MOST_LET_IN: u32 = 32;
 
 /// Who waits at the listener.
 #[derive(Drop)]
