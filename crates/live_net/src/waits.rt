@@ -57,7 +57,7 @@ impl<H: Net + Clock + Clone + Drop> Model for MioReady<H> {
 impl<H: Net + Clock + Clone + Drop> MioReady<H> {
     /// A wait that watches no socket. It takes all the memory that it needs.
     ///
-    /// System where the system gives no set of sockets to watch.
+    /// System where the system gives no set of sockets to watch, or no second owner of it.
     pub fn new(rt: &H, alloc: Global) -> Result<MioReady<H>, Refused>
         ensures { IfOk result (λ ready. ready ≡ record { waits = 0; faults = 0 }) }
     {
@@ -81,7 +81,8 @@ impl<H: Net + Clock + Clone + Drop> MioReady<H> {
         self.watch.clone()
     }
 
-    /// Waits until one of the ends has sent something, or for as long as a wait lasts.
+    /// Waits until one of the ends has sent something, or for as long as a wait lasts. Where others come, it
+    /// looks again for the time that is left.
     fn watch_sockets(&mut self) -> io::Result<()>
         ensures { self.new ≡ self.old }
     {
