@@ -46,7 +46,7 @@ is_there k few = by (is_hosted all_ends (k + 1)) refl
         let numbered = get_or-range_with_len 0 16 k 0 few ∙ omega arith in
         absurd (true≢false (sym all ∙ list_all_at (λ (j : ℕ). is_hosted all_ends (j + 1)) (range_with_len 0 16) k 0 few (ap (λ (j : ℕ). is_hosted all_ends (j + 1)) numbered ∙ e)))
 
-all_hosted : (ds : List SlaveDesc) (k : ℕ) → k + length ds ≤ 16 → hosted_from all_ends (k + 1) ds ≡ ds
+pub all_hosted : (ds : List SlaveDesc) (k : ℕ) → k + length ds ≤ 16 → hosted_from all_ends (k + 1) ds ≡ ds
 all_hosted [] k few = refl
 all_hosted (d ∷ ds) k few =
     cond-true (is_hosted all_ends (k + 1)) (d ∷ hosted_from all_ends (k + 1 + 1) ds) (hosted_from all_ends (k + 1 + 1) ds) (is_there k (omega (arith, few)))
