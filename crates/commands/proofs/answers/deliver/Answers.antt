@@ -33,8 +33,8 @@ returns-in-Replayed-clause-used g c = (wrote c.in-Replayed.replayed.report c.del
 pub returns-in-Replayed-clause-refused : goal.returns-in-Replayed-clause-refused
 returns-in-Replayed-clause-refused g c = λ without. absurd ((wrote c.in-Replayed.replayed.report c.deliver_replayed.result c.deliver_replayed.ensures.follows).2 without)
 
-pub returns-in-Soaked-clause-delivered : goal.returns-in-Soaked-clause-delivered
-returns-in-Soaked-clause-delivered g c = λ command net gives.
+pub returns-clause-delivered : goal.returns-clause-delivered
+returns-clause-delivered g c = λ command net gives.
     let given = rw c.in-Soaked.is at gives in
     let out = c.args.out.now in
     let after = c.deliver_soak.new in
