@@ -1,4 +1,5 @@
 pub mod Live
+pub mod Elsewhere
 pub mod InStep
 pub mod Outcomes
 pub mod Bridge
