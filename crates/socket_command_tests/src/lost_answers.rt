@@ -8,7 +8,7 @@ use crate::calls::{call, text_of};
 use commands::Status;
 use dcp_net::{Done, Net, NoWait, Opening, Taken};
 use dcp_types::Address;
-use host::{Host, Hosted};
+use host::{Host, Hosted, external_in};
 use master_spec::Report;
 use net_world::MemoryNet;
 use scenario_text::read_scenario;
@@ -93,6 +93,9 @@ fn beside_master(alloc: Global, text: &str) -> Result<Option<BesideMaster>, Fail
         master: true,
         slaves: 0,
     };
+    if external_in(&scenario, hosted).is_some() {
+        return Ok(None);
+    }
     Ok(Some(BesideMaster {
         net: MemoryNet::new(alloc),
         master: Host::new(alloc, scenario, hosted)?,
