@@ -1,12 +1,14 @@
 //! Descriptions and scenarios, and what a correct run of a scenario prints.
 
-ghost use Rattle.scenario.specs.Sound.{IsScenario};
+ghost use Rattle.std.specs.Prelude.{◌≡◌, true};
+ghost use Rattle.scenario.specs.Sound.{IsScenario, HaveModels};
 
 use crate::tables::tell_folded;
 use desc_text::{print_desc, read_desc};
 use lockstep::{Rows, reference};
 use scenario::Scenario;
 use scenario_text::read_scenario;
+use slave_desc::SlaveDesc;
 use std::alloc::Global;
 use std::test::Fail;
 use text_lines::TextRefused;
@@ -249,9 +251,25 @@ fn tell_rows(told: &mut String, rows: &Rows) -> Result<(), Fail> {
     Ok(())
 }
 
+/// Whether each of the slaves has a model here.
+fn have_models(slaves: &[SlaveDesc]) -> bool
+    ensures { result ≡ true → HaveModels slaves.now }
+{
+    for place in 0..slaves.len() {
+        if slaves[place].kind.is_external() {
+            return false;
+        }
+    }
+    true
+}
+
 fn tell_reference(alloc: Global, told: &mut String, scenario: &Scenario) -> Result<(), Fail>
     requires { IsScenario scenario.now }
 {
+    if !have_models(scenario.slaves.as_slice()) {
+        told.push_str("no models")?;
+        return Ok(());
+    }
     let found = reference(alloc, scenario)?;
     tell_rows(told, &found.rows)?;
     write!(told, " {:?}", found.fault)?;
