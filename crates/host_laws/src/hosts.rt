@@ -1,10 +1,10 @@
 //! A host of all ends of a scenario and its rounds.
 
 ghost use Rattle.std.specs.Prelude.{◌≡◌, [], None, Err, IsTrue, IfOk, IfSome, OnErr, OnOk};
-ghost use Rattle.scenario.specs.Sound.{IsScenario};
+ghost use Rattle.scenario.specs.Sound.{IsScenario, HaveModels};
 ghost use Rattle.rounds.specs.Rounds.{IsRound, IsRoundPart};
 ghost use Rattle.rounds.specs.Steps.{AddsPart, Caused};
-ghost use Rattle.host.specs.Hosting.{all_ends, opening_of};
+ghost use Rattle.host.specs.Hosting.{all_ends, hosted_slaves, opening_of};
 ghost use Rattle.host.specs.Views.{fault_of, is_done, master_in, progress_of, slaves_in, Tells};
 ghost use Rattle.host_laws.specs.Lockstep.{HostsAll, IsInRounds, HostKeepsInStep};
 ghost use Rattle.host_laws.specs.Reports.{HostFailsForReason, HostIsComplete};
@@ -15,10 +15,11 @@ use host::{ALL_ENDS, Host, HostFault, Progress};
 use scenario::Scenario;
 use std::alloc::Global;
 
-/// A host of the master and all slaves of a scenario, to which nothing has happened. It takes the memory of the
-/// ends.
+/// A host of the master and all slaves of a scenario, which have models here; nothing has happened to it. It takes
+/// the memory of the ends.
 pub fn host_of_all(alloc: Global, scenario: Scenario) -> Result<Host, OutOfMemory>
-    requires { IsScenario scenario }
+    requires scenario { IsScenario scenario }
+    requires models { HaveModels (hosted_slaves scenario all_ends) }
     ensures host { IfOk result (λ host. host ≡ record { scenario = scenario; hosted = all_ends; log = []; fault = None }) }
     ensures all { IfOk result (λ host. HostsAll host) }
     ensures in_rounds { IfOk result (λ host. IsInRounds host) }
