@@ -5,7 +5,7 @@ use Rattle.replays.proofs.replays.replay.Goals as goal
 pub go_through-requires-clause-apart : goal.go_through-requires-clause-apart
 go_through-requires-clause-apart c =
     let slaves = rw (← c.deref_mut.ensures.value) at c.in_ok-slaves.ensures.rules in
-    apart_same _ _ _ _ c.in_ok-master.ensures.rules slaves (hosted_apart c.args.scenario.now c.args.hosted c.requires)
+    apart_same _ _ _ _ c.in_ok-master.ensures.rules slaves (hosted_apart c.args.scenario.now c.args.hosted c.requires.scenario)
 
 pub returns-in-Err-clause-answers : goal.returns-in-Err-clause-answers
 returns-in-Err-clause-answers c =
