@@ -4,7 +4,7 @@ pub mod NamedSlaves
 pub mod InStep
 pub mod Complete
 pub mod Summed
-pub mod Externals
+pub mod Elsewhere
 pub mod Judged
 pub mod Outcomes
 pub mod Quiet
