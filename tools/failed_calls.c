@@ -114,7 +114,11 @@ ssize_t sendmsg(int file, const struct msghdr *message, int flags) {
     return fails(SEND) ? failure() : syscall(SYS_sendmsg, file, message, flags);
 }
 
+// A wait looks at the sender of what came, and takes nothing by that: such a look is no receive.
 ssize_t recvfrom(int file, void *room, size_t bytes, int flags, struct sockaddr *from, socklen_t *size) {
+    if (flags & MSG_PEEK) {
+        return syscall(SYS_recvfrom, file, room, bytes, flags, from, size);
+    }
     return fails(RECEIVE) ? failure() : syscall(SYS_recvfrom, file, room, moved(RECEIVE, file, bytes), flags, from, size);
 }
 
