@@ -1,5 +1,6 @@
 """A slave over sockets: a whole session with a master of the test, over UDP and TCP."""
 import io
+import pathlib
 import socket
 import struct
 import subprocess
@@ -140,15 +141,13 @@ class Sessions(unittest.TestCase):
         self.assertEqual(trace.getvalue().count(b"\xe0\x02\x0b"), 2)
 
     def wait_for_slave(self, protocol, master):
-        """Asks until the slave hears: a question that nobody answers yet is no register, and is dropped."""
+        """Waits until the slave has its port. A probe that takes the port itself could take it from the slave."""
         for _ in range(200):
-            with socket.socket(socket.AF_INET, socket.SOCK_DGRAM if protocol == "udp" else socket.SOCK_STREAM) as probe:
-                if protocol == "tcp" and probe.connect_ex(master.slave) == 0:
-                    return
-                if protocol == "udp":
-                    try:
-                        probe.bind(master.slave)
-                    except OSError:
+            if protocol == "udp" and f":{master.slave[1]:04X} " in pathlib.Path("/proc/net/udp").read_text():
+                return
+            if protocol == "tcp":
+                with socket.socket(socket.AF_INET, socket.SOCK_STREAM) as probe:
+                    if probe.connect_ex(master.slave) == 0:
                         return
             threading.Event().wait(0.05)
         raise TimeoutError("the slave does not begin")
